@@ -1,0 +1,150 @@
+-- The calls: the result of each, and what it leaves in every lent memory, as a function of its input. (Document 01, "Refusals with an
+-- example each", the table's last column and the paragraph behind it, and "Standings", last paragraph.) A call tests everything
+-- itself: for every input there is one result.
+-- Assumes nothing.
+use Prim.Native.Nat.{ℕ, _*_}
+use mathlib.Core.Bool.{Bool, true, false, _&&_}
+use mathlib.Core.List.{List, [], _∷_, _++_}
+use mathlib.Core.Option.{Option, some, none}
+use lib.Dec.{leb}
+use lib.ListN.{length, drop, replicate}
+use Rattle.kat.specs.Word.{Word}
+use Rattle.claims.specs.Query.{Query, atoms, relations}
+use Rattle.claims.specs.Tree.{Claim}
+use Rattle.claims.specs.Reading.{read, claimOf}
+use Rattle.claims.specs.Sides.{Decision, decision}
+use Rattle.claims.specs.Standings.{System, pathSystem, ringSystem}
+use Rattle.claims.specs.Search.{Verdict, proved, refuted, spent, verdict}
+use Rattle.claims.specs.SheetBytes.{sheetBytes, pathBytes, ringBytes}
+use Rattle.claims.specs.SheetReading.{Said, saysProved, saysRefuted, sheetIn, pathOf, ringOf, wordOf}
+use Rattle.claims.specs.Passing.{passes}
+use Rattle.claims.specs.GraphBytes.{graphIn, finite}
+use Rattle.claims.specs.Judgement.{Judgement, judgement}
+use Rattle.claims.specs.Refusals.{noClaim, badAllowance, shortMemory, spentAllowance, shortBuffer, doesNotPass, Result, ok, refused, refuse, onward}
+
+-- proved with the count of standings, or refuted with the first word
+pub data Answer : Type 0 where
+  provedWith : ℕ → Answer
+  refutedBy : Word → Answer
+
+-- an answer and its sheet
+pub record Given : Type 0 where
+  pub answer : Answer
+  pub sheet : List ℕ
+
+unfoldable pub answerOf : (S : System) → (S .Standing → List ℕ) → Verdict S → Result Given
+answerOf S contents (proved ss) =
+    ok (record { answer = provedWith (length ss); sheet = sheetBytes S contents (proved ss) })
+answerOf S contents (refuted w) = ok (record { answer = refutedBy w; sheet = sheetBytes S contents (refuted w) })
+answerOf S contents spent = refuse spentAllowance 0
+
+-- the search, for an allowance from 1 to 4,096
+unfoldable pub searched : Decision → ℕ → Result Given
+searched D allowance =
+    elim (D .ring) [
+      | false ↦ answerOf (pathSystem D) pathBytes (verdict (pathSystem D) allowance)
+      | true ↦ answerOf (ringSystem D) ringBytes (verdict (ringSystem D) allowance)
+    ]
+
+-- a query that the reader accepts, with its decision
+pub record Asked : Type 0 where
+  pub query : Query
+  pub claim : Claim
+  pub decided : Decision
+
+unfoldable pub asked : List ℕ → Result Asked
+asked bs =
+    onward (read bs) (λ q.
+    elim (claimOf q) [ some c ↦ ok (record { query = q; claim = c; decided = decision q c }) | none ↦ refuse noClaim 0 ])
+
+-- a record of a path claim's working memory
+pub record Slot : Type 0 where
+  pub P : ℕ
+  pub S : ℕ
+  pub parent : ℕ
+  pub letter : ℕ
+
+-- what the search is lent: records for a path claim, words for a ring claim, and the sheet buffer
+pub record Lent : Type 0 where
+  pub records : List Slot
+  pub words : List ℕ
+  pub buffer : List ℕ
+
+-- how much of its kind a claim needs: a record, or 40 words, for each standing of the allowance
+unfoldable pub neededRecords : Decision → ℕ → ℕ
+neededRecords D allowance = elim (D .ring) [ false ↦ allowance | true ↦ 0 ]
+
+unfoldable pub neededWords : Decision → ℕ → ℕ
+neededWords D allowance = elim (D .ring) [ false ↦ 0 | true ↦ 40 * allowance ]
+
+-- the first n zero, those beyond unchanged
+unfoldable pub cleared : {A : Type 0} → A → ℕ → List A → List A
+cleared z n xs = replicate n z ++ drop n xs
+
+-- the needed working memory zero, and the sheet at the start of its buffer, which is unchanged past it
+unfoldable pub leftBehind : Decision → ℕ → List ℕ → Lent → Lent
+leftBehind D allowance sheet m =
+    record {
+      records = cleared (record { P = 0; S = 0; parent = 0; letter = 0 }) (neededRecords D allowance) (m .records);
+      words = cleared 0 (neededWords D allowance) (m .words);
+      buffer = sheet ++ drop (length sheet) (m .buffer);
+    }
+
+-- the result of a call, and what is in the lent memory after it
+pub record Done : Type 0 where
+  pub result : Result Answer
+  pub lent : Lent
+
+-- 9: an allowance outside 1 to 4,096, or memory short of it
+unfoldable pub enoughMemory : Decision → ℕ → Lent → Bool
+enoughMemory D allowance m =
+    leb (neededRecords D allowance) (length (m .records)) && leb (neededWords D allowance) (length (m .words))
+
+unfoldable pub finish : Decision → ℕ → Lent → Result Given → Done
+finish D allowance m (refused r) = record { result = refused r; lent = leftBehind D allowance [] m }
+finish D allowance m (ok g) =
+    elim (leb (length (g .sheet)) (length (m .buffer))) [
+      | false ↦ record { result = refuse shortBuffer 0; lent = leftBehind D allowance [] m }
+      | true ↦ record { result = ok (g .answer); lent = leftBehind D allowance (g .sheet) m }
+    ]
+
+unfoldable pub searchAsked : Asked → ℕ → Lent → Done
+searchAsked a allowance m =
+    elim (leb 1 allowance && leb allowance 4096) [
+      | false ↦ record { result = refuse badAllowance 0; lent = m }
+      | true ↦ elim (enoughMemory (a .decided) allowance m) [
+        | false ↦ record { result = refuse shortMemory 0; lent = m }
+        | true ↦ finish (a .decided) allowance m (searched (a .decided) allowance)
+      ]
+    ]
+
+-- the search call: refusals 1 to 11
+unfoldable pub search-call : List ℕ → ℕ → Lent → Done
+search-call bs allowance m =
+    elim (asked bs) [ refused r ↦ record { result = refused r; lent = m } | ok a ↦ searchAsked a allowance m ]
+
+-- what a passing sheet says
+pub data Passed : Type 0 where
+  passedProved passedRefuted : Passed
+
+unfoldable pub passedOf : (S : System) → Said S → Result Passed
+passedOf S (saysProved ss) = elim (passes S (saysProved ss)) [ true ↦ ok passedProved | false ↦ refuse doesNotPass 0 ]
+passedOf S (saysRefuted w) = elim (passes S (saysRefuted w)) [ true ↦ ok passedRefuted | false ↦ refuse doesNotPass 0 ]
+
+unfoldable pub checked : Decision → List ℕ → Result Passed
+checked D bs =
+    elim (D .ring) [
+      | false ↦ onward (sheetIn (pathSystem D) (pathOf D) (wordOf D) bs) (passedOf (pathSystem D))
+      | true ↦ onward (sheetIn (ringSystem D) (ringOf D) (wordOf D) bs) (passedOf (ringSystem D))
+    ]
+
+-- the sheet check: refusals 1 to 8, 13 and 14; it is lent nothing that it could change
+unfoldable pub check-call : List ℕ → List ℕ → Result Passed
+check-call bs sheet = onward (asked bs) (λ a. checked (a .decided) sheet)
+
+-- the judge: refusals 1 to 8 and 12
+unfoldable pub judge-call : List ℕ → List ℕ → Result Judgement
+judge-call bs graph =
+    onward (asked bs) (λ a.
+    onward (graphIn (record { atoms = a .decided .atoms; relations = a .decided .relations }) graph) (λ G.
+    ok (judgement (finite G) (a .query) (a .claim))))

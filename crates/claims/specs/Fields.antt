@@ -1,0 +1,57 @@
+-- Fields: a one-byte tag, a two-byte big-endian length, contents. (Document 01, "Sheet and graph bytes".) They are read one by one
+-- from where the last one ended.
+-- Assumes nothing.
+use Prim.Native.Nat.{ℕ, zero, suc, _+_, _*_, _-_, _/_, _%_, _^_}
+use mathlib.Core.Bool.{Bool, true, false}
+use mathlib.Core.List.{List, [], _∷_, _++_}
+use mathlib.Core.Option.{Option, some, none}
+use lib.Dec.{leb}
+use lib.ListN.{length, take, drop}
+use Rattle.kat.specs.Lists.{upto, filter}
+use Rattle.claims.specs.Query.{bit}
+
+-- a number in n bytes, big-endian
+unfoldable pub bigEndian : ℕ → ℕ → List ℕ
+bigEndian zero m = []
+bigEndian (suc n) m = (m / 256 ^ n) % 256 ∷ bigEndian n m
+
+-- the number that the bytes are, big-endian, after m
+unfoldable pub fromBytes : ℕ → List ℕ → ℕ
+fromBytes m [] = m
+fromBytes m (b ∷ bs) = fromBytes (m * 256 + b) bs
+
+-- a set as a number: bit k - lo for member k
+unfoldable pub setNumber : ℕ → List ℕ → ℕ
+setNumber lo [] = 0
+setNumber lo (k ∷ ks) = 2 ^ (k - lo) + setNumber lo ks
+
+-- the set that a number is: the k from lo to below hi whose bit k - lo is set
+unfoldable pub numberSet : ℕ → ℕ → ℕ → List ℕ
+numberSet lo hi m = filter (λ k. bit (k - lo) m) (upto lo hi)
+
+unfoldable pub field : ℕ → List ℕ → List ℕ
+field tag contents = tag ∷ (bigEndian 2 (length contents) ++ contents)
+
+-- what stands at the start of the bytes
+pub data Field : Type 0 where
+  whole : ℕ → List ℕ → List ℕ → Field  -- tag, contents, and the bytes after the field
+  cut : Field  -- fewer bytes than its header, or its length, says
+
+unfoldable pub contentsOf : ℕ → ℕ → List ℕ → Field
+contentsOf tag n bs = elim (leb n (length bs)) [ true ↦ whole tag (take n bs) (drop n bs) | false ↦ cut ]
+
+unfoldable pub nextField : List ℕ → Field
+nextField [] = cut
+nextField (t ∷ []) = cut
+nextField (t ∷ h ∷ []) = cut
+nextField (t ∷ h ∷ l ∷ bs) = contentsOf t (h * 256 + l) bs
+
+-- the bytes behind it
+abbrev pub afterField : Field → List ℕ
+afterField cut = []
+afterField (whole tag contents rest) = rest
+
+-- the value, if the test passes
+abbrev pub provided : {A : Type 0} → Bool → A → Option A
+provided true a = some a
+provided false a = none

@@ -1,0 +1,103 @@
+-- The line kinds of a query. (Document 01, "The query".) A line is in the notation when one of these readers takes all its tokens
+-- and byte 10 ends it; its end is one more place at which the notation may not go on.
+-- Assumes nothing.
+use Prim.Native.Nat.{ℕ, suc, _*_}
+use mathlib.Core.Bool.{Bool, true, false, _&&_}
+use mathlib.Core.List.{List, [], _∷_}
+use lib.ListN.{length}
+use Rattle.claims.specs.Bytes.{RawLine, byte, text}
+use Rattle.claims.specs.Tokens.{Token, word, mark, bad, tokens}
+use Rattle.claims.specs.Tree.{Name, TestTree, Tree, includes, empty, irreflexive, Line, testLine, relLine, letLine, neverLine, withinLine, closedLine, assumeEmpty, assumeIrreflexive, claimLine}
+use Rattle.claims.specs.Grammar.{Found, got, wrong, deep, andThen, goesOn, past, closes, saysNext, nameNext, testUnion, unionOf}
+
+-- each token is met by at most 8 calls in a row that read none
+unfoldable pub enough : List Token → ℕ
+enough ts = 8 * suc (length ts)
+
+unfoldable pub expression : List Token → Found Tree
+expression ts = unionOf (enough ts) 0 ts
+
+unfoldable pub condition : List Token → Found TestTree
+condition ts = testUnion (enough ts) 0 ts
+
+unfoldable pub bracketed : List Token → Found TestTree
+bracketed ts =
+    elim (goesOn (byte "[") ts) [
+      | true ↦ andThen (condition (past ts)) (λ t us. closes (byte "]") t us)
+      | false ↦ wrong
+    ]
+
+-- the place of a declared name: any word, a reserved one too
+unfoldable pub declared : List Token → Found Name
+declared [] = wrong
+declared (word w ∷ ts) = got w ts
+declared (mark b ∷ ts) = wrong
+declared (bad ∷ ts) = wrong
+
+module _ {A B : Type 0} where
+  -- the reader's value, under f
+  abbrev pub mapped : (A → B) → Found A → Found B
+  mapped f x = andThen x (λ a us. got (f a) us)
+
+-- the line goes on as one of the readers says, by its next word
+pub record Choice : Type 0 where
+  pub says : List ℕ
+  pub reads : List Token → Found Line
+
+unfoldable pub choose : List Choice → List Token → Found Line
+choose [] ts = wrong
+choose (c ∷ cs) ts = elim (saysNext (c .says) ts) [ true ↦ c .reads (past ts) | false ↦ choose cs ts ]
+
+unfoldable pub letReader : List Token → Found Line
+letReader ts =
+    andThen (declared ts) (λ n us.
+    elim (goesOn (byte "=") us) [ true ↦ mapped (letLine n) (expression (past us)) | false ↦ wrong ])
+
+unfoldable pub withinReader : List Token → Found Line
+withinReader ts =
+    andThen (nameNext (λ n. n) ts) (λ n us.
+    andThen (bracketed us) (λ t vs.
+    mapped (withinLine n t) (bracketed vs)))
+
+unfoldable pub includeReader : List Token → Found Line
+includeReader ts =
+    andThen (expression ts) (λ e us.
+    elim (saysNext (text "in") us) [
+      | true ↦ mapped (λ f. claimLine (includes e f)) (expression (past us))
+      | false ↦ wrong
+    ])
+
+unfoldable pub assumptions : List Choice
+assumptions =
+    record { says = text "empty"; reads = λ ts. mapped assumeEmpty (expression ts) }
+    ∷ record { says = text "irreflexive"; reads = λ ts. mapped assumeIrreflexive (expression ts) }
+    ∷ []
+
+unfoldable pub claims : List Choice
+claims =
+    record { says = text "include"; reads = includeReader }
+    ∷ record { says = text "empty"; reads = λ ts. mapped (λ e. claimLine (empty e)) (expression ts) }
+    ∷ record { says = text "irreflexive"; reads = λ ts. mapped (λ e. claimLine (irreflexive e)) (expression ts) }
+    ∷ []
+
+unfoldable pub lineKinds : List Choice
+lineKinds =
+    record { says = text "test"; reads = λ ts. mapped testLine (declared ts) }
+    ∷ record { says = text "rel"; reads = λ ts. mapped relLine (declared ts) }
+    ∷ record { says = text "let"; reads = letReader }
+    ∷ record { says = text "never"; reads = λ ts. mapped neverLine (condition ts) }
+    ∷ record { says = text "within"; reads = withinReader }
+    ∷ record { says = text "closed"; reads = λ ts. nameNext closedLine ts }
+    ∷ record { says = text "assume"; reads = choose assumptions }
+    ∷ record { says = text "claim"; reads = choose claims }
+    ∷ []
+
+abbrev pub atEnd : List Token → Bool
+atEnd [] = true
+atEnd (t ∷ ts) = false
+
+-- a line as the notation reads it
+unfoldable pub line : RawLine → Found Line
+line l =
+    andThen (choose lineKinds (tokens (l .bytes))) (λ x us.
+    elim (atEnd us && l .ended) [ true ↦ got x [] | false ↦ wrong ])

@@ -1,0 +1,103 @@
+-- Names: which a query declares, and the slips of a line's names, met from left to right. (Document 01, "The query", and refusal 5.)
+-- A name is declared before its use; tests, relations and lets share one name space.
+-- Assumes nothing.
+use Prim.Native.Nat.{ℕ}
+use mathlib.Core.Bool.{Bool, true, false}
+use mathlib.Core.List.{List, [], _∷_, _++_}
+use mathlib.Core.Option.{Option, some, none}
+use Rattle.claims.specs.Bytes.{same}
+use Rattle.claims.specs.Tokens.{isReserved}
+use Rattle.claims.specs.Tree.{Name, TestTree, testName, always, never, either, both, not, Tree, name, tested, union, sequence, star, plus, opt, Claim, includes, empty, irreflexive, Line, testLine, relLine, letLine, neverLine, withinLine, closedLine, assumeEmpty, assumeIrreflexive, claimLine}
+use Rattle.claims.specs.Refusals.{Cause, unknownName, wrongKind, declaredTwice, reservedName}
+
+pub data Kind : Type 0 where
+  aTest aRelation aLet : Kind
+
+-- a place at which a name stands in a line, and what must stand there
+pub data Use : Type 0 where
+  declares usesTest usesRelation usesEither : Name → Use  -- the last: a relation or a let
+
+unfoldable pub testUses : TestTree → List Use
+testUses (testName n) = usesTest n ∷ []
+testUses always = []
+testUses never = []
+testUses (either t u) = testUses t ++ testUses u
+testUses (both t u) = testUses t ++ testUses u
+testUses (not t) = testUses t
+
+unfoldable pub treeUses : Tree → List Use
+treeUses (name n) = usesEither n ∷ []
+treeUses (tested t) = testUses t
+treeUses (union e f) = treeUses e ++ treeUses f
+treeUses (sequence e f) = treeUses e ++ treeUses f
+treeUses (star e) = treeUses e
+treeUses (plus e) = treeUses e
+treeUses (opt e) = treeUses e
+
+unfoldable pub claimUses : Claim → List Use
+claimUses (includes e f) = treeUses e ++ treeUses f
+claimUses (empty e) = treeUses e
+claimUses (irreflexive e) = treeUses e
+
+-- the names of a line, from left to right
+unfoldable pub uses : Line → List Use
+uses (testLine n) = declares n ∷ []
+uses (relLine n) = declares n ∷ []
+uses (letLine n e) = declares n ∷ treeUses e
+uses (neverLine t) = testUses t
+uses (withinLine n t u) = usesRelation n ∷ (testUses t ++ testUses u)
+uses (closedLine n) = usesRelation n ∷ []
+uses (assumeEmpty e) = treeUses e
+uses (assumeIrreflexive e) = treeUses e
+uses (claimLine c) = claimUses c
+
+-- what a name is declared as by the lines so far
+unfoldable pub declares? : Line → Name → Option Kind
+declares? (testLine n) m = elim (same n m) [ true ↦ some aTest | false ↦ none ]
+declares? (relLine n) m = elim (same n m) [ true ↦ some aRelation | false ↦ none ]
+declares? (letLine n e) m = elim (same n m) [ true ↦ some aLet | false ↦ none ]
+declares? (neverLine t) m = none
+declares? (withinLine n t u) m = none
+declares? (closedLine n) m = none
+declares? (assumeEmpty e) m = none
+declares? (assumeIrreflexive e) m = none
+declares? (claimLine c) m = none
+
+unfoldable pub kindOf : List Line → Name → Option Kind
+kindOf [] m = none
+kindOf (l ∷ ls) m = elim (declares? l m) [ some k ↦ some k | none ↦ kindOf ls m ]
+
+-- the slip of a name that stands where a test, a relation, or a relation or a let is wanted
+unfoldable pub testSlip : Option Kind → Option Cause
+testSlip none = some unknownName
+testSlip (some aTest) = none
+testSlip (some aRelation) = some wrongKind
+testSlip (some aLet) = some wrongKind
+
+unfoldable pub relationSlip : Option Kind → Option Cause
+relationSlip none = some unknownName
+relationSlip (some aTest) = some wrongKind
+relationSlip (some aRelation) = none
+relationSlip (some aLet) = some wrongKind
+
+unfoldable pub eitherSlip : Option Kind → Option Cause
+eitherSlip none = some unknownName
+eitherSlip (some aTest) = some wrongKind
+eitherSlip (some aRelation) = none
+eitherSlip (some aLet) = none
+
+unfoldable pub declarationSlip : Bool → Option Kind → Option Cause
+declarationSlip true k = some reservedName
+declarationSlip false none = none
+declarationSlip false (some k) = some declaredTwice
+
+unfoldable pub slip : List Line → Use → Option Cause
+slip ls (declares n) = declarationSlip (isReserved n) (kindOf ls n)
+slip ls (usesTest n) = testSlip (kindOf ls n)
+slip ls (usesRelation n) = relationSlip (kindOf ls n)
+slip ls (usesEither n) = eitherSlip (kindOf ls n)
+
+-- the leftmost slip
+unfoldable pub firstSlip : List Line → List Use → Option Cause
+firstSlip ls [] = none
+firstSlip ls (u ∷ us) = elim (slip ls u) [ some c ↦ some c | none ↦ firstSlip ls us ]

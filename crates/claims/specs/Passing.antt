@@ -1,0 +1,32 @@
+-- Which sheets pass. (Document 01, "Sheet and graph bytes".) Refuted: its word is a refuting word, shortest or not. Proved: no
+-- length-0 word refutes, every level-1 standing is listed, every standing one step after a listed one is listed, and no listed
+-- one completes a refuting word. Steps and completion go by a standing's own fields.
+-- Assumes nothing.
+use mathlib.Core.Bool.{Bool, not, _&&_, _||_}
+use mathlib.Core.List.{List}
+use Rattle.kat.specs.Lists.{some, every, member, isEmpty}
+use Rattle.kat.specs.Word.{Word, end, at}
+use Rattle.claims.specs.Standings.{System, Letter, letters}
+use Rattle.claims.specs.SheetReading.{Said, saysProved, saysRefuted}
+
+module _ (S : System) where
+  -- the rest of a word completes a refuting word, after a prefix with the standing s
+  unfoldable pub completes : S .Standing → Word → Bool
+  completes s (end a) = member a (S .finals s)
+  completes s (at a r w) = member a (S .live) && completes (S .onward s (record { atom = a; relation = r })) w
+
+  unfoldable pub refuting : Word → Bool
+  refuting (end a) = member a (S .alone)
+  refuting (at a r w) = member a (S .live) && completes (S .begin (record { atom = a; relation = r })) w
+
+  -- the standing is listed; where no left occurrence is possible there is none to list
+  unfoldable pub listed : List (S .Standing) → S .Standing → Bool
+  listed ss s = not (S .possible s) || some (S .equal s) ss
+
+  unfoldable pub passes : Said S → Bool
+  passes (saysRefuted w) = refuting w
+  passes (saysProved ss) =
+      isEmpty (S .alone)
+      && every (λ l. listed ss (S .begin l)) (letters S)
+      && every (λ s. every (λ l. listed ss (S .onward s l)) (letters S)) ss
+      && every (λ s. isEmpty (S .finals s)) ss

@@ -1,0 +1,45 @@
+-- The line that a program prints. (Document 01, "The desk's cases".) The query program uses allowance 200 and memory and a sheet
+-- buffer that suffice for any answer.
+-- Assumes nothing.
+use Prim.Native.Nat.{ℕ, zero, suc, _+_, _/_, _%_}
+use mathlib.Core.Bool.{Bool, true, false, _&&_}
+use mathlib.Core.List.{List, [], _∷_, _++_}
+use lib.Dec.{leb, ltb}
+use Rattle.kat.specs.Word.{numbers}
+use Rattle.claims.specs.Bytes.{text}
+use Rattle.claims.specs.Refusals.{Refusal, number, Result, ok, refused, refuse, onward, badAllowance}
+use Rattle.claims.specs.Calls.{Answer, provedWith, refutedBy, Given, searched, asked}
+
+-- a number in decimal digits, before what stands behind it; f bounds the number of digits
+unfoldable pub digitsBefore : ℕ → ℕ → List ℕ → List ℕ
+digitsBefore zero n ds = ds
+digitsBefore (suc f) n ds =
+    elim (ltb n 10) [ true ↦ (48 + n) ∷ ds | false ↦ digitsBefore f (n / 10) ((48 + n % 10) ∷ ds) ]
+
+unfoldable pub decimal : ℕ → List ℕ
+decimal n = digitsBefore (suc n) n []
+
+-- each number after a space
+unfoldable pub spaced : List ℕ → List ℕ
+spaced [] = []
+spaced (n ∷ ns) = 32 ∷ (decimal n ++ spaced ns)
+
+unfoldable pub answerLine : Answer → List ℕ
+answerLine (provedWith c) = text "proved" ++ spaced (c ∷ [])
+answerLine (refutedBy w) = text "refuted" ++ spaced (numbers w)
+
+unfoldable pub refusalLine : Refusal → List ℕ
+refusalLine r = text "refusal" ++ (spaced (number (r .cause) ∷ []) ++ (text " line" ++ spaced (r .place ∷ [])))
+
+unfoldable pub lineOf : Result Given → List ℕ
+lineOf (ok g) = answerLine (g .answer)
+lineOf (refused r) = refusalLine r
+
+-- the answer of a query at an allowance, where memory and buffer suffice
+unfoldable pub answered : ℕ → List ℕ → Result Given
+answered allowance bs =
+    onward (asked bs) (λ a.
+    elim (leb 1 allowance && leb allowance 4096) [ true ↦ searched (a .decided) allowance | false ↦ refuse badAllowance 0 ])
+
+unfoldable pub printed : ℕ → List ℕ → List ℕ
+printed allowance bs = lineOf (answered allowance bs)

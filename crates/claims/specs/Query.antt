@@ -1,0 +1,185 @@
+-- What an accepted query says: its tests, relations, lets, limits, assumptions and claim. (Document 01, "The query".) A query is the
+-- list of its lines. Tests and relations are numbered from 0 as declared; limits apply to the whole query wherever they stand.
+-- Assumes nothing.
+use Prim.Native.Nat.{ℕ, zero, suc, _/_, _%_, _^_}
+use mathlib.Core.Bool.{Bool, true, false, not as flip, _&&_, _||_}
+use mathlib.Core.List.{List, [], _∷_, _++_}
+use lib.Dec.{eqb}
+use lib.ListN.{length}
+use Rattle.kat.specs.Lists.{upto, filter, some}
+use Rattle.claims.specs.Bytes.{same}
+use Rattle.claims.specs.Tree.{Name, TestTree, testName, always, never, either, both, not, Tree, Claim, empty, Line, testLine, relLine, letLine, neverLine, withinLine, closedLine, assumeEmpty, assumeIrreflexive, claimLine}
+
+abbrev pub Query : Type 0
+Query = List Line
+
+-- a name with what it stands for
+pub record Bound (A : Type 0) : Type 0 where
+  pub called : Name
+  pub means : A
+
+-- the two tests of a `within` line
+pub record Limit : Type 0 where
+  pub from : TestTree
+  pub to : TestTree
+
+module _ {A : Type 0} where
+  -- what each line gives, in the order of the lines
+  abbrev pub each : (Line → List A) → Query → List A
+  each f [] = []
+  each f (l ∷ ls) = f l ++ each f ls
+
+  -- what a name is bound to, or d
+  abbrev pub lookup : A → Name → List (Bound A) → A
+  lookup d n [] = d
+  lookup d n (b ∷ bs) = elim (same n (b .called)) [ true ↦ b .means | false ↦ lookup d n bs ]
+
+  -- each name with what w gives it
+  abbrev pub bound : (Name → A) → List Name → List (Bound A)
+  bound w [] = []
+  bound w (n ∷ ns) = record { called = n; means = w n } ∷ bound w ns
+
+  -- each let, in order, with what f makes of its expression over the names before it
+  abbrev pub boundLets : (List (Bound A) → Tree → A) → List (Bound A) → List (Bound Tree) → List (Bound A)
+  boundLets f env [] = env
+  boundLets f env (b ∷ bs) = boundLets f (env ++ (record { called = b .called; means = f env (b .means) } ∷ [])) bs
+
+-- the place of a name in a list of names, from 0
+abbrev pub indexOf : Name → List Name → ℕ
+indexOf n [] = 0
+indexOf n (m ∷ ms) = elim (same n m) [ true ↦ 0 | false ↦ suc (indexOf n ms) ]
+
+unfoldable pub testNames : Line → List Name
+testNames (testLine n) = n ∷ []
+testNames (relLine n) = []
+testNames (letLine n e) = []
+testNames (neverLine t) = []
+testNames (withinLine n t u) = []
+testNames (closedLine n) = []
+testNames (assumeEmpty e) = []
+testNames (assumeIrreflexive e) = []
+testNames (claimLine c) = []
+
+unfoldable pub relationNames : Line → List Name
+relationNames (testLine n) = []
+relationNames (relLine n) = n ∷ []
+relationNames (letLine n e) = []
+relationNames (neverLine t) = []
+relationNames (withinLine n t u) = []
+relationNames (closedLine n) = []
+relationNames (assumeEmpty e) = []
+relationNames (assumeIrreflexive e) = []
+relationNames (claimLine c) = []
+
+unfoldable pub lets : Line → List (Bound Tree)
+lets (testLine n) = []
+lets (relLine n) = []
+lets (letLine n e) = record { called = n; means = e } ∷ []
+lets (neverLine t) = []
+lets (withinLine n t u) = []
+lets (closedLine n) = []
+lets (assumeEmpty e) = []
+lets (assumeIrreflexive e) = []
+lets (claimLine c) = []
+
+unfoldable pub nevers : Line → List TestTree
+nevers (testLine n) = []
+nevers (relLine n) = []
+nevers (letLine n e) = []
+nevers (neverLine t) = t ∷ []
+nevers (withinLine n t u) = []
+nevers (closedLine n) = []
+nevers (assumeEmpty e) = []
+nevers (assumeIrreflexive e) = []
+nevers (claimLine c) = []
+
+unfoldable pub limits : Name → Line → List Limit
+limits m (testLine n) = []
+limits m (relLine n) = []
+limits m (letLine n e) = []
+limits m (neverLine t) = []
+limits m (withinLine n t u) = elim (same m n) [ true ↦ record { from = t; to = u } ∷ [] | false ↦ [] ]
+limits m (closedLine n) = []
+limits m (assumeEmpty e) = []
+limits m (assumeIrreflexive e) = []
+limits m (claimLine c) = []
+
+unfoldable pub closings : Line → List Name
+closings (testLine n) = []
+closings (relLine n) = []
+closings (letLine n e) = []
+closings (neverLine t) = []
+closings (withinLine n t u) = []
+closings (closedLine n) = n ∷ []
+closings (assumeEmpty e) = []
+closings (assumeIrreflexive e) = []
+closings (claimLine c) = []
+
+unfoldable pub assumedEmpty : Line → List Tree
+assumedEmpty (testLine n) = []
+assumedEmpty (relLine n) = []
+assumedEmpty (letLine n e) = []
+assumedEmpty (neverLine t) = []
+assumedEmpty (withinLine n t u) = []
+assumedEmpty (closedLine n) = []
+assumedEmpty (assumeEmpty e) = e ∷ []
+assumedEmpty (assumeIrreflexive e) = []
+assumedEmpty (claimLine c) = []
+
+unfoldable pub assumedIrreflexive : Line → List Tree
+assumedIrreflexive (testLine n) = []
+assumedIrreflexive (relLine n) = []
+assumedIrreflexive (letLine n e) = []
+assumedIrreflexive (neverLine t) = []
+assumedIrreflexive (withinLine n t u) = []
+assumedIrreflexive (closedLine n) = []
+assumedIrreflexive (assumeEmpty e) = []
+assumedIrreflexive (assumeIrreflexive e) = e ∷ []
+assumedIrreflexive (claimLine c) = []
+
+unfoldable pub claimsOf : Line → List Claim
+claimsOf (testLine n) = []
+claimsOf (relLine n) = []
+claimsOf (letLine n e) = []
+claimsOf (neverLine t) = []
+claimsOf (withinLine n t u) = []
+claimsOf (closedLine n) = []
+claimsOf (assumeEmpty e) = []
+claimsOf (assumeIrreflexive e) = []
+claimsOf (claimLine c) = c ∷ []
+
+unfoldable pub tests : Query → List Name
+tests q = each testNames q
+
+unfoldable pub relations : Query → List Name
+relations q = each relationNames q
+
+-- relation r is closed
+unfoldable pub closed : Query → Name → Bool
+closed q r = some (same r) (each closings q)
+
+module _ {A : Type 0} where
+  -- the relations with what w gives each, then the lets with what f makes of them
+  unfoldable pub names : Query → (Name → A) → (List (Bound A) → Tree → A) → List (Bound A)
+  names q w f = boundLets f (bound w (relations q)) (each lets q)
+
+-- bit i of a is set
+unfoldable pub bit : ℕ → ℕ → Bool
+bit i a = eqb (a / 2 ^ i % 2) 1
+
+-- an event with atom a satisfies T: test i holds where the atom has bit i
+unfoldable pub holds : List Name → TestTree → ℕ → Bool
+holds ns (testName n) a = bit (indexOf n ns) a
+holds ns always a = true
+holds ns never a = false
+holds ns (either t u) a = holds ns t a || holds ns u a
+holds ns (both t u) a = holds ns t a && holds ns u a
+holds ns (not t) a = flip (holds ns t a)
+
+-- how many atoms there are: numbers from 0 to below this
+unfoldable pub atoms : Query → ℕ
+atoms q = 2 ^ length (tests q)
+
+-- the atoms under no `never`
+unfoldable pub live : Query → List ℕ
+live q = filter (λ a. flip (some (λ t. holds (tests q) t a) (each nevers q))) (upto 0 (atoms q))

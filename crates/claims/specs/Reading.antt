@@ -1,0 +1,77 @@
+-- The reading of a query, for every list of bytes: the query, or the first refusal. (Document 01, "Refusals with an example each", and
+-- the paragraph on their order behind the table.) 1 and 2 come first, then the lines from the top; on a line 7, then 3 or 4, then 5
+-- by its leftmost name, then 6. A missing claim and then 8 follow.
+-- Assumes nothing.
+use Prim.Native.Nat.{ℕ, suc}
+use mathlib.Core.Bool.{Bool, true, false}
+use mathlib.Core.List.{List, [], _∷_, _++_}
+use mathlib.Core.Option.{Option, some, none}
+use lib.Dec.{eqb, leb}
+use lib.ListN.{length}
+use Rattle.claims.specs.Bytes.{RawLine, rawLines, printable}
+use Rattle.claims.specs.Tree.{Claim, Line, testLine, relLine, letLine, neverLine, withinLine, closedLine, assumeEmpty, assumeIrreflexive, claimLine}
+use Rattle.claims.specs.Grammar.{Found, got, wrong, deep}
+use Rattle.claims.specs.Lines.{line}
+use Rattle.claims.specs.Names.{uses, firstSlip}
+use Rattle.claims.specs.Query.{Query, each, tests, relations, lets, claimsOf}
+use Rattle.claims.specs.Counting.{withinLimits}
+use Rattle.claims.specs.Refusals.{Cause, tooLong, badByte, notation, tooDeep, tooMany, noClaim, afterClaim, overLimit, Result, ok, refuse, onward}
+
+-- the line of the first byte that is neither printable nor byte 10; n is the line of the first byte
+unfoldable pub badLine : ℕ → List ℕ → Option ℕ
+badLine n [] = none
+badLine n (b ∷ bs) =
+    elim (eqb b 10) [ true ↦ badLine (suc n) bs | false ↦ elim (printable b) [ true ↦ badLine n bs | false ↦ some n ] ]
+
+-- one declaration too many: 6 tests, 16 relations and 32 lets at most
+unfoldable pub crowded : Query → Line → Bool
+crowded q (testLine n) = leb 6 (length (tests q))
+crowded q (relLine n) = leb 16 (length (relations q))
+crowded q (letLine n e) = leb 32 (length (each lets q))
+crowded q (neverLine t) = false
+crowded q (withinLine n t u) = false
+crowded q (closedLine n) = false
+crowded q (assumeEmpty e) = false
+crowded q (assumeIrreflexive e) = false
+crowded q (claimLine c) = false
+
+-- the claim, which is the last line
+unfoldable pub claimOf : Query → Option Claim
+claimOf q = elim (each claimsOf q) [ [] ↦ none | c ∷ cs ↦ some c ]
+
+-- line n after the lines of q, as the notation found it
+unfoldable pub readLine : Query → ℕ → Found Line → Result Line
+readLine q n (got l us) =
+    elim (firstSlip q (uses l)) [
+      | some c ↦ refuse c n
+      | none ↦ elim (crowded q l) [ true ↦ refuse tooMany n | false ↦ ok l ]
+    ]
+readLine q n wrong = refuse notation n
+readLine q n deep = refuse tooDeep n
+
+-- the lines from line n on, after those of q
+unfoldable pub readLines : Query → ℕ → List RawLine → Result Query
+readLines q n [] = ok q
+readLines q n (l ∷ ls) =
+    elim (claimOf q) [
+      | some c ↦ refuse afterClaim n
+      | none ↦ onward (readLine q n (line l)) (λ x. readLines (q ++ (x ∷ [])) (suc n) ls)
+    ]
+
+-- a claim there must be, and its sides within the limits; 8 is placed at the claim line, which is the last
+unfoldable pub limited : Query → Result Query
+limited q =
+    elim (claimOf q) [
+      | none ↦ refuse noClaim 0
+      | some c ↦ elim (withinLimits q c) [ true ↦ ok q | false ↦ refuse overLimit (length q) ]
+    ]
+
+unfoldable pub read : List ℕ → Result Query
+read bs =
+    elim (leb (length bs) 4096) [
+      | false ↦ refuse tooLong 0
+      | true ↦ elim (badLine 1 bs) [
+        | some n ↦ refuse badByte n
+        | none ↦ onward (readLines [] 1 (rawLines bs)) limited
+      ]
+    ]

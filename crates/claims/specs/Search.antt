@@ -1,0 +1,85 @@
+-- The verdict, level by level. (Document 01, "Standings".) Level n holds the standings of prefixes of n relations. Taking the fresh
+-- standings of a level in their order, and the letters in theirs, gives each standing with its least shortest prefix.
+-- Assumes nothing.
+use Prim.Native.Nat.{ℕ, zero, suc}
+use mathlib.Core.Bool.{Bool, true, false, not, _&&_}
+use mathlib.Core.List.{List, [], _∷_, _++_, map}
+use mathlib.Core.Option.{Option, some, none}
+use lib.Dec.{ltb}
+use lib.ListN.{length}
+use Rattle.kat.specs.Lists.{some as someOf}
+use Rattle.kat.specs.Word.{Word, end}
+use Rattle.kat.specs.Ring.{Prefix, nothing, then, onto}
+use Rattle.claims.specs.Standings.{System, Letter, letters}
+
+module _ (S : System) where
+  -- a standing with a prefix that has it
+  pub record Entry : Type 0 where
+    pub standing : S .Standing
+    pub prefix : Prefix
+
+-- proved with its standings, refuted with the first word, or allowance spent
+pub data Verdict (S : System) : Type 0 where
+  proved : List (S .Standing) → Verdict S
+  refuted : Word → Verdict S
+  spent : Verdict S
+
+module _ (S : System) where
+  -- the prefixes of one relation
+  unfoldable pub firstLevel : List Letter → List (Entry S)
+  firstLevel [] = []
+  firstLevel (l ∷ ls) =
+      record { standing = S .begin l; prefix = then nothing (l .atom) (l .relation) } ∷ firstLevel ls
+
+  -- one relation more, for each letter
+  unfoldable pub grown : Entry S → List Letter → List (Entry S)
+  grown e [] = []
+  grown e (l ∷ ls) =
+      record { standing = S .onward (e .standing) l; prefix = then (e .prefix) (l .atom) (l .relation) } ∷ grown e ls
+
+  -- the next level, of what stands in this one
+  unfoldable pub nextLevel : List (Entry S) → List (Entry S)
+  nextLevel [] = []
+  nextLevel (e ∷ es) = grown e (letters S) ++ nextLevel es
+
+  -- the standing is among those seen
+  unfoldable pub seenIn : List (Entry S) → S .Standing → Bool
+  seenIn seen s = someOf (λ e. S .equal s (e .standing)) seen
+
+  -- those that have a standing which was not seen, each once
+  unfoldable pub fresh : List (Entry S) → List (Entry S) → List (Entry S)
+  fresh seen [] = []
+  fresh seen (e ∷ es) =
+      elim (S .possible (e .standing) && not (seenIn seen (e .standing))) [
+        | true ↦ e ∷ fresh (e ∷ seen) es
+        | false ↦ fresh seen es
+      ]
+
+  -- the first refuting word that a level completes
+  unfoldable pub completed : List (Entry S) → Option Word
+  completed [] = none
+  completed (e ∷ es) = elim (S .finals (e .standing)) [ [] ↦ completed es | a ∷ as′ ↦ some (onto (e .prefix) (end a)) ]
+
+  -- level n and on, n at least 1: seen are the standings of levels 1 to n, new those that are fresh in level n
+  unfoldable pub levels : ℕ → ℕ → List (Entry S) → List (Entry S) → Verdict S
+  levels zero allowance seen new = spent
+  levels (suc f) allowance seen new =
+      elim (ltb allowance (length seen)) [
+        | true ↦ spent
+        | false ↦ elim (completed new) [
+          | some w ↦ refuted w
+          | none ↦ elim new [
+            | [] ↦ proved (map (λ e. e .standing) seen)
+            | e ∷ es ↦ let more : List (Entry S) = fresh seen (nextLevel (e ∷ es)) in levels f allowance (seen ++ more) more
+          ]
+        ]
+      ]
+
+  -- level 0 has no standing; then level by level. Each level but the last adds a standing, so there are at most as many as the
+  -- allowance, and two more.
+  unfoldable pub verdict : ℕ → Verdict S
+  verdict allowance =
+      elim (S .alone) [
+        | a ∷ as′ ↦ refuted (end a)
+        | [] ↦ let new : List (Entry S) = fresh [] (firstLevel (letters S)) in levels (suc (suc allowance)) allowance new new
+      ]

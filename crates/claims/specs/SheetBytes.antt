@@ -1,0 +1,39 @@
+-- The bytes of a sheet. (Document 01, "Sheet and graph bytes".) A standing's contents are P, S for a path claim; first atom, Z, P and
+-- the 32 rows of M and of N for a ring claim. Sets are 8 bytes, bit k - 1 for occurrence k; a row is 4 bytes, bit k for number k.
+-- Assumes nothing.
+use Prim.Native.Nat.{ℕ, zero, suc}
+use mathlib.Core.Bool.{Bool, true, false, cond}
+use mathlib.Core.List.{List, [], _∷_, _++_}
+use Rattle.kat.specs.Word.{numbers}
+use Rattle.claims.specs.Standings.{System, Path, Ring, row}
+use Rattle.claims.specs.Search.{Verdict, proved, refuted, spent}
+use Rattle.claims.specs.Fields.{bigEndian, setNumber, field}
+
+-- how many rows a table of a ring standing has in a sheet, each of a quarter as many bits in bytes
+unfoldable pub width : ℕ
+width = 32
+
+unfoldable pub setBytes : List ℕ → List ℕ
+setBytes s = bigEndian 8 (setNumber 1 s)
+
+-- n rows from row p on; a row that the table lacks is empty
+unfoldable pub rowBytes : List (List ℕ) → ℕ → ℕ → List ℕ
+rowBytes t p zero = []
+rowBytes t p (suc n) = bigEndian 4 (setNumber 0 (row t p)) ++ rowBytes t (suc p) n
+
+unfoldable pub pathBytes : Path → List ℕ
+pathBytes s = setBytes (s .P) ++ setBytes (s .S)
+
+unfoldable pub ringBytes : Ring → List ℕ
+ringBytes s = s .first ∷ cond (s .Z) 1 0 ∷ (setBytes (s .P) ++ (rowBytes (s .M) 0 width ++ rowBytes (s .N) 0 width))
+
+module _ (S : System) (contents : S .Standing → List ℕ) where
+  unfoldable pub standingFields : List (S .Standing) → List ℕ
+  standingFields [] = []
+  standingFields (s ∷ ss) = field 3 (contents s) ++ standingFields ss
+
+  -- the sheet of a verdict; a spent allowance has none
+  unfoldable pub sheetBytes : Verdict S → List ℕ
+  sheetBytes (proved ss) = field 1 (1 ∷ []) ++ standingFields ss
+  sheetBytes (refuted w) = field 1 (2 ∷ []) ++ field 2 (numbers w)
+  sheetBytes spent = []

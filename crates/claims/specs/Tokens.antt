@@ -1,0 +1,55 @@
+-- The tokens of a line. (Document 01, "The query".) A word is a longest run of letters and digits, a letter first and at most 16 in
+-- all; the marks stand for themselves; spaces separate. Any other run or byte is no token of the notation.
+-- Assumes nothing.
+use Prim.Native.Nat.{ℕ}
+use mathlib.Core.Bool.{Bool, true, false, cond, _&&_, _||_}
+use mathlib.Core.List.{List, [], _∷_}
+use lib.Dec.{eqb, leb}
+use lib.ListN.{length}
+use Rattle.kat.specs.Lists.{some}
+use Rattle.claims.specs.Bytes.{text, letter, digit, same}
+
+pub data Token : Type 0 where
+  word : List ℕ → Token
+  mark : ℕ → Token
+  bad : Token
+
+-- a line cut into longest runs of letters and digits, and other bytes
+pub data Piece : Type 0 where
+  run : List ℕ → Piece
+  other : ℕ → Piece
+
+unfoldable pub longer : ℕ → List Piece → List Piece
+longer b [] = run (b ∷ []) ∷ []
+longer b (run w ∷ ps) = run (b ∷ w) ∷ ps
+longer b (other c ∷ ps) = run (b ∷ []) ∷ other c ∷ ps
+
+unfoldable pub pieces : List ℕ → List Piece
+pieces [] = []
+pieces (b ∷ bs) = cond (letter b || digit b) (longer b (pieces bs)) (other b ∷ pieces bs)
+
+-- a letter, and then up to 15 letters or digits
+unfoldable pub wordLike : List ℕ → Bool
+wordLike [] = false
+wordLike (b ∷ bs) = letter b && leb (length bs) 15
+
+unfoldable pub marks : List ℕ
+marks = text "|;*+?[]()&!="
+
+unfoldable pub tokensOf : List Piece → List Token
+tokensOf [] = []
+tokensOf (run w ∷ ps) = cond (wordLike w) (word w) bad ∷ tokensOf ps
+tokensOf (other b ∷ ps) =
+    cond (eqb b 32) (tokensOf ps) (cond (some (eqb b) marks) (mark b) bad ∷ tokensOf ps)
+
+unfoldable pub tokens : List ℕ → List Token
+tokens bs = tokensOf (pieces bs)
+
+-- line words, `in`, `empty`, `include`, `irreflexive`, `true` and `false` are no names
+unfoldable pub reservedWords : List (List ℕ)
+reservedWords =
+    text "test" ∷ text "rel" ∷ text "let" ∷ text "never" ∷ text "within" ∷ text "closed" ∷ text "assume" ∷ text "claim"
+    ∷ text "in" ∷ text "empty" ∷ text "include" ∷ text "irreflexive" ∷ text "true" ∷ text "false" ∷ []
+
+unfoldable pub isReserved : List ℕ → Bool
+isReserved w = some (same w) reservedWords

@@ -1,0 +1,9 @@
+pub mod Lists
+pub mod Expr
+pub mod Graph
+pub mod Word
+pub mod Language
+pub mod Fusion
+pub mod Tables
+pub mod Ring
+pub mod Closure
