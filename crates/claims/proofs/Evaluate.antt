@@ -58,7 +58,7 @@ unfolding Names.testUses Names.treeUses Names.claimUses Names.uses Names.declare
 open-Names = tt
 
 unfoldable pub open-Query : Unit {0}
-unfolding Query.testNames Query.relationNames Query.lets Query.nevers Query.limits Query.closings Query.assumedEmpty Query.assumedIrreflexive Query.claimsOf Query.tests Query.relations Query.closed Query.names Query.bit Query.holds Query.atoms Query.live
+unfolding Query.testNames Query.relationNames Query.lets Query.nevers Query.limits Query.closings Query.assumedEmpty Query.assumedIrreflexive Query.claimsOf Query.tests Query.relations Query.closed Query.names Query.bit Query.holds Query.atoms Query.removed Query.live
 open-Query = tt
 
 unfoldable pub open-Counting : Unit {0}

@@ -1,2 +1,50 @@
+-- The cases.
 pub mod Evaluate
 pub mod Cases
+-- Standings of prefixes, and refuting words.
+pub mod Rows
+pub mod PathStandings
+pub mod RingStandings
+pub mod RingCovered
+pub mod Refuting
+-- The search.
+pub mod Pairwise
+pub mod Distinct
+pub mod Lawful
+pub mod Letters
+pub mod Passing
+pub mod Order
+pub mod Prefixes
+pub mod Fresh
+pub mod Candidates
+pub mod Levels
+pub mod Ordered
+pub mod Answers
+pub mod Walk
+pub mod Plain
+pub mod Verdict
+-- Sheets as bytes.
+pub mod Bytes
+pub mod SetBytes
+pub mod StandingBytes
+pub mod StandingShapes
+pub mod WordBytes
+pub mod SheetRoundTrip
+pub mod Counts
+pub mod Limits
+pub mod SheetReturns
+pub mod SheetOfBytes
+pub mod Checked
+pub mod Written
+-- Graphs.
+pub mod Replacement
+pub mod Soundness
+pub mod Pairs
+pub mod Broken
+pub mod Lowest
+pub mod Judging
+pub mod GraphReading
+pub mod JudgeCall
+pub mod GraphWritten
+-- What a sheet means.
+pub mod Sheets

@@ -16,8 +16,10 @@ pub mod Fields
 pub mod SheetBytes
 pub mod SheetReading
 pub mod Passing
+pub mod Verdicts
 pub mod GraphBytes
 pub mod Judgement
+pub mod Meaning
 pub mod Drawn
 pub mod Calls
 pub mod Printed

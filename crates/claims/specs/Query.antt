@@ -180,6 +180,10 @@ holds ns (not t) a = flip (holds ns t a)
 unfoldable pub atoms : Query → ℕ
 atoms q = 2 ^ length (tests q)
 
--- the atoms under no `never`
+-- an atom under a `never` is removed
+unfoldable pub removed : Query → ℕ → Bool
+removed q a = some (λ t. holds (tests q) t a) (each nevers q)
+
+-- the atoms that are not removed, rising
 unfoldable pub live : Query → List ℕ
-live q = filter (λ a. flip (some (λ t. holds (tests q) t a) (each nevers q))) (upto 0 (atoms q))
+live q = filter (λ a. flip (removed q a)) (upto 0 (atoms q))

@@ -1,1 +1,14 @@
+pub mod Bools
+pub mod Sets
 pub mod Fusion
+pub mod Walks
+pub mod Ranges
+pub mod Residuals
+pub mod Letters
+pub mod Runs
+pub mod Turns
+pub mod Growing
+pub mod Words
+pub mod Closure
+pub mod Decided
+pub mod Traces

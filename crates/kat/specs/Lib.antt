@@ -2,8 +2,10 @@ pub mod Lists
 pub mod Expr
 pub mod Graph
 pub mod Word
+pub mod Walk
 pub mod Language
 pub mod Fusion
 pub mod Tables
 pub mod Ring
+pub mod Way
 pub mod Closure

@@ -2,6 +2,7 @@
 -- list of its members in rising order, so two sets are equal exactly when their lists are.
 -- Assumes nothing.
 use Prim.Native.Nat.{ℕ, zero, suc, _-_}
+use mathlib.Core.Path.{_≡_}
 use mathlib.Core.Bool.{Bool, true, false, cond, _&&_, _||_}
 use mathlib.Core.List.{List, [], _∷_}
 use lib.Dec.{eqb}
@@ -15,7 +16,12 @@ counted i (suc n) = i ∷ counted (suc i) n
 abbrev pub upto : ℕ → ℕ → List ℕ
 upto i e = counted i (e - i)
 
--- a is in the list
+-- x stands in the list
+pub data In {A : Type 0} (x : A) : List A → Type 0 where
+  here : {y : A} {l : List A} → x ≡ y → In x (y ∷ l)
+  there : {y : A} {l : List A} → In x l → In x (y ∷ l)
+
+-- the test whether a number stands in the list
 abbrev pub member : ℕ → List ℕ → Bool
 member a [] = false
 member a (b ∷ bs) = eqb a b || member a bs

@@ -4,10 +4,12 @@
 -- k is always the number of occurrences that stand before the expression.
 -- Assumes nothing.
 use Prim.Native.Nat.{ℕ, zero, suc, _+_}
+use mathlib.Core.Path.{_≡_}
 use mathlib.Core.Bool.{Bool, true, false, _&&_, _||_}
 use mathlib.Core.List.{List}
 use lib.Dec.{eqb}
 use Rattle.kat.specs.Expr.{Expr, step, test, alt, seq, plus}
+use Rattle.kat.specs.Word.{Word, end, at}
 use Rattle.kat.specs.Lists.{upto, filter, some}
 
 abbrev pub occurrences : Expr → ℕ
@@ -67,6 +69,11 @@ next E (suc p) q a = follows E 0 (suc p) q a
 abbrev pub stop : Expr → ℕ → ℕ → Bool
 stop E zero a = null E a
 stop E (suc p) a = lasts E 0 (suc p) a
+
+-- the tables read the word: one occurrence after another, from p on, up to one at which the word may end
+abbrev pub Reads : Expr → ℕ → Word → Type 0
+Reads E p (end a) = stop E p a ≡ true
+Reads E p (at a r w) = (q : ℕ) × (next E p q a ≡ true) × (reads E 0 q r ≡ true) × Reads E q w
 
 -- the occurrences that may have just been read after atom a and relation r, where one of P was read before
 unfoldable pub after : Expr → List ℕ → ℕ → ℕ → List ℕ

@@ -1,0 +1,194 @@
+-- What the search and the sheet check rest on in a kind of standing, and that path and ring standings have it. Their equality tests
+-- are equality; where no left occurrence is possible none is after any letter, and no word is completed; atoms stand in rising order.
+-- The reason for the second: occurrences and ends are sought with `some` over those that may have just been read.
+-- Assumes nothing.
+use Prim.Native.Nat.{ℕ, suc, _<_}
+use mathlib.Core.Path.{_≡_, refl, sym, ap, ap₂, subst}
+use mathlib.Core.Bool.{Bool, true, false, not, cond, _&&_, Bool·beq, true≢false}
+use mathlib.Core.List.{List, [], _∷_}
+use lib.Dec.{eqb}
+use borrow.Author.Tests.{eqb-true, eq-eqb}
+use Rattle.kat.specs.Expr.{Expr}
+use Rattle.kat.specs.Lists.{upto, filter, some, member, isEmpty, In, here}
+use Rattle.kat.specs.Tables.{occurrences, reads, null, after, ends}
+use Rattle.kat.proofs.Sets.{filter-in, member-in}
+use Rattle.kat.proofs.Bools.{and-left, and-right, and-both}
+use Rattle.claims.specs.Bytes.{same}
+use Rattle.claims.specs.Query.{Query, atoms, removed, live}
+use Rattle.claims.specs.Sides.{Decision, decision}
+use Rattle.claims.specs.Tree.{Claim, includes, empty, irreflexive}
+use Rattle.claims.specs.Standings.{System, Letter, alone, Path, pathStep, pathFinals, pathSystem, Ring, ringStep, ringFinals, covered, sameRows, ringSystem}
+use Rattle.claims.proofs.Pairwise.{Rising, pairwise-filter, rising-upto}
+
+-- the laws of a kind of standing
+pub record Lawful (S : System) : Type 0 where
+  pub equal-sound : (s t : S .Standing) → S .equal s t ≡ true → s ≡ t
+  pub equal-self : (s : S .Standing) → S .equal s s ≡ true
+  pub dead-stays : (s : S .Standing) (l : Letter) → S .possible s ≡ false → S .possible (S .onward s l) ≡ false
+  pub dead-ends : (s : S .Standing) → S .possible s ≡ false → S .finals s ≡ []
+  pub finals-rising : (s : S .Standing) → Rising (S .finals s)
+  pub finals-live : (s : S .Standing) (a : ℕ) → In a (S .finals s) → In a (S .live)
+  pub alone-rising : Rising (S .alone)
+  pub alone-live : (a : ℕ) → In a (S .alone) → In a (S .live)
+  pub live-rising : Rising (S .live)
+
+-- the tests of lists are equality
+pub same-sound : (xs ys : List ℕ) → same xs ys ≡ true → xs ≡ ys
+same-sound [] [] e = refl
+same-sound [] (y ∷ ys) e = absurd (true≢false (sym e))
+same-sound (x ∷ xs) [] e = absurd (true≢false (sym e))
+same-sound (x ∷ xs) (y ∷ ys) e =
+    ap₂ _∷_ (eqb-true x y (and-left (eqb x y) (same xs ys) e)) (same-sound xs ys (and-right (eqb x y) (same xs ys) e))
+
+pub same-self : (xs : List ℕ) → same xs xs ≡ true
+same-self [] = refl
+same-self (x ∷ xs) = and-both (eq-eqb x x refl) (same-self xs)
+
+rows-sound : (xs ys : List (List ℕ)) → sameRows xs ys ≡ true → xs ≡ ys
+rows-sound [] [] e = refl
+rows-sound [] (y ∷ ys) e = absurd (true≢false (sym e))
+rows-sound (x ∷ xs) [] e = absurd (true≢false (sym e))
+rows-sound (x ∷ xs) (y ∷ ys) e =
+    ap₂ _∷_ (same-sound x y (and-left (same x y) (sameRows xs ys) e)) (rows-sound xs ys (and-right (same x y) (sameRows xs ys) e))
+
+rows-self : (xs : List (List ℕ)) → sameRows xs xs ≡ true
+rows-self [] = refl
+rows-self (x ∷ xs) = and-both (same-self x) (rows-self xs)
+
+beq-sound : (a b : Bool) → Bool·beq a b ≡ true → a ≡ b
+beq-sound true true e = refl
+beq-sound true false e = sym e
+beq-sound false true e = e
+beq-sound false false e = refl
+
+beq-self : (a : Bool) → Bool·beq a a ≡ true
+beq-self true = refl
+beq-self false = refl
+
+-- a filter whose test never passes leaves nothing
+filter-none : (t : ℕ → Bool) (l : List ℕ) → ((a : ℕ) → t a ≡ false) → filter t l ≡ []
+filter-none t [] h = refl
+filter-none t (x ∷ xs) h = rw (h x) (filter-none t xs h)
+
+and-false : (a : Bool) → (a && false) ≡ false
+and-false true = refl
+and-false false = refl
+
+empty-nil : (l : List ℕ) → not (isEmpty l) ≡ false → l ≡ []
+empty-nil [] e = refl
+empty-nil (x ∷ xs) e = absurd (true≢false e)
+
+-- where nothing may have just been read, nothing may be read, and no word may end
+none-after : (E : Expr) (P : List ℕ) (a r : ℕ) → not (isEmpty P) ≡ false → not (isEmpty (after E P a r)) ≡ false
+unfolding after
+none-after E P a r e =
+    rw (empty-nil P e, filter-none (λ q. reads E 0 q r && false) (upto 1 (suc (occurrences E))) (λ q. and-false (reads E 0 q r))) refl
+
+none-ends : (E : Expr) (P : List ℕ) (a : ℕ) → not (isEmpty P) ≡ false → ends E P a ≡ false
+unfolding ends
+none-ends E P a e = rw (empty-nil P e) refl
+
+alone-rises : (D : Decision) → Rising (D .live) → Rising (alone D)
+unfolding alone
+alone-rises D h = pairwise-filter _<_ (λ a. null (D .left) a && not (null (D .right) a)) (D .live) h
+
+alone-lives : (D : Decision) (a : ℕ) → In a (alone D) → In a (D .live)
+unfolding alone
+alone-lives D a i = filter-in (λ b. null (D .left) b && not (null (D .right) b)) (D .live) i .0
+
+path-sound : (D : Decision) (s t : Path) → pathSystem D .equal s t ≡ true → s ≡ t
+path-sound D s t e =
+    let p : s .P ≡ t .P = same-sound (s .P) (t .P) (and-left (same (s .P) (t .P)) (same (s .S) (t .S)) e) in
+    let q : s .S ≡ t .S = same-sound (s .S) (t .S) (and-right (same (s .P) (t .P)) (same (s .S) (t .S)) e) in
+    λ i. record { P = p i; S = q i }
+
+path-ends : (D : Decision) (s : Path) → not (isEmpty (s .P)) ≡ false → pathFinals D s ≡ []
+unfolding pathFinals
+path-ends D s e =
+    filter-none (λ a. ends (D .left) (s .P) a && not (ends (D .right) (s .S) a)) (D .live)
+    (λ a. ap (λ b. b && not (ends (D .right) (s .S) a)) (none-ends (D .left) (s .P) a e))
+
+pub path-lawful : (D : Decision) → Rising (D .live) → Lawful (pathSystem D)
+unfolding pathStep pathFinals
+path-lawful D h =
+    record {
+      equal-sound = path-sound D;
+      equal-self = λ s. and-both (same-self (s .P)) (same-self (s .S));
+      dead-stays = λ s l e. none-after (D .left) (s .P) (l .atom) (l .relation) e;
+      dead-ends = path-ends D;
+      finals-rising = λ s. pairwise-filter _<_ (λ a. ends (D .left) (s .P) a && not (ends (D .right) (s .S) a)) (D .live) h;
+      finals-live = λ s a i. filter-in (λ b. ends (D .left) (s .P) b && not (ends (D .right) (s .S) b)) (D .live) i .0;
+      alone-rising = alone-rises D h;
+      alone-live = alone-lives D;
+      live-rising = h;
+    }
+
+ring-sound : (D : Decision) (s t : Ring) → ringSystem D .equal s t ≡ true → s ≡ t
+ring-sound D s t e =
+    let f : Bool = eqb (s .first) (t .first) in
+    let z : Bool = Bool·beq (s .Z) (t .Z) in
+    let p : Bool = same (s .P) (t .P) in
+    let m : Bool = sameRows (s .M) (t .M) in
+    let n : Bool = sameRows (s .N) (t .N) in
+    let e₃ : (f && z && p && m) ≡ true = and-left (f && z && p && m) n e in
+    let e₂ : (f && z && p) ≡ true = and-left (f && z && p) m e₃ in
+    let e₁ : (f && z) ≡ true = and-left (f && z) p e₂ in
+    let firsts : s .first ≡ t .first = eqb-true (s .first) (t .first) (and-left f z e₁) in
+    let flags : s .Z ≡ t .Z = beq-sound (s .Z) (t .Z) (and-right f z e₁) in
+    let reads : s .P ≡ t .P = same-sound (s .P) (t .P) (and-right (f && z) p e₂) in
+    let ms : s .M ≡ t .M = rows-sound (s .M) (t .M) (and-right (f && z && p) m e₃) in
+    let ns : s .N ≡ t .N = rows-sound (s .N) (t .N) (and-right (f && z && p && m) n e) in
+    λ i. record { first = firsts i; Z = flags i; P = reads i; M = ms i; N = ns i }
+
+ring-self : (D : Decision) (s : Ring) → ringSystem D .equal s s ≡ true
+ring-self D s =
+    and-both (and-both (and-both (and-both (eq-eqb (s .first) (s .first) refl) (beq-self (s .Z))) (same-self (s .P))) (rows-self (s .M)))
+    (rows-self (s .N))
+
+-- a ring completes with its first atom or not at all
+module _ (D : Decision) (s : Ring) where
+  ring-ends : not (isEmpty (s .P)) ≡ false → ringFinals D s ≡ []
+  unfolding ringFinals
+  ring-ends e = rw (none-ends (D .left) (s .P) (s .first) e, and-false (member (s .first) (D .live))) refl
+
+  ring-rises : Rising (ringFinals D s)
+  unfolding ringFinals
+  ring-rises = go (member (s .first) (D .live) && ends (D .left) (s .P) (s .first) && not (covered D s))
+    where
+      go : (b : Bool) → Rising (cond b (s .first ∷ []) [])
+      go true = (λ y i. elim i [ ], tt)
+      go false = tt
+
+  ring-lives : (a : ℕ) → In a (ringFinals D s) → In a (D .live)
+  unfolding ringFinals
+  ring-lives a i = go (member (s .first) (D .live)) (ends (D .left) (s .P) (s .first)) (not (covered D s)) refl i
+    where
+      go : (m e n : Bool) → member (s .first) (D .live) ≡ m → In a (cond (m && e && n) (s .first ∷ []) []) → In a (D .live)
+      go true true true h (here q) = subst (λ b. In b (D .live)) (sym q) (member-in (s .first) (D .live) h)
+
+pub ring-lawful : (D : Decision) → Rising (D .live) → Lawful (ringSystem D)
+unfolding ringStep
+ring-lawful D h =
+    record {
+      equal-sound = ring-sound D;
+      equal-self = ring-self D;
+      dead-stays = λ s l e. none-after (D .left) (s .P) (l .atom) (l .relation) e;
+      dead-ends = ring-ends D;
+      finals-rising = ring-rises D;
+      finals-live = ring-lives D;
+      alone-rising = alone-rises D h;
+      alone-live = alone-lives D;
+      live-rising = h;
+    }
+
+-- the atoms of a query rise, so that its decisions have the laws
+pub live-rising : (q : Query) → Rising (live q)
+unfolding live
+live-rising q =
+    pairwise-filter _<_ (λ a. not (removed q a)) (upto 0 (atoms q)) (rising-upto 0 (atoms q))
+
+pub decision-rising : (q : Query) (c : Claim) → Rising (decision q c .live)
+unfolding decision
+decision-rising q (includes e f) = live-rising q
+decision-rising q (empty e) = live-rising q
+decision-rising q (irreflexive e) = live-rising q
