@@ -23,6 +23,7 @@ use Rattle.claims.specs.Passing.{passes, refuting, completes}
 use Rattle.claims.specs.Verdicts.{GuardedWord}
 use Rattle.claims.specs.Words.{Refutes}
 use Rattle.claims.specs.Calls.{Passed, passedProved, passedRefuted, passedOf, checked}
+use Rattle.claims.proofs.Results.{refused-not-ok, provided-some}
 use Rattle.claims.proofs.Pairwise.{Rising}
 use Rattle.claims.proofs.Lawful.{Lawful, path-lawful, ring-lawful}
 use Rattle.claims.proofs.Passing.{passing-proved-refutes-none}
@@ -36,10 +37,6 @@ given x y r false e = absurd (let z : _≡_ {A = ℕ} 0 1 = cc in omega arith)
 
 abbrev fails : Refusal
 fails = record { cause = doesNotPass; place = 0 }
-
--- two results that cannot be equal
-never-ok : {A : Type 0} {x : A} {r : Refusal} → _≡_ {A = Result A} (refused r) (ok x) → ⊥
-never-ok e = let z : _≡_ {A = ℕ} 0 1 = cc in omega arith
 
 module _ (S : System) where
   never-both : {ss : List (S .Standing)} {w : Word} → _≡_ {A = Result (Said S)} (ok (saysProved ss)) (ok (saysRefuted w)) → ⊥
@@ -77,7 +74,7 @@ module _ (S : System) where
       where
         go : (b : Bool) → GivesWord (elim b [ true ↦ ok (saysProved listed) | false ↦ refuse sheetField k ]) w → ⊥
         go true h = never-both h
-        go false h = never-ok h
+        go false h = refused-not-ok h
     standings-no-word (suc n) k listed bs w e =
         go (isEmpty bs) (standingIn S standingOf listed (nextField bs)) (λ l cs h. standings-no-word n (suc k) l cs w h) e
       where
@@ -88,13 +85,13 @@ module _ (S : System) where
               | false ↦ elim o [ none ↦ refuse sheetField k | some s ↦ standingsIn S standingOf n (suc k) (listed ++ (s ∷ [])) (afterField (nextField bs)) ]
             ]) w → ⊥
         go true o ih h = never-both h
-        go false none ih h = never-ok h
+        go false none ih h = refused-not-ok h
         go false (some s) ih h = ih (listed ++ (s ∷ [])) (afterField (nextField bs)) h
 
     word-in-field : (read : List ℕ → Option Word) (f : Field) (w : Word)
         → wordIn S standingOf read f ≡ ok (saysRefuted w) → (ns : List ℕ) × (read ns ≡ some w)
     unfolding wordIn
-    word-in-field read cut w e = absurd (never-ok e)
+    word-in-field read cut w e = refused-not-ok e
     word-in-field read (whole tag contents rest) w e = go (eqb tag 2) (read contents) rest refl e
       where
         go : (b : Bool) (o : Option Word) (rest : List ℕ) → read contents ≡ o
@@ -102,15 +99,15 @@ module _ (S : System) where
               | false ↦ refuse sheetField 2
               | true ↦ elim o [ none ↦ refuse sheetField 2 | some v ↦ elim rest [ [] ↦ ok (saysRefuted v) | c ∷ cs ↦ refuse sheetField 3 ] ]
             ]) w → (ns : List ℕ) × (read ns ≡ some w)
-        go false o rest r h = absurd (never-ok h)
-        go true none rest r h = absurd (never-ok h)
+        go false o rest r h = refused-not-ok h
+        go true none rest r h = refused-not-ok h
         go true (some v) [] r h = (contents, r ∙ ap some (let k : v ≡ w = cc in k))
-        go true (some v) (c ∷ cs) r h = absurd (never-ok h)
+        go true (some v) (c ∷ cs) r h = refused-not-ok h
 
     word-in-verdict : (read : List ℕ → Option Word) (f : Field) (w : Word)
         → verdictIn S standingOf read f ≡ ok (saysRefuted w) → (ns : List ℕ) × (read ns ≡ some w)
     unfolding verdictIn
-    word-in-verdict read cut w e = absurd (never-ok e)
+    word-in-verdict read cut w e = refused-not-ok e
     word-in-verdict read (whole tag contents rest) w e =
         go (eqb tag 1 && same contents (1 ∷ [])) (eqb tag 1 && same contents (2 ∷ [])) e
       where
@@ -121,7 +118,7 @@ module _ (S : System) where
             ]) w → (ns : List ℕ) × (read ns ≡ some w)
         go true c h = absurd (standings-no-word 4096 2 [] rest w h)
         go false true h = word-in-field read (nextField rest) w h
-        go false false h = absurd (never-ok h)
+        go false false h = refused-not-ok h
 
     -- the word of a refuted sheet was read from numbers
     word-was-read : (read : List ℕ → Option Word) (bs : List ℕ) (w : Word)
@@ -129,16 +126,12 @@ module _ (S : System) where
     unfolding sheetIn
     word-was-read read bs w e = word-in-verdict read (nextField bs) w e
 
-some-given : {A : Type 0} (b : Bool) (x y : A) → provided b x ≡ some y → (b ≡ true) × (x ≡ y)
-some-given true x y e = (refl, cc)
-some-given false x y e = absurd (let z : _≡_ {A = ℕ} 0 1 = cc in omega arith)
-
 -- numbers that are read as a word are in range
 word-in-range : (D : Decision) (ns : List ℕ) (w : Word) → wordOf D ns ≡ some w → InRange D w
 unfolding wordOf
 word-in-range D [] w e = absurd (let z : _≡_ {A = ℕ} 0 1 = cc in omega arith)
 word-in-range D (a ∷ []) w e =
-    let (h, k) = some-given (ltb a (D .atoms)) (end a) w e in
+    let (h, k) = provided-some (ltb a (D .atoms)) (end a) w e in
     subst (InRange D) k (ltb-true a (D .atoms) h)
 word-in-range D (a ∷ r ∷ ns) w e = go (wordOf D ns) refl e (word-in-range D ns)
   where
@@ -147,7 +140,7 @@ word-in-range D (a ∷ r ∷ ns) w e = go (wordOf D ns) refl e (word-in-range D 
         → ((v : Word) → wordOf D ns ≡ some v → InRange D v) → InRange D w
     go none o h ih = absurd (let z : _≡_ {A = ℕ} 0 1 = cc in omega arith)
     go (some v) o h ih =
-        let (b, k) = some-given (ltb a (D .atoms) && ltb r (D .relations)) (at a r v) w h in
+        let (b, k) = provided-some (ltb a (D .atoms) && ltb r (D .relations)) (at a r v) w h in
         subst (InRange D) k (
           ltb-true a (D .atoms) (and-left (ltb a (D .atoms)) (ltb r (D .relations)) b),
           ltb-true r (D .relations) (and-right (ltb a (D .atoms)) (ltb r (D .relations)) b),

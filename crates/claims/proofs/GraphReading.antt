@@ -23,6 +23,7 @@ use Rattle.claims.specs.Query.{Query, atoms, relations}
 use Rattle.claims.specs.Meaning.{Execution}
 use Rattle.claims.specs.Verdicts.{Distinct}
 use Rattle.claims.specs.GraphBytes.{Edge, Listed, sameEdge, Ranges, withEvent, withEdge, withField, fieldsIn, graphIn, finite}
+use Rattle.claims.proofs.Results.{provided-some}
 
 -- the test on edges is equality
 pub same-edge : (e f : Edge) → sameEdge e f ≡ true → e ≡ f
@@ -61,10 +62,6 @@ pub record Accepted (R : Ranges) (L : Listed) : Type 0 where
   pub to-event : (e : Edge) → In e (L .edges) → e .to < length (L .atoms)
   pub at-most-64 : length (L .atoms) ≤ 64
   pub once-each : Distinct (L .edges)
-
-pub provided-some : {A : Type 0} (b : Bool) (a c : A) → provided b a ≡ some c → (b ≡ true) × (a ≡ c)
-provided-some true a c e = (refl, cc)
-provided-some false a c e = let z : _≡_ {A = ℕ} 0 1 = cc in absurd (omega arith)
 
 in-one-more : {A : Type 0} {x y : A} (l : List A) → In x (l ++ (y ∷ [])) → In x l ⊎ (x ≡ y)
 in-one-more {x = x} {y = y} l i = ⊎-elim (λ h. inl h) (λ h. inr (only h)) (in-append l i)

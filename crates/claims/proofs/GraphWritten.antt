@@ -20,7 +20,8 @@ use Rattle.claims.specs.Fields.{Field, whole, cut, contentsOf, nextField
 use Rattle.claims.specs.Refusals.{Result, ok, refuse, graphField}
 use Rattle.claims.specs.Verdicts.{Distinct}
 use Rattle.claims.specs.GraphBytes.{Edge, Listed, sameEdge, Ranges, withEvent, withEdge, withField, fieldsIn, graphIn}
-use Rattle.claims.proofs.GraphReading.{same-edge, Accepted, graph-accepted, provided-some, moreEvent, moreEdge, eventFits, edgeFits}
+use Rattle.claims.proofs.Results.{provided-some}
+use Rattle.claims.proofs.GraphReading.{same-edge, Accepted, graph-accepted, moreEvent, moreEdge, eventFits, edgeFits}
 
 -- one after the other, what f makes of each
 abbrev pub joined : {A : Type 0} → (A → List ℕ) → List A → List ℕ

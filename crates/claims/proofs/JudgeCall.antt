@@ -17,13 +17,9 @@ use Rattle.claims.specs.Meaning.{Execution}
 use Rattle.claims.specs.GraphBytes.{Listed, Ranges, graphIn, finite}
 use Rattle.claims.specs.Judgement.{Judgement, judgement}
 use Rattle.claims.specs.Calls.{Asked, asked, judge-call}
+use Rattle.claims.proofs.Results.{onward-ok}
 use Rattle.claims.proofs.Judging.{JudgementIsMeaning, judgement-is-meaning}
 use Rattle.claims.proofs.GraphReading.{Accepted, rangesOf, graph-accepted, edges-of-relations, accepted-is-execution}
-
--- an answer onward comes from an answer before
-onward-ok : {A B : Type 0} (m : Result A) (k : A → Result B) (b : B) → onward m k ≡ ok b → (a : A) × (m ≡ ok a) × (k a ≡ ok b)
-onward-ok (ok a) k b e = (a, refl, e)
-onward-ok (refused r) k b e = let z : _≡_ {A = ℕ} 0 1 = cc in absurd (omega arith)
 
 -- what was asked is what was read, its claim, and their decision
 pub record IsAsked (bs : List ℕ) (a : Asked) : Type 0 where
@@ -34,7 +30,7 @@ pub record IsAsked (bs : List ℕ) (a : Asked) : Type 0 where
 pub asked-is : (bs : List ℕ) (a : Asked) → asked bs ≡ ok a → IsAsked bs a
 unfolding asked
 asked-is bs a e =
-    let (q, r, d) = onward-ok (read bs) _ a e in
+    let (q, r, d) = onward-ok (read bs) _ e in
     go q r (claimOf q) refl d
   where
     go : (q : Query) → read bs ≡ ok q → (o : Option Claim) → claimOf q ≡ o
@@ -97,8 +93,8 @@ judged-from bs gs a L j r l p =
 pub judge-call-is-meaning : (bs gs : List ℕ) (j : Judgement) → judge-call bs gs ≡ ok j → Judged bs gs j
 unfolding judge-call
 judge-call-is-meaning bs gs j e =
-    let (a, r, d) = onward-ok (asked bs) _ j e in
-    let (L, l, k) = onward-ok (graphIn (decidedRanges (a .decided)) gs) _ j d in
+    let (a, r, d) = onward-ok (asked bs) _ e in
+    let (L, l, k) = onward-ok (graphIn (decidedRanges (a .decided)) gs) _ d in
     judged-from bs gs a L j r l (cc)
 
 -- and there is no other answer: the call gives whatever is such

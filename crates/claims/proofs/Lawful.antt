@@ -11,9 +11,10 @@ use borrow.Author.Tests.{eqb-true, eq-eqb}
 use Rattle.kat.specs.Expr.{Expr}
 use Rattle.kat.specs.Lists.{upto, filter, some, member, isEmpty, In, here}
 use Rattle.kat.specs.Tables.{occurrences, reads, null, after, ends}
-use Rattle.kat.proofs.Sets.{filter-in, member-in}
+use Rattle.kat.proofs.Sets.{filter-in, member-in, filter-none}
 use Rattle.kat.proofs.Bools.{and-left, and-right, and-both}
 use Rattle.claims.specs.Bytes.{same}
+use Rattle.claims.proofs.Results.{same-is-equal, same-self}
 use Rattle.claims.specs.Query.{Query, atoms, removed, live}
 use Rattle.claims.specs.Sides.{Decision, decision}
 use Rattle.claims.specs.Tree.{Claim, includes, empty, irreflexive}
@@ -33,23 +34,12 @@ pub record Lawful (S : System) : Type 0 where
   pub live-rising : Rising (S .live)
 
 -- the tests of lists are equality
-pub same-sound : (xs ys : List ℕ) → same xs ys ≡ true → xs ≡ ys
-same-sound [] [] e = refl
-same-sound [] (y ∷ ys) e = absurd (true≢false (sym e))
-same-sound (x ∷ xs) [] e = absurd (true≢false (sym e))
-same-sound (x ∷ xs) (y ∷ ys) e =
-    ap₂ _∷_ (eqb-true x y (and-left (eqb x y) (same xs ys) e)) (same-sound xs ys (and-right (eqb x y) (same xs ys) e))
-
-pub same-self : (xs : List ℕ) → same xs xs ≡ true
-same-self [] = refl
-same-self (x ∷ xs) = and-both (eq-eqb x x refl) (same-self xs)
-
 rows-sound : (xs ys : List (List ℕ)) → sameRows xs ys ≡ true → xs ≡ ys
 rows-sound [] [] e = refl
 rows-sound [] (y ∷ ys) e = absurd (true≢false (sym e))
 rows-sound (x ∷ xs) [] e = absurd (true≢false (sym e))
 rows-sound (x ∷ xs) (y ∷ ys) e =
-    ap₂ _∷_ (same-sound x y (and-left (same x y) (sameRows xs ys) e)) (rows-sound xs ys (and-right (same x y) (sameRows xs ys) e))
+    ap₂ _∷_ (same-is-equal x y (and-left (same x y) (sameRows xs ys) e)) (rows-sound xs ys (and-right (same x y) (sameRows xs ys) e))
 
 rows-self : (xs : List (List ℕ)) → sameRows xs xs ≡ true
 rows-self [] = refl
@@ -64,11 +54,6 @@ beq-sound false false e = refl
 beq-self : (a : Bool) → Bool·beq a a ≡ true
 beq-self true = refl
 beq-self false = refl
-
--- a filter whose test never passes leaves nothing
-filter-none : (t : ℕ → Bool) (l : List ℕ) → ((a : ℕ) → t a ≡ false) → filter t l ≡ []
-filter-none t [] h = refl
-filter-none t (x ∷ xs) h = rw (h x) (filter-none t xs h)
 
 and-false : (a : Bool) → (a && false) ≡ false
 and-false true = refl
@@ -98,8 +83,8 @@ alone-lives D a i = filter-in (λ b. null (D .left) b && not (null (D .right) b)
 
 path-sound : (D : Decision) (s t : Path) → pathSystem D .equal s t ≡ true → s ≡ t
 path-sound D s t e =
-    let p : s .P ≡ t .P = same-sound (s .P) (t .P) (and-left (same (s .P) (t .P)) (same (s .S) (t .S)) e) in
-    let q : s .S ≡ t .S = same-sound (s .S) (t .S) (and-right (same (s .P) (t .P)) (same (s .S) (t .S)) e) in
+    let p : s .P ≡ t .P = same-is-equal (s .P) (t .P) (and-left (same (s .P) (t .P)) (same (s .S) (t .S)) e) in
+    let q : s .S ≡ t .S = same-is-equal (s .S) (t .S) (and-right (same (s .P) (t .P)) (same (s .S) (t .S)) e) in
     λ i. record { P = p i; S = q i }
 
 path-ends : (D : Decision) (s : Path) → not (isEmpty (s .P)) ≡ false → pathFinals D s ≡ []
@@ -135,7 +120,7 @@ ring-sound D s t e =
     let e₁ : (f && z) ≡ true = and-left (f && z) p e₂ in
     let firsts : s .first ≡ t .first = eqb-true (s .first) (t .first) (and-left f z e₁) in
     let flags : s .Z ≡ t .Z = beq-sound (s .Z) (t .Z) (and-right f z e₁) in
-    let reads : s .P ≡ t .P = same-sound (s .P) (t .P) (and-right (f && z) p e₂) in
+    let reads : s .P ≡ t .P = same-is-equal (s .P) (t .P) (and-right (f && z) p e₂) in
     let ms : s .M ≡ t .M = rows-sound (s .M) (t .M) (and-right (f && z && p) m e₃) in
     let ns : s .N ≡ t .N = rows-sound (s .N) (t .N) (and-right (f && z && p && m) n e) in
     λ i. record { first = firsts i; Z = flags i; P = reads i; M = ms i; N = ns i }

@@ -1,6 +1,16 @@
 -- The cases.
 pub mod Evaluate
 pub mod Cases
+-- Small laws.
+pub mod Results
+-- The order of refusals.
+pub mod FirstFault
+pub mod LineOrder
+pub mod Precedence
+pub mod ClaimLast
+pub mod SearchOrder
+pub mod SearchMemory
+pub mod CheckOrder
 -- Standings of prefixes, and refuting words.
 pub mod Rows
 pub mod PathStandings
@@ -37,6 +47,7 @@ pub mod SheetOfBytes
 pub mod Checked
 pub mod Written
 -- Graphs.
+pub mod Lifting
 pub mod Replacement
 pub mod Soundness
 pub mod Pairs
@@ -46,5 +57,14 @@ pub mod Judging
 pub mod GraphReading
 pub mod JudgeCall
 pub mod GraphWritten
+-- Drawn graphs.
+pub mod Filled
+pub mod Laid
+pub mod LeftWords
+pub mod LaidWalks
+pub mod DrawnLines
+pub mod DrawnPath
+pub mod DrawnRing
+pub mod Drawn
 -- What a sheet means.
 pub mod Sheets

@@ -25,15 +25,8 @@ use Rattle.claims.specs.Reading.{badLine, crowded, claimOf, readLine, re
 use Rattle.claims.specs.Refusals.{Refusal, Result, ok, refused, onward}
 use Rattle.claims.specs.Sides.{Decision, decision}
 use Rattle.claims.specs.Calls.{Asked, asked}
+use Rattle.claims.proofs.Results.{refused-not-ok, onward-ok, each-append}
 use Rattle.claims.proofs.Counts.{counted-left, counted-right}
-
--- a refusal is no value
-refused-not-ok : {A : Type 0} {B : Type 0} {r : Refusal} {a : A} → refused r ≡ ok a → B
-refused-not-ok e = let z : _≡_ {A = ℕ} 0 1 = cc in absurd (omega arith)
-
-onward-ok : {A B : Type 0} (x : Result A) (k : A → Result B) {b : B} → onward x k ≡ ok b → (a : A) × (x ≡ ok a) × (k a ≡ ok b)
-onward-ok (ok a) k e = (a, refl, e)
-onward-ok (refused r) k e = refused-not-ok e
 
 module _ {A : Type 0} where
   -- a test that a value has passed
@@ -63,10 +56,6 @@ pub record Declared (q : Query) : Type 0 where
   pub tests : length (tests q) ≤ 6
   pub relations : length (relations q) ≤ 16
   pub lets : length (each lets q) ≤ 32
-
-each-append : {A : Type 0} (f : Line → List A) (q r : Query) → each f (q ++ r) ≡ each f q ++ each f r
-each-append f [] r = refl
-each-append f (l ∷ q) r = ap (λ x. f l ++ x) (each-append f q r) ∙ sym (append-assoc (f l) (each f q) (each f r))
 
 each-more : {A : Type 0} (f : Line → List A) (q : Query) (x : Line) → length (each f (q ++ (x ∷ []))) ≡ length (each f q) + length (f x)
 each-more f q x =

@@ -1,43 +1,29 @@
 -- Replacement is right: in a graph that meets the `within` and `closed` lines each relation and what it stands for mean the same, and so
 -- do an expression as written and the side made of it. The limits of a relation hold at both ends of its edges, so the tests around
--- a step change nothing; a closed relation is its own `+`. Lets are expanded name by name in the same way on both sides.
+-- a step change nothing; a closed relation is its own `+`. From the relations it passes to every expression (`Lifting.antt`).
 -- Assumes nothing.
 use Prim.Native.Nat.{ℕ}
 use mathlib.Core.Path.{_≡_, refl, sym, _∙_, ap, subst}
-use mathlib.Core.Logic.{_⊎_, ⊎-elim, _↔_}
+use mathlib.Core.Logic.{⊎-elim, _↔_}
 use mathlib.Core.Logic._⊎_.{inl, inr}
-use mathlib.Core.Bool.{Bool, true, false, _&&_, true≢false}
-use mathlib.Core.List.{List, [], _∷_, _++_}
+use mathlib.Core.Bool.{Bool, true, false, true≢false}
+use mathlib.Core.List.{List, [], _∷_}
 use lib.Dec.{eqb}
 use borrow.Author.Tests.{eqb-true, eq-eqb}
-use Rattle.kat.specs.Expr.{Expr, step, test, alt, seq, plus as repeated, none as nowhere}
-use Rattle.kat.specs.Lists.{In, here, there, some}
+use Rattle.kat.specs.Expr.{Expr, test, seq, plus as repeated}
+use Rattle.kat.specs.Lists.{In, here, there}
 use Rattle.kat.specs.Graph.{Graph, Rel, Plus, once, more}
-use Rattle.kat.proofs.Bools.{and-left, and-right, and-both}
+use Rattle.kat.proofs.Bools.{and-left, and-right}
 use Rattle.kat.proofs.Sets.{some-in, in-append}
 use Rattle.claims.specs.Bytes.{same}
-use Rattle.claims.specs.Tree.{Name, TestTree, Tree, name, tested, union, sequence, star, plus, opt, Line, testLine, relLine, letLine, neverLine, withinLine, closedLine, assumeEmpty, assumeIrreflexive, claimLine}
-use Rattle.claims.specs.Query.{Query, Bound, Limit, each, lookup, bound, boundLets, names, indexOf, tests, relations, lets, limits, closings, closed, holds}
-use Rattle.claims.specs.Sides.{expand, meant, single, bounded, replaced, side}
+use Rattle.claims.specs.Tree.{Name, TestTree, Tree, Line, withinLine, closedLine}
+use Rattle.claims.specs.Query.{Query, Limit, each, indexOf, tests, relations, limits, closings, closed, holds}
+use Rattle.claims.specs.Sides.{meant, single, bounded, replaced, side}
 use Rattle.claims.specs.Meaning.{Related, Meets}
+use Rattle.claims.proofs.Results.{same-is-equal, each-in}
+use Rattle.claims.proofs.Lifting.{Passes, meant-lifted}
 
--- two names whose bytes are equal
-pub same-is-equal : (m n : List ℕ) → same m n ≡ true → m ≡ n
-same-is-equal [] [] e = refl
-same-is-equal [] (y ∷ ys) e = absurd (true≢false (sym e))
-same-is-equal (x ∷ xs) [] e = absurd (true≢false (sym e))
-same-is-equal (x ∷ xs) (y ∷ ys) e =
-    let h : x ≡ y = eqb-true x y (and-left (eqb x y) (same xs ys) e) in
-    let t : xs ≡ ys = same-is-equal xs ys (and-right (eqb x y) (same xs ys) e) in
-    ap (λ z. z ∷ xs) h ∙ ap (λ zs. y ∷ zs) t
-
--- what each line gives comes from a line
-pub each-in : {A : Type 0} (f : Line → List A) (q : Query) (a : A) → In a (each f q) → (l : Line) × In l q × In a (f l)
-each-in f [] a i = elim i [ ]
-each-in f (l ∷ q) a i =
-    ⊎-elim (λ h. (l, here refl, h)) (λ h. let (m, j, k) = each-in f q a h in (m, there j, k)) (in-append (f l) i)
-
-limit-line : (n : Name) (l : Line) (b : Limit) → In b (limits n l) → l ≡ withinLine n (b .from) (b .to)
+pub limit-line : (n : Name) (l : Line) (b : Limit) → In b (limits n l) → l ≡ withinLine n (b .from) (b .to)
 unfolding limits
 limit-line n (withinLine m t u) b i = go (same n m) refl i
   where
@@ -50,7 +36,7 @@ closing-line : (n : Name) (l : Line) → In n (closings l) → l ≡ closedLine 
 unfolding closings
 closing-line n (closedLine m) (here e) = ap closedLine (sym e)
 
-closed-line : (q : Query) (n : Name) → closed q n ≡ true → In (closedLine n) q
+pub closed-line : (q : Query) (n : Name) → closed q n ≡ true → In (closedLine n) q
 unfolding closed
 closed-line q n e =
     let (m, i, h) = some-in (same n) (each closings q) e in
@@ -62,107 +48,58 @@ module _ (G : Graph) where
   abbrev pub Alike : Expr → Expr → Type 0
   Alike E F = (x y : G .Event) → Rel G E x y ↔ Rel G F x y
 
-  plus-map : {R Q : G .Event → G .Event → Type 0} → ((x y : G .Event) → R x y → Q x y) → {x y : G .Event} → Plus R x y → Plus Q x y
+  pub plus-map : {R Q : G .Event → G .Event → Type 0} → ((x y : G .Event) → R x y → Q x y) → {x y : G .Event} → Plus R x y → Plus Q x y
   plus-map f (once {x = x} {y = y} h) = once (f x y h)
   plus-map f (more {x = x} {y = y} h t) = more (f x y h) (plus-map f t)
 
-  plus-transitive : {R : G .Event → G .Event → Type 0} → ((x y z : G .Event) → R x y → R y z → R x z) → {x y : G .Event} → Plus R x y → R x y
+  pub plus-transitive : {R : G .Event → G .Event → Type 0} → ((x y z : G .Event) → R x y → R y z → R x z) → {x y : G .Event} → Plus R x y → R x y
   plus-transitive f (once h) = h
   plus-transitive f (more {x = x} {y = y} {z = z} h t) = f x y z h (plus-transitive f t)
 
-  alt-alike : (E F E' F' : Expr) → Alike E E' → Alike F F' → Alike (alt E F) (alt E' F')
-  alt-alike E F E' F' f g x y =
-      ((λ h. ⊎-elim (λ k. inl (f x y .0 k)) (λ k. inr (g x y .0 k)) h), (λ h. ⊎-elim (λ k. inl (f x y .1 k)) (λ k. inr (g x y .1 k)) h))
-
-  seq-alike : (E F E' F' : Expr) → Alike E E' → Alike F F' → Alike (seq E F) (seq E' F')
-  seq-alike E F E' F' f g x y = ((λ (z, h, k). (z, f x z .0 h, g z y .0 k)), (λ (z, h, k). (z, f x z .1 h, g z y .1 k)))
-
-  plus-alike : (E E' : Expr) → Alike E E' → Alike (repeated E) (repeated E')
-  plus-alike E E' f x y = ((λ t. plus-map (λ u v. f u v .0) t), (λ t. plus-map (λ u v. f u v .1) t))
-
-  abbrev everywhere : Expr
-  everywhere = test (λ a. true)
-
-  alike-refl : (E : Expr) → Alike E E
-  alike-refl E x y = ((λ h. h), (λ h. h))
-
-  -- names bound to expressions that relate the same events
-  abbrev EnvAlike : List (Bound Expr) → List (Bound Expr) → Type 0
-  EnvAlike [] [] = Unit {0}
-  EnvAlike [] (c ∷ cs) = ⊥
-  EnvAlike (b ∷ bs) [] = ⊥
-  EnvAlike (b ∷ bs) (c ∷ cs) = (b .called ≡ c .called) × Alike (b .means) (c .means) × EnvAlike bs cs
-
-  lookup-alike : (n : Name) (bs cs : List (Bound Expr)) → EnvAlike bs cs → Alike (lookup nowhere n bs) (lookup nowhere n cs)
-  lookup-alike n [] [] h = alike-refl nowhere
-  lookup-alike n (b ∷ bs) (c ∷ cs) (e, f, g) =
-      subst
-      (λ z. Alike (elim (same n (b .called)) [ true ↦ b .means | false ↦ lookup nowhere n bs ])
-      (elim z [ true ↦ c .means | false ↦ lookup nowhere n cs ]))
-      (ap (same n) e) (go (same n (b .called)) (lookup-alike n bs cs g))
-    where
-      go : (z : Bool) → Alike (lookup nowhere n bs) (lookup nowhere n cs)
-          → Alike (elim z [ true ↦ b .means | false ↦ lookup nowhere n bs ]) (elim z [ true ↦ c .means | false ↦ lookup nowhere n cs ])
-      go true k = f
-      go false k = k
-
-  expand-alike : (ts : List Name) (bs cs : List (Bound Expr)) → EnvAlike bs cs → (e : Tree) → Alike (expand ts bs e) (expand ts cs e)
-  unfolding expand
-  expand-alike ts bs cs h (name n) = lookup-alike n bs cs h
-  expand-alike ts bs cs h (tested t) = alike-refl (test (holds ts t))
-  expand-alike ts bs cs h (union e f) =
-      alt-alike (expand ts bs e) (expand ts bs f) (expand ts cs e) (expand ts cs f) (expand-alike ts bs cs h e) (expand-alike ts bs cs h f)
-  expand-alike ts bs cs h (sequence e f) =
-      seq-alike (expand ts bs e) (expand ts bs f) (expand ts cs e) (expand ts cs f) (expand-alike ts bs cs h e) (expand-alike ts bs cs h f)
-  expand-alike ts bs cs h (star e) =
-      alt-alike (repeated (expand ts bs e)) everywhere (repeated (expand ts cs e)) everywhere
-      (plus-alike (expand ts bs e) (expand ts cs e) (expand-alike ts bs cs h e)) (alike-refl everywhere)
-  expand-alike ts bs cs h (plus e) = plus-alike (expand ts bs e) (expand ts cs e) (expand-alike ts bs cs h e)
-  expand-alike ts bs cs h (opt e) =
-      alt-alike (expand ts bs e) everywhere (expand ts cs e) everywhere (expand-alike ts bs cs h e) (alike-refl everywhere)
-
-  bound-alike : (v w : Name → Expr) → ((n : Name) → Alike (v n) (w n)) → (ns : List Name) → EnvAlike (bound v ns) (bound w ns)
-  bound-alike v w h [] = tt
-  bound-alike v w h (n ∷ ns) = (refl, h n, bound-alike v w h ns)
-
-  more-alike : (bs cs : List (Bound Expr)) (b c : Bound Expr) → EnvAlike bs cs → b .called ≡ c .called → Alike (b .means) (c .means)
-      → EnvAlike (bs ++ (b ∷ [])) (cs ++ (c ∷ []))
-  more-alike [] [] b c h e f = (e, f, tt)
-  more-alike (x ∷ bs) (y ∷ cs) b c (p, q, h) e f = (p, q, more-alike bs cs b c h e f)
-
-  lets-alike : (ts : List Name) (bs cs : List (Bound Expr)) → EnvAlike bs cs → (ds : List (Bound Tree))
-      → EnvAlike (boundLets (expand ts) bs ds) (boundLets (expand ts) cs ds)
-  lets-alike ts bs cs h [] = h
-  lets-alike ts bs cs h (d ∷ ds) =
-      lets-alike ts (bs ++ (record { called = d .called; means = expand ts bs (d .means) } ∷ []))
-      (cs ++ (record { called = d .called; means = expand ts cs (d .means) } ∷ []))
-      (more-alike bs cs (record { called = d .called; means = expand ts bs (d .means) })
-      (record { called = d .called; means = expand ts cs (d .means) }) h refl (expand-alike ts bs cs h (d .means))) ds
+  alike-passes : Passes Alike
+  alike-passes =
+      record {
+        of-test = λ s x y. ((λ h. h), (λ h. h));
+        of-alt = λ E F E' F' f g x y.
+            ((λ h. ⊎-elim (λ k. inl (f x y .0 k)) (λ k. inr (g x y .0 k)) h), (λ h. ⊎-elim (λ k. inl (f x y .1 k)) (λ k. inr (g x y .1 k)) h));
+        of-seq = λ E F E' F' f g x y. ((λ (z, h, k). (z, f x z .0 h, g z y .0 k)), (λ (z, h, k). (z, f x z .1 h, g z y .1 k)));
+        of-plus = λ E E' f x y. ((λ t. plus-map (λ u v. f u v .0) t), (λ t. plus-map (λ u v. f u v .1) t));
+      }
 
   -- an expression means the same where each relation does
   pub meant-alike : (q : Query) (v w : Name → Expr) → ((n : Name) → Alike (v n) (w n)) → (e : Tree) → Alike (meant q v e) (meant q w e)
-  unfolding meant names
-  meant-alike q v w h e =
-      expand-alike (tests q) (boundLets (expand (tests q)) (bound v (relations q)) (each lets q))
-      (boundLets (expand (tests q)) (bound w (relations q)) (each lets q))
-      (lets-alike (tests q) (bound v (relations q)) (bound w (relations q)) (bound-alike v w h (relations q)) (each lets q)) e
+  meant-alike = meant-lifted Alike alike-passes
 
-  -- a test before and after changes nothing where both hold
-  bounded-alike : (ts : List Name) (ls : List Limit) (e : Expr)
-      → ((l : Limit) → In l ls → (x y : G .Event) → Rel G e x y
-      → (holds ts (l .from) (G .atom x) ≡ true) × (holds ts (l .to) (G .atom y) ≡ true))
-      → Alike e (bounded ts ls e)
+  -- the tests of the limits hold at both ends
+  abbrev pub Between : List Name → List Limit → G .Event → G .Event → Type 0
+  Between ts ls x y = (l : Limit) → In l ls → (holds ts (l .from) (G .atom x) ≡ true) × (holds ts (l .to) (G .atom y) ≡ true)
+
+  between-more : (ts : List Name) (l : Limit) (ls : List Limit) (x y : G .Event) → holds ts (l .from) (G .atom x) ≡ true
+      → holds ts (l .to) (G .atom y) ≡ true → Between ts ls x y → Between ts (l ∷ ls) x y
+  between-more ts l ls x y a c b m (here e) =
+      subst (λ (z : Limit). (holds ts (z .from) (G .atom x) ≡ true) × (holds ts (z .to) (G .atom y) ≡ true)) (sym e) (a, c)
+  between-more ts l ls x y a c b m (there i) = b m i
+
+  -- a pair of an expression between limits is a pair of the expression at whose ends the tests hold
+  pub bounded-means : (ts : List Name) (ls : List Limit) (e : Expr) (x y : G .Event)
+      → Rel G (bounded ts ls e) x y ↔ (Rel G e x y × Between ts ls x y)
   unfolding bounded
-  bounded-alike ts [] e h x y = ((λ k. k), (λ k. k))
-  bounded-alike ts (l ∷ ls) e h x y =
-      let f : Expr = seq (seq (test (holds ts (l .from))) e) (test (holds ts (l .to))) in
-      let ih : Alike f (bounded ts ls f) = bounded-alike ts ls f (λ m i u v k. h m (there i) u v (out u v k)) in
-      ((λ k. let (a, b) = h l (here refl) x y k in ih x y .0 (y, (x, (refl, a), k), (refl, b))), (λ k. out x y (ih x y .1 k)))
+  bounded-means ts [] e x y = ((λ k. (k, (λ l i. elim i [ ]))), (λ (k, b). k))
+  bounded-means ts (l ∷ ls) e x y =
+      let ih = bounded-means ts ls (seq (seq (test (holds ts (l .from))) e) (test (holds ts (l .to)))) x y in (
+        (λ k.
+            let (j, b) = ih .0 k in
+            let (m, a, c) = out j in
+            (m, between-more ts l ls x y a c b)),
+        (λ (k, b). let (a, c) = b l (here refl) in ih .1 ((y, (x, (refl, a), k), (refl, c)), λ m i. b m (there i))),
+      )
     where
-      out : (u v : G .Event) → Rel G (seq (seq (test (holds ts (l .from))) e) (test (holds ts (l .to)))) u v → Rel G e u v
-      out u v (z, (w, (p, a), k), (r, b)) = subst (Rel G e u) r (subst (λ t. Rel G e t z) (sym p) k)
+      out : Rel G (seq (seq (test (holds ts (l .from))) e) (test (holds ts (l .to)))) x y
+          → Rel G e x y × (holds ts (l .from) (G .atom x) ≡ true) × (holds ts (l .to) (G .atom y) ≡ true)
+      out (z, (w, (p, a), k), (r, b)) =
+          (subst (Rel G e x) r (subst (λ t. Rel G e t z) (sym p) k), a, subst (λ t. holds ts (l .to) (G .atom t) ≡ true) r b)
 
-  single-edge : (q : Query) (n : Name) (x y : G .Event) → Rel G (single q n) x y ↔ G .edge (indexOf n (relations q)) x y
+  pub single-edge : (q : Query) (n : Name) (x y : G .Event) → Rel G (single q n) x y ↔ G .edge (indexOf n (relations q)) x y
   unfolding single
   single-edge q n x y =
       let i : ℕ = indexOf n (relations q) in
@@ -172,11 +109,17 @@ module _ (G : Graph) where
       (kept : (n : Name) (t u : TestTree) → In (withinLine n t u) q → Meets G q (withinLine n t u))
       (shut : (n : Name) → In (closedLine n) q → Meets G q (closedLine n)) where
     limited-alike : (n : Name) → Alike (single q n) (bounded (tests q) (each (limits n) q) (single q n))
-    limited-alike n =
-        bounded-alike (tests q) (each (limits n) q) (single q n)
-        (λ b i x y h.
-        let (l, j, k) = each-in (limits n) q b i in
-        kept n (b .from) (b .to) (subst (λ z. In z q) (limit-line n l b k) j) x y (single-edge q n x y .0 h))
+    limited-alike n x y =
+        let means = bounded-means (tests q) (each (limits n) q) (single q n) x y in (
+          (λ h.
+              means .1 (
+                h,
+                λ b i.
+                    let (l, j, k) = each-in (limits n) q b i in
+                    kept n (b .from) (b .to) (subst (λ z. In z q) (limit-line n l b k) j) x y (single-edge q n x y .0 h),
+              )),
+          (λ k. means .0 k .0),
+        )
 
     -- each relation and what it stands for mean the same
     pub replacement-is-right : (n : Name) → Alike (single q n) (replaced q n)

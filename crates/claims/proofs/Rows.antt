@@ -5,25 +5,15 @@ use native.Mathlib.Omega.{arith}
 use mathlib.Core.Path.{_≡_, refl, sym, _∙_, ap, subst}
 use mathlib.Core.List.{List, [], _∷_, map}
 use lib.ListN.{length, getD, length-map}
-use Rattle.kat.specs.Lists.{counted, upto, In}
-
-counted-length : (i n : ℕ) → length (counted i n) ≡ n
-counted-length i zero = refl
-counted-length i (suc n) = ap suc (counted-length (suc i) n)
+use Rattle.kat.specs.Lists.{upto, In}
+use Rattle.kat.proofs.Sets.{at-upto, upto-length}
 
 module _ {A : Type 0} where
-  counted-row : (f : ℕ → List A) (i n k : ℕ) → k < n → getD (map f (counted i n)) k [] ≡ f (i + k)
-  counted-row f i zero k h = absurd (omega arith)
-  counted-row f i (suc n) zero h = let e : i ≡ i + 0 = omega arith in ap f e
-  counted-row f i (suc n) (suc k) h =
-      let e : suc i + k ≡ i + suc k = omega arith in
-      counted-row f (suc i) n k (omega arith) ∙ ap f e
-
   pub row-made : (f : ℕ → List A) (n k : ℕ) → k < n → getD (map f (upto 0 n)) k [] ≡ f k
-  row-made f n k h = let e : 0 + k ≡ k = omega arith in counted-row f 0 (n - 0) k (omega arith) ∙ ap f e
+  row-made f n k h = at-upto f [] n k h
 
   pub rows-made : (f : ℕ → List A) (n : ℕ) → length (map f (upto 0 n)) ≡ n
-  rows-made f n = length-map (upto 0 n) f ∙ (counted-length 0 (n - 0) ∙ (let e : n - 0 ≡ n = omega arith in e))
+  rows-made f n = length-map (upto 0 n) f ∙ upto-length n
 
   -- a row that the table lacks is empty
   pub row-past : (t : List (List A)) (k : ℕ) → length t ≤ k → getD t k [] ≡ []

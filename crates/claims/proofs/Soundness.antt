@@ -30,7 +30,8 @@ use Rattle.claims.specs.Query.{Query, each, tests, relations, holds, ato
 use Rattle.claims.specs.Sides.{Decision, side, unionAll, a0, a1, zero, somewhere, decision, decisionOf}
 use Rattle.claims.specs.Words.{Guarded, Uncovered, Refutes}
 use Rattle.claims.specs.Meaning.{Execution, Related, Meets, MeetsAll, ClaimHolds}
-use Rattle.claims.proofs.Replacement.{each-in, side-means-the-same}
+use Rattle.claims.proofs.Results.{each-in}
+use Rattle.claims.proofs.Replacement.{side-means-the-same}
 
 empty-line : (e : Tree) (l : Line) → In e (assumedEmpty l) → l ≡ assumeEmpty e
 unfolding assumedEmpty

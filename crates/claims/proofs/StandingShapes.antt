@@ -12,7 +12,7 @@ use Rattle.kat.specs.Lists.{In, counted, member, filter, some}
 use Rattle.kat.specs.Tables.{occurrences, reads, next, after, ends}
 use Rattle.kat.specs.Ring.{Prefix}
 use Rattle.kat.proofs.Bools.{and-left, false-of-not}
-use Rattle.kat.proofs.Sets.{map-in}
+use Rattle.kat.proofs.Sets.{map-in, some-none, filter-none, upto-length}
 use Rattle.kat.proofs.Ranges.{reads-range}
 use Rattle.claims.specs.Sides.{Decision}
 use Rattle.claims.specs.Standings.{Letter, Path, pathStep, pathSystem, Ring, row, states, moves, ringBegin, pairs, ringStep, ringSystem}
@@ -39,13 +39,9 @@ path-standings-shaped D (begun h k) = pathStep-shaped D _ _
 path-standings-shaped D (grown p h k) = pathStep-shaped D _ _
 
 -- the standings of ring claims
-counted-length : (i n : ℕ) → length (counted i n) ≡ n
-counted-length i zero = refl
-counted-length i (suc n) = ap suc (counted-length (suc i) n)
-
 states-length : (D : Decision) → length (states D) ≡ suc (occurrences (D .right))
 unfolding states
-states-length D = counted-length 0 (suc (occurrences (D .right)) - 0) ∙ omega arith
+states-length D = upto-length (suc (occurrences (D .right)))
 
 -- each row of a table that is made over the states has a property that each of them gives it
 rows-of-states : (D : Decision) (f : ℕ → List ℕ) (lo hi : ℕ) → ((q : ℕ) → Rising lo hi (f q))
@@ -70,14 +66,6 @@ ringBegin-shaped D l h =
 moves-none : (D : Decision) (l : Letter) (o : ℕ) → moves D l o 0 ≡ false
 unfolding moves
 moves-none D l o = rw (false-of-not (reads (D .right) 0 0 (l .relation)) (λ e. let (h, k) = reads-range (D .right) 0 0 (l .relation) e in omega arith))
-
-some-none : {A : Type 0} (p : A → Bool) (l : List A) → ((x : A) → p x ≡ false) → some p l ≡ false
-some-none p [] h = refl
-some-none p (x ∷ xs) h = rw (h x) (some-none p xs h)
-
-filter-none : {A : Type 0} (p : A → Bool) (l : List A) → ((x : A) → p x ≡ false) → filter p l ≡ []
-filter-none p [] h = refl
-filter-none p (x ∷ xs) h = rw (h x) (filter-none p xs h)
 
 pairs-none : (D : Decision) (s : Ring) (l : Letter) → pairs D s l 0 ≡ []
 unfolding pairs

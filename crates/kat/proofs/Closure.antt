@@ -18,28 +18,8 @@ use borrow.Author.Tests.{ltb-true, ltb-false}
 use Rattle.kat.specs.Lists.{counted, upto}
 use Rattle.kat.specs.Closure.{Table, table, entry, through, closure}
 use Rattle.kat.specs.Graph.{Plus, once, more}
-use Rattle.kat.proofs.Bools.{or-cases, or-left, or-right, and-left, and-right, and-both, true-not-false, bool-cases}
-
-below-or-past : (x n : ℕ) → (x < n) ⊎ (n ≤ x)
-below-or-past x n = ⊎-elim (λ h. inl (ltb-true x n h)) (λ h. inr (ltb-false x n h)) (bool-cases (ltb x n))
-
--- the place j of a mapped range, and beyond its end
-module _ {A : Type 0} (g : ℕ → A) (d : A) where
-  at-counted : (i n j : ℕ) → j < n → getD (map g (counted i n)) j d ≡ g (i + j)
-  at-counted i zero j h = absurd (omega arith)
-  at-counted i (suc n) zero h = ap g (omega arith)
-  at-counted i (suc n) (suc j) h = at-counted (suc i) n j (omega arith) ∙ ap g (omega arith)
-
-  past-counted : (i n j : ℕ) → n ≤ j → getD (map g (counted i n)) j d ≡ d
-  past-counted i zero j h = refl
-  past-counted i (suc n) zero h = absurd (omega arith)
-  past-counted i (suc n) (suc j) h = past-counted (suc i) n j (omega arith)
-
-  at-upto : (n j : ℕ) → j < n → getD (map g (upto 0 n)) j d ≡ g j
-  at-upto n j h = at-counted 0 (n - 0) j (omega arith) ∙ ap g (omega arith)
-
-  past-upto : (n j : ℕ) → n ≤ j → getD (map g (upto 0 n)) j d ≡ d
-  past-upto n j h = past-counted 0 (n - 0) j (omega arith)
+use Rattle.kat.proofs.Sets.{at-upto, past-upto}
+use Rattle.kat.proofs.Bools.{lt-or-le, or-cases, or-left, or-right, and-left, and-right, and-both, true-not-false, bool-cases}
 
 pub entry-table : (n : ℕ) (f : ℕ → ℕ → Bool) (x y : ℕ) → x < n → y < n → entry (table n f) x y ≡ f x y
 unfolding table entry
@@ -52,7 +32,7 @@ entry-past-row n f x y h = ap (λ l. getD l y false) (past-upto (λ x. map (f x)
 
 pub entry-past-column : (n : ℕ) (f : ℕ → ℕ → Bool) (x y : ℕ) → n ≤ y → entry (table n f) x y ≡ false
 unfolding table entry
-entry-past-column n f x y h = go (below-or-past x n)
+entry-past-column n f x y h = go (lt-or-le x n)
   where
     go : (x < n) ⊎ (n ≤ x) → getD (getD (map (λ x. map (f x) (upto 0 n)) (upto 0 n)) x []) y false ≡ false
     go (inl k) =
@@ -62,7 +42,7 @@ entry-past-column n f x y h = go (below-or-past x n)
 -- what a table has is in range, and is what it was made of
 pub table-entry : (n : ℕ) (f : ℕ → ℕ → Bool) (x y : ℕ) → entry (table n f) x y ≡ true
     → (x < n) × (y < n) × (f x y ≡ true)
-table-entry n f x y e = go (below-or-past x n) (below-or-past y n)
+table-entry n f x y e = go (lt-or-le x n) (lt-or-le y n)
   where
     go : (x < n) ⊎ (n ≤ x) → (y < n) ⊎ (n ≤ y) → (x < n) × (y < n) × (f x y ≡ true)
     go (inl h) (inl k) = (h, k, sym (entry-table n f x y h k) ∙ e)

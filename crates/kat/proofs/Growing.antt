@@ -2,7 +2,6 @@
 -- an earlier one; a pair (q, p) comes from an earlier pair whose q is moved on, or the new atom is the one strictly inside.
 -- Assumes nothing.
 use Prim.Native.Nat.{ℕ}
-use native.Mathlib.Omega.{arith}
 use mathlib.Core.Path.{_≡_, refl, sym, _∙_, ap, subst}
 use mathlib.Core.Logic.{_⊎_, ⊎-elim, _↔_}
 use mathlib.Core.Logic._⊎_.{inl, inr}
@@ -11,6 +10,7 @@ use Rattle.kat.specs.Expr.{Expr}
 use Rattle.kat.specs.Ring.{Prefix, nothing, then, join, start}
 use Rattle.kat.specs.Tables.{next, reads, stop, null}
 use Rattle.kat.specs.Way.{Way}
+use Rattle.kat.proofs.Shapes.{nothing-is-not-longer}
 use Rattle.kat.proofs.Turns.{NonEmpty, AtomIsWord, Pair}
 
 -- the parts of a prefix that has a relation
@@ -26,13 +26,6 @@ abbrev relationOf : Prefix → ℕ
 relationOf nothing = 0
 relationOf (then l a r) = r
 
-abbrev isLonger : Prefix → ℕ
-isLonger nothing = 0
-isLonger (then l a r) = 1
-
-join-longer : (u v : Prefix) → NonEmpty v → isLonger (join u v) ≡ 1
-join-longer u (then v c k) h = refl
-
 -- a prefix cut in two, with a relation in the second part: the last letter is the second part's
 cut-grown : (l u v : Prefix) (a r : ℕ) → then l a r ≡ join u v → NonEmpty v → (w : Prefix) × (v ≡ then w a r) × (l ≡ join u w)
 cut-grown l u nothing a r e h = absurd h
@@ -40,6 +33,9 @@ cut-grown l u (then w c k) a r e h =
     let ea : a ≡ c = ap atomOf e in
     let er : r ≡ k = ap relationOf e in
     (w, subst (λ x. then w c k ≡ then w x r) (sym ea) (subst (λ y. then w c k ≡ then w c y) (sym er) refl), ap before e)
+
+nothing-joined : (u v : Prefix) → nothing ≡ join u v → NonEmpty v → ⊥
+nothing-joined u (then v a r) e h = nothing-is-not-longer e
 
 -- a prefix with a relation has its own first atom
 pub start-own : (b c : ℕ) (l : Prefix) → NonEmpty l → start b l ≡ start c l
@@ -106,13 +102,12 @@ pub no-pair-at-first : (E : Expr) (b a r q p : ℕ) → Pair E b (then nothing a
 no-pair-at-first E b a r q p h = ⊎-elim (λ (o, k, n, m). no-pair-of-nothing o k) (λ (k, n, m, o). k) (pair-grown E b nothing a r q p .0 h)
   where
     no-pair-of-nothing : (o : ℕ) → Pair E b nothing o p → ⊥
-    no-pair-of-nothing o (u, v, e, i, j, x, y) =
-        let z : _≡_ {A = ℕ} 0 1 = ap isLonger e ∙ join-longer u v j in omega arith
+    no-pair-of-nothing o (u, v, e, i, j, x, y) = nothing-joined u v e j
 
 -- nor has it an earlier atom
 pub atom-at-first : (E : Expr) (b a r : ℕ) → AtomIsWord E b (then nothing a r) ↔ (null E a ≡ true)
 atom-at-first E b a r = (
-  (λ h. ⊎-elim (λ (u, v, e, j, n). absurd (let z : _≡_ {A = ℕ} 0 1 = ap isLonger e ∙ join-longer u v j in omega arith)) (λ n. n)
+  (λ h. ⊎-elim (λ (u, v, e, j, n). absurd (nothing-joined u v e j)) (λ n. n)
       (atom-grown E b nothing a r .0 h)),
   (λ n. atom-grown E b nothing a r .1 (inr n)),
 )

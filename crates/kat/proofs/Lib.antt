@@ -1,14 +1,21 @@
+-- Small laws.
 pub mod Bools
 pub mod Sets
+pub mod Shapes
+-- Languages, and walks in graphs.
 pub mod Fusion
 pub mod Walks
+pub mod Traces
+-- Occurrence tables.
 pub mod Ranges
 pub mod Residuals
 pub mod Letters
 pub mod Runs
+pub mod Decided
+-- Rings.
 pub mod Turns
 pub mod Growing
+pub mod Prefixes
 pub mod Words
+-- Tables of pairs.
 pub mod Closure
-pub mod Decided
-pub mod Traces

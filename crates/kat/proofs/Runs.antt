@@ -18,6 +18,7 @@ use Rattle.kat.specs.Tables.{occurrences, reads, next, stop, firsts, fol
 use Rattle.kat.specs.Way.{Way}
 use Rattle.kat.proofs.Bools.{and-left, and-right, and-both}
 use Rattle.kat.proofs.Sets.{some-in, in-some, filter-in, in-filter, in-upto, upto-in}
+use Rattle.kat.proofs.Shapes.{longer-is-no-end}
 use Rattle.kat.proofs.Ranges.{reads-range}
 use Rattle.kat.proofs.Residuals.{Rest, Goes, letter, cut-rel, cut-rest}
 use Rattle.kat.proofs.Letters.{null-rel, letter-rel, last-rest, letter-rest}
@@ -25,13 +26,6 @@ use Rattle.kat.proofs.Letters.{null-rel, letter-rel, last-rest, letter-
 -- an occurrence that reads is not 0
 pub reads-positive : (E : Expr) (q r : ℕ) → reads E 0 q r ≡ true → 0 < q
 reads-positive E q r m = let (a, b) = reads-range E 0 q r m in a
-
-abbrev isEnd : Word → ℕ
-isEnd (end a) = 1
-isEnd (at a r w) = 0
-
-longer-is-no-end : {a r b : ℕ} {w : Word} → at a r w ≡ end b → ⊥
-longer-is-no-end h = let n : _≡_ {A = ℕ} 0 1 = ap isEnd h in omega arith
 
 rest-of-reads : (E : Expr) (w : Word) (p : ℕ) → 0 < p → Reads E p w → Rest E 0 p w (end (last w))
 rest-of-reads E (end a) zero h m = absurd (omega arith)

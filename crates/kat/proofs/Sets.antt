@@ -10,6 +10,7 @@ use mathlib.Core.Logic._⊎_.{inl, inr}
 use mathlib.Core.Bool.{Bool, true, false, cond, _&&_, _||_, true≢false}
 use mathlib.Core.List.{List, [], _∷_, _++_, map}
 use lib.Dec.{eqb}
+use lib.ListN.{length, getD}
 use borrow.Author.Tests.{eqb-true, eq-eqb}
 use Rattle.kat.specs.Lists.{In, here, there, counted, upto, member, filter, some, every}
 use Rattle.kat.proofs.Bools.{or-cases, or-left, or-right, and-left, and-right, and-both}
@@ -64,6 +65,15 @@ module _ {A : Type 0} where
       go true j = there j
       go false j = j
 
+  -- a test that nothing passes
+  pub some-none : (p : A → Bool) (l : List A) → ((x : A) → p x ≡ false) → some p l ≡ false
+  some-none p [] h = refl
+  some-none p (x ∷ xs) h = rw (h x) (some-none p xs h)
+
+  pub filter-none : (p : A → Bool) (l : List A) → ((x : A) → p x ≡ false) → filter p l ≡ []
+  filter-none p [] h = refl
+  filter-none p (x ∷ xs) h = rw (h x) (filter-none p xs h)
+
   pub in-append-left : {x : A} {l : List A} (m : List A) → In x l → In x (l ++ m)
   in-append-left m (here e) = here e
   in-append-left m (there i) = there (in-append-left m i)
@@ -103,3 +113,28 @@ in-upto a i e h k = in-counted a i (e - i) h (omega arith)
 
 pub upto-in : (a i e : ℕ) → In a (upto i e) → (i ≤ a) × (a < e)
 upto-in a i e h = let (p, q) = counted-in a i (e - i) h in (p, omega arith)
+
+pub counted-length : (i n : ℕ) → length (counted i n) ≡ n
+counted-length i zero = refl
+counted-length i (suc n) = ap suc (counted-length (suc i) n)
+
+pub upto-length : (n : ℕ) → length (upto 0 n) ≡ n
+upto-length n = counted-length 0 (n - 0) ∙ omega arith
+
+-- the place j of a mapped range, and beyond its end
+module _ {A : Type 0} (g : ℕ → A) (d : A) where
+  at-counted : (i n j : ℕ) → j < n → getD (map g (counted i n)) j d ≡ g (i + j)
+  at-counted i zero j h = absurd (omega arith)
+  at-counted i (suc n) zero h = ap g (omega arith)
+  at-counted i (suc n) (suc j) h = at-counted (suc i) n j (omega arith) ∙ ap g (omega arith)
+
+  past-counted : (i n j : ℕ) → n ≤ j → getD (map g (counted i n)) j d ≡ d
+  past-counted i zero j h = refl
+  past-counted i (suc n) zero h = absurd (omega arith)
+  past-counted i (suc n) (suc j) h = past-counted (suc i) n j (omega arith)
+
+  pub at-upto : (n j : ℕ) → j < n → getD (map g (upto 0 n)) j d ≡ g j
+  at-upto n j h = at-counted 0 (n - 0) j (omega arith) ∙ ap g (omega arith)
+
+  pub past-upto : (n j : ℕ) → n ≤ j → getD (map g (upto 0 n)) j d ≡ d
+  past-upto n j h = past-counted 0 (n - 0) j (omega arith)

@@ -3,7 +3,6 @@
 -- to the end (`along`), and what E relates on the word of a walk, E relates in the graph (`back`).
 -- Assumes nothing.
 use Prim.Native.Nat.{ℕ}
-use native.Mathlib.Omega.{arith}
 use mathlib.Core.Path.{_≡_, refl, sym, _∙_, ap, subst}
 use mathlib.Core.Logic.{_⊎_, _↔_}
 use mathlib.Core.Logic._⊎_.{inl, inr}
@@ -12,12 +11,8 @@ use Rattle.kat.specs.Expr.{Expr, step, test, alt, seq, plus}
 use Rattle.kat.specs.Graph.{Graph, Rel, Plus, once, more}
 use Rattle.kat.specs.Word.{Word, end, at, first, last}
 use Rattle.kat.specs.Language.{Leads, places, Lang}
+use Rattle.kat.proofs.Shapes.{longer-is-no-end}
 use Rattle.kat.specs.Walk.{Walk, stay, go, wordOf}
-
--- 1 for a single atom, 0 for a longer word
-abbrev isEnd : Word → ℕ
-isEnd (end a) = 1
-isEnd (at a r w) = 0
 
 module _ (G : Graph) where
   pub first-of-walk : {x y : G .Event} (p : Walk G x y) → first (wordOf G p) ≡ G .atom x
@@ -93,7 +88,7 @@ module _ (G : Graph) where
 
   at-end : {y z : G .Event} (p : Walk G y z) (a : ℕ) → wordOf G p ≡ end a → y ≡ z
   at-end (stay x) a e = refl
-  at-end (go r e p) a h = absurd (let n : _≡_ {A = ℕ} 0 1 = ap isEnd h in omega arith)
+  at-end (go r e p) a h = absurd (longer-is-no-end h)
 
   -- two events are related exactly when a walk between them has its word in the language
   pub related-by-words : (E : Expr) (x y : G .Event) → Rel G E x y ↔ ((p : Walk G x y) × Lang E (wordOf G p))

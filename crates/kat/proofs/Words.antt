@@ -2,7 +2,6 @@
 -- depends on the atom that stands in for the first one where there is no relation.
 -- Assumes nothing.
 use Prim.Native.Nat.{ℕ, zero, suc}
-use native.Mathlib.Omega.{arith}
 use mathlib.Core.Path.{_≡_, refl, sym, _∙_, ap, subst}
 use mathlib.Core.Logic.{_↔_}
 use mathlib.Core.Bool.{Bool, true}
@@ -11,6 +10,7 @@ use Rattle.kat.specs.Word.{Word, end, at, first, last}
 use Rattle.kat.specs.Language.{Lang}
 use Rattle.kat.specs.Ring.{Prefix, nothing, then, onto, body, join, times, start, round, Covered}
 use Rattle.kat.specs.Tables.{null}
+use Rattle.kat.proofs.Shapes.{nothing-is-not-longer}
 use Rattle.kat.proofs.Runs.{language-is-read}
 use Rattle.kat.proofs.Turns.{NonEmpty, join-nothing}
 use Rattle.kat.proofs.Growing.{start-own}
@@ -46,14 +46,10 @@ times-nothing : (n : ℕ) → times n nothing ≡ nothing
 times-nothing zero = refl
 times-nothing (suc n) = times-nothing n
 
-abbrev isLonger : Prefix → ℕ
-isLonger nothing = 0
-isLonger (then l a r) = 1
-
 nothing-cut : (u v : Prefix) → nothing ≡ join u v → join v u ≡ nothing
 nothing-cut nothing nothing e = refl
-nothing-cut (then u a r) nothing e = absurd (let z : _≡_ {A = ℕ} 0 1 = ap isLonger e in omega arith)
-nothing-cut u (then v a r) e = absurd (let z : _≡_ {A = ℕ} 0 1 = ap isLonger e in omega arith)
+nothing-cut (then u a r) nothing e = absurd (nothing-is-not-longer e)
+nothing-cut u (then v a r) e = absurd (nothing-is-not-longer e)
 
 -- a ring without a relation is covered exactly when its atom is a word
 pub covered-nothing : (E : Expr) (b : ℕ) → Covered E b nothing ↔ (null E b ≡ true)

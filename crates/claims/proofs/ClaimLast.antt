@@ -1,0 +1,99 @@
+-- "Exactly one claim, the last line" (document 01, "The query"): lines that are taken one after another have no claim, or one and at
+-- the end. The idea: a line is taken only where none before it is a claim, so only the last one can be.
+-- Assumes nothing.
+use Prim.Native.Nat.{ℕ, suc}
+use native.Mathlib.Omega.{arith}
+use mathlib.Core.Path.{_≡_, refl, sym, _∙_, ap, subst}
+use mathlib.Core.Logic.{_⊎_}
+use mathlib.Core.Logic._⊎_.{inl, inr}
+use mathlib.Core.List.{List, [], _∷_, _++_, append-assoc}
+use mathlib.Core.Option.{Option, some, none}
+use lib.ListN.{length, length-append}
+use Rattle.claims.specs.Bytes.{RawLine, rawLines}
+use Rattle.claims.specs.Tree.{Claim, Line, testLine, relLine, letLine, neverLine, withinLine, closedLine, assumeEmpty, assumeIrreflexive, claimLine}
+use Rattle.claims.specs.Query.{Query, each, claimsOf}
+use Rattle.claims.specs.Refusals.{overLimit, ok, refuse}
+use Rattle.claims.specs.Reading.{claimOf, read}
+use Rattle.claims.proofs.Results.{each-append}
+use Rattle.claims.proofs.LineOrder.{Taken, taken-count}
+use Rattle.claims.proofs.Precedence.{Accepted, read-accepts, limits-last}
+
+-- claimOf says whether there is a claim, and the first one
+pub no-claims : (q : Query) → claimOf q ≡ none → each claimsOf q ≡ []
+unfolding claimOf
+no-claims q e = go (each claimsOf q) e
+  where
+    go : (cs : List Claim) → _≡_ {A = Option Claim} (elim cs [ [] ↦ none | c ∷ ds ↦ some c ]) none → cs ≡ []
+    go [] h = refl
+    go (c ∷ cs) h = absurd (let z : _≡_ {A = ℕ} 0 1 = cc in omega arith)
+
+pub claims-none : (q : Query) → each claimsOf q ≡ [] → claimOf q ≡ none
+unfolding claimOf
+claims-none q e = rw (e, claimOf)
+
+-- one claim, the last line, and no other
+abbrev pub EndsWith : Query → Claim → Type 0
+EndsWith q c = (before : Query) × (q ≡ before ++ (claimLine c ∷ [])) × (each claimsOf before ≡ [])
+
+-- such a query's claim is that one
+pub the-claim : (q : Query) (c : Claim) → EndsWith q c → claimOf q ≡ some c
+unfolding claimOf claimsOf
+the-claim q c (before, e, f) =
+    let g : each claimsOf q ≡ c ∷ [] =
+    ap (each claimsOf) e ∙ each-append claimsOf before (claimLine c ∷ []) ∙ ap (λ cs. cs ++ (c ∷ [])) f
+    in
+    rw (g, claimOf)
+
+-- no claim, or one at the end
+abbrev Claims : Query → Type 0
+Claims q = (each claimsOf q ≡ []) ⊎ ((c : Claim) × EndsWith q c)
+
+none-more : (q : Query) (x : Line) → each claimsOf q ≡ [] → claimsOf x ≡ [] → Claims (q ++ (x ∷ []))
+none-more q x e f =
+    inl (each-append claimsOf q (x ∷ []) ∙ ap (λ cs. cs ++ (claimsOf x ++ [])) e ∙ ap (λ cs. cs ++ []) f)
+
+one-more : (q : Query) (x : Line) → each claimsOf q ≡ [] → Claims (q ++ (x ∷ []))
+unfolding claimsOf
+one-more q (testLine n) e = none-more q (testLine n) e refl
+one-more q (relLine n) e = none-more q (relLine n) e refl
+one-more q (letLine n t) e = none-more q (letLine n t) e refl
+one-more q (neverLine t) e = none-more q (neverLine t) e refl
+one-more q (withinLine n t u) e = none-more q (withinLine n t u) e refl
+one-more q (closedLine n) e = none-more q (closedLine n) e refl
+one-more q (assumeEmpty t) e = none-more q (assumeEmpty t) e refl
+one-more q (assumeIrreflexive t) e = none-more q (assumeIrreflexive t) e refl
+one-more q (claimLine c) e = inr (c, (q, refl, e))
+
+taken-claims : (q : Query) (ls : List RawLine) (q′ : Query) → Claims q → Taken q ls q′ → Claims q′
+taken-claims q [] q′ h e = subst Claims e h
+taken-claims q (l ∷ ls) q′ h (x, t, ts) = taken-claims (q ++ (x ∷ [])) ls q′ (one-more q x (no-claims q (t .no-claim-yet))) ts
+
+-- lines that are taken: a claim among them is the last of them
+pub claim-is-last : (ls : List RawLine) (q : Query) (c : Claim) → Taken [] ls q → claimOf q ≡ some c → EndsWith q c
+claim-is-last ls q c ts e = go (taken-claims [] ls q (inl refl) ts)
+  where
+    go : Claims q → EndsWith q c
+    go (inl f) = let s : some c ≡ none = sym e ∙ claims-none q f in absurd (let z : _≡_ {A = ℕ} 0 1 = cc in omega arith)
+    go (inr (d, w)) = let s : some d ≡ some c = sym (the-claim q d w) ∙ e in subst (EndsWith q) (cc) w
+
+-- an accepted query has exactly one claim, the last line
+pub exactly-one-claim : (bs : List ℕ) (q : Query) → read bs ≡ ok q
+    → (before : Query) × (c : Claim) × (q ≡ before ++ (claimLine c ∷ [])) × (each claimsOf before ≡ []) × (claimOf q ≡ some c)
+exactly-one-claim bs q e =
+    let a : Accepted bs q = read-accepts bs q .0 e in
+    let (before, f, g) = claim-is-last (rawLines bs) q (a .claim) (a .every-line-taken) (a .claimed) in
+    (before, a .claim, f, g, a .claimed)
+
+-- "8 is placed at the claim line": the lines before it and the claim itself are taken, and the place is the claim's line
+pub eight-at-the-claim-line : (bs : List ℕ) (p : ℕ) → read bs ≡ refuse overLimit p
+    → (before : Query) × (c : Claim) × Taken [] (rawLines bs) (before ++ (claimLine c ∷ []))
+    × (each claimsOf before ≡ []) × (p ≡ suc (length before))
+eight-at-the-claim-line bs p e =
+    let (o, (q, c, ts, f, g), z) = limits-last bs p .0 e in
+    let (before, h, k) = claim-is-last (rawLines bs) q c ts f in (
+      before,
+      c,
+      subst (Taken [] (rawLines bs)) h ts,
+      k,
+      omega (arith, taken-count [] (rawLines bs) q ts, ap length h, length-append before (claimLine c ∷ [])),
+    )
