@@ -33,6 +33,7 @@ pub mod Answers
 pub mod Walk
 pub mod Plain
 pub mod Verdict
+pub mod VerdictsByWords
 -- Sheets as bytes.
 pub mod Bytes
 pub mod SetBytes
