@@ -9,7 +9,7 @@ use lib.ListN.{length}
 use Rattle.claims.specs.Tree.{Tree, name, tested, union, sequence, star, plus, opt, Claim, includes, empty, irreflexive}
 use Rattle.claims.specs.Query.{Query, Bound, lookup, each, names, limits, assumedEmpty, assumedIrreflexive}
 
--- what an expression counts, where each bracketed test counts t and each name what it is bound to
+-- what an expression counts, where each bracketed test counts t and each name what it is bound to ("Standings")
 unfoldable pub count : ℕ → List (Bound ℕ) → Tree → ℕ
 count t env (name n) = lookup 0 n env
 count t env (tested u) = t
@@ -19,47 +19,51 @@ count t env (star e) = count t env e
 count t env (plus e) = count t env e
 count t env (opt e) = count t env e
 
--- a relation is one occurrence, and one leaf with two more for each of its `within` lines
+-- a relation is one occurrence, and one leaf with two more for each of its `within` lines ("Standings")
 unfoldable pub occurrencesOf : Query → Tree → ℕ
 occurrencesOf q e = count 0 (names q (λ n. 1) (count 0)) e
 
+-- the leaves of an expression after expanding ("Standings")
 unfoldable pub leavesOf : Query → Tree → ℕ
 leavesOf q e = count 1 (names q (λ n. suc (2 * length (each (limits n) q))) (count 1)) e
 
+-- the sum over several expressions ("Standings")
 abbrev pub total : (Tree → ℕ) → List Tree → ℕ
 total f [] = 0
 total f (e ∷ es) = f e + total f es
 
--- occurrences and leaves of a side
+-- occurrences and leaves of a side ("Standings")
 pub record Size : Type 0 where
   pub occurrences : ℕ
   pub leaves : ℕ
 
+-- occurrences and leaves of several expressions together ("Standings")
 unfoldable pub sizeOf : Query → List Tree → Size
 sizeOf q es = record { occurrences = total (occurrencesOf q) es; leaves = total (leavesOf q) es }
 
--- both anys, which stand on every right side, and `extra` leaves besides
+-- both anys, which stand on every right side, and `extra` leaves besides ("Standings")
 unfoldable pub withAnys : ℕ → Size → Size
 withAnys extra s = record { occurrences = s .occurrences + 2; leaves = s .leaves + 2 + extra }
 
+-- the left side is the claimed expression ("Standings")
 unfoldable pub leftSize : Query → Claim → Size
 leftSize q (includes e f) = sizeOf q (e ∷ [])
 leftSize q (empty e) = sizeOf q (e ∷ [])
 leftSize q (irreflexive e) = sizeOf q (e ∷ [])
 
--- the right side: y, a0 and zero of a path claim (`[false]` of an empty claim is one leaf, and so is zero); a1 and a0 of a ring claim
+-- the right side: y, a0 and zero of a path claim (`[false]` of an empty claim is one leaf, and so is zero); a1 and a0 of a ring claim ("Standings")
 unfoldable pub rightSize : Query → Claim → Size
 rightSize q (includes e f) = withAnys 1 (sizeOf q (f ∷ each assumedEmpty q))
 rightSize q (empty e) = withAnys 2 (sizeOf q (each assumedEmpty q))
 rightSize q (irreflexive e) = withAnys 0 (sizeOf q (each assumedIrreflexive q ++ each assumedEmpty q))
 
--- 64 occurrences left; right 64 for path claims and 31 for ring claims
+-- 64 occurrences left; right 64 for path claims and 31 for ring claims ("Standings")
 unfoldable pub rightLimit : Claim → ℕ
 rightLimit (includes e f) = 64
 rightLimit (empty e) = 64
 rightLimit (irreflexive e) = 31
 
--- 512 leaves a side; in a path claim a1 has 512 of its own, and in a ring claim it is part of the right side
+-- 512 leaves a side; in a path claim a1 has 512 of its own, and in a ring claim it is part of the right side ("Standings")
 unfoldable pub withinLimits : Query → Claim → Bool
 withinLimits q c =
     (leb (leftSize q c .occurrences) 64 && leb (leftSize q c .leaves) 512)

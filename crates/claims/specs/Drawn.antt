@@ -13,35 +13,38 @@ use Rattle.kat.specs.Word.{Word, end, at, size}
 use Rattle.claims.specs.Query.{Query, relations, closed}
 use Rattle.claims.specs.GraphBytes.{Edge, Listed, finite}
 
--- the atoms of a line of events, and of a ring of them
+-- the atoms of a line of events, and of a ring of them ("Words")
 unfoldable pub lineAtoms : Word → List ℕ
 lineAtoms (end a) = a ∷ []
 lineAtoms (at a r w) = a ∷ lineAtoms w
 
+-- the atoms of a word without the last ("Words")
 unfoldable pub allButLast : Word → List ℕ
 allButLast (end a) = []
 allButLast (at a r w) = a ∷ allButLast w
 
+-- as many events as the length, one for length 0 ("Words")
 unfoldable pub ringAtoms : Word → List ℕ
 ringAtoms (end a) = a ∷ []
 ringAtoms (at a r w) = a ∷ allButLast w
 
--- the steps of a line of events, from event x on
+-- the steps of a line of events, from event x on ("Words")
 unfoldable pub lineSteps : ℕ → Word → List Edge
 lineSteps x (end a) = []
 lineSteps x (at a r w) = record { relation = r; from = x; to = suc x } ∷ lineSteps (suc x) w
 
--- the steps of a ring of n events, from event x on
+-- the steps of a ring of n events, from event x on ("Words")
 unfoldable pub ringSteps : ℕ → ℕ → Word → List Edge
 ringSteps n x (end a) = []
 ringSteps n x (at a r w) =
     record { relation = r; from = x; to = cond (eqb (suc x) n) 0 (suc x) } ∷ ringSteps n (suc x) w
 
+-- the events and the single steps of a word, in a line or in a ring ("Words")
 unfoldable pub stepsOf : Bool → Word → Listed
 stepsOf false w = record { atoms = lineAtoms w; edges = lineSteps 0 w }
 stepsOf true w = record { atoms = ringAtoms w; edges = ringSteps (size w) 0 w }
 
--- closed relations closed
+-- closed relations closed ("Words")
 unfoldable pub filled : Query → Finite → Finite
 filled q G =
     record {
@@ -53,5 +56,6 @@ filled q G =
           ];
     }
 
+-- the drawn graph: the steps of the word, closed relations then closed ("Words")
 unfoldable pub drawn : Query → Bool → Word → Finite
 drawn q ring w = filled q (finite (stepsOf ring w))

@@ -11,49 +11,50 @@ use Rattle.claims.specs.Bytes.{RawLine, byte, text, same}
 use Rattle.claims.specs.Tokens.{Token, word, mark, bad, tokens, isReserved}
 use Rattle.claims.specs.Tree.{Name, TestTree, testName, always, never, either, both, not, Tree, name, tested, union, sequence, star, plus, opt, Claim, includes, empty, irreflexive, Line, testLine, relLine, letLine, neverLine, withinLine, closedLine, assumeEmpty, assumeIrreflexive, claimLine}
 
--- what a reader finds: a value and the tokens after it, or the fault met first
+-- what a reader finds: a value and the tokens after it, or the fault met first ("The query")
 pub data Found (A : Type 0) : Type 0 where
   got : A → List Token → Found A
   wrong : Found A  -- not in the notation
   deep : Found A  -- 33rd open bracket
 
 module _ {A B : Type 0} where
-  -- the second reader goes on where the first ended
+  -- the second reader goes on where the first ended ("The query")
   abbrev pub andThen : Found A → (A → List Token → Found B) → Found B
   andThen (got a ts) k = k a ts
   andThen wrong k = wrong
   andThen deep k = deep
 
--- the line goes on with the mark b
+-- the line goes on with the mark b ("The query")
 abbrev pub goesOn : ℕ → List Token → Bool
 goesOn b [] = false
 goesOn b (word w ∷ ts) = false
 goesOn b (mark c ∷ ts) = eqb b c
 goesOn b (bad ∷ ts) = false
 
+-- the tokens behind the first ("The query")
 abbrev pub past : List Token → List Token
 past [] = []
 past (t ∷ ts) = ts
 
--- the value, if the mark b stands next
+-- the value, if the mark b stands next ("The query")
 unfoldable pub closes : {A : Type 0} → ℕ → A → List Token → Found A
 closes b a ts = elim (goesOn b ts) [ true ↦ got a (past ts) | false ↦ wrong ]
 
--- a word that is no reserved one is a name
+-- a word that is no reserved one is a name ("The query")
 unfoldable pub nameNext : {A : Type 0} → (Name → A) → List Token → Found A
 nameNext f [] = wrong
 nameNext f (word w ∷ ts) = elim (isReserved w) [ true ↦ wrong | false ↦ got (f w) ts ]
 nameNext f (mark b ∷ ts) = wrong
 nameNext f (bad ∷ ts) = wrong
 
--- the line goes on with the word w
+-- the line goes on with the word w ("The query")
 abbrev pub saysNext : List ℕ → List Token → Bool
 saysNext w [] = false
 saysNext w (word v ∷ ts) = same w v
 saysNext w (mark b ∷ ts) = false
 saysNext w (bad ∷ ts) = false
 
--- a name, `true` or `false`
+-- a name, `true` or `false` ("The query")
 unfoldable pub testWord : List Token → Found TestTree
 unfolding nameNext
 testWord ts =

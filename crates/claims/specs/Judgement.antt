@@ -16,10 +16,11 @@ use Rattle.claims.specs.Query.{Query, tests, relations, indexOf, holds}
 use Rattle.claims.specs.Sides.{meant, single}
 
 module _ (G : Finite) where
+  -- the events of the graph, by number ("Sheet and graph bytes")
   unfoldable pub events : List ℕ
   events = upto 0 (length (G .atoms))
 
-  -- the pairs of events that E relates; k is the number of relations
+  -- the pairs of events that E relates; k is the number of relations ("Sheet and graph bytes")
   unfoldable pub pairsOf : ℕ → Expr → Table
   pairsOf k (step s) = table (length (G .atoms)) (λ x y. some (λ r. s r && G .edges r x y) (upto 0 k))
   pairsOf k (test s) = table (length (G .atoms)) (λ x y. eqb x y && s (getD (G .atoms) x 0))
@@ -35,16 +36,16 @@ module _ (G : Finite) where
       let t : Table = pairsOf k e in
       closure (length (G .atoms)) (entry t)
 
-  -- some pair of events passes the test
+  -- some pair of events passes the test ("Sheet and graph bytes")
   unfoldable pub somePair : (ℕ → ℕ → Bool) → Bool
   somePair f = some (λ x. some (f x) events) events
 
   module _ (q : Query) where
-    -- the pairs of an expression as written, relations by their listed edges
+    -- the pairs of an expression as written, relations by their listed edges ("Sheet and graph bytes")
     unfoldable pub judged : Tree → Table
     judged e = pairsOf (length (relations q)) (meant q (single q) e)
 
-    -- the graph breaks the line
+    -- the graph breaks the line ("Sheet and graph bytes")
     unfoldable pub breaks : Line → Bool
     breaks (testLine n) = false
     breaks (relLine n) = false
@@ -61,36 +62,40 @@ module _ (G : Finite) where
     breaks (assumeIrreflexive e) = let t : Table = judged e in some (λ x. entry t x x) events
     breaks (claimLine c) = false
 
-    -- the first of the lines that is broken, the first of them being line n; 0 if none is
+    -- the first of the lines that is broken, the first of them being line n; 0 if none is ("Sheet and graph bytes")
     unfoldable pub firstBroken : ℕ → List Line → ℕ
     firstBroken n [] = 0
     firstBroken n (l ∷ ls) = elim (breaks l) [ true ↦ n | false ↦ firstBroken (suc n) ls ]
     -- whether the claim holds, or what breaks it
 
+-- whether the claim holds, or the event or pair that breaks it ("Sheet and graph bytes")
 pub data Outcome : Type 0 where
   holdsIn : Outcome
   breaksAt : ℕ → Outcome
   breaksFrom : ℕ → ℕ → Outcome
 
--- the lowest event of the list that passes the test
+-- the lowest event of the list that passes the test ("Sheet and graph bytes")
 unfoldable pub lowestEvent : (ℕ → Bool) → List ℕ → Outcome
 lowestEvent f [] = holdsIn
 lowestEvent f (x ∷ xs) = elim (f x) [ true ↦ breaksAt x | false ↦ lowestEvent f xs ]
 
--- the lowest y with which x passes the test, and then the lowest pair by from, then to
+-- the lowest y with which x passes the test, and then the lowest pair by from, then to ("Sheet and graph bytes")
 unfoldable pub lowestTo : (ℕ → ℕ → Bool) → ℕ → List ℕ → Outcome
 lowestTo f x [] = holdsIn
 lowestTo f x (y ∷ ys) = elim (f x y) [ true ↦ breaksFrom x y | false ↦ lowestTo f x ys ]
 
+-- the first of two outcomes that breaks ("Sheet and graph bytes")
 abbrev pub orElse : Outcome → Outcome → Outcome
 orElse holdsIn o = o
 orElse (breaksAt x) o = breaksAt x
 orElse (breaksFrom x y) o = breaksFrom x y
 
+-- the lowest pair by from, then to, that passes the test ("Sheet and graph bytes")
 unfoldable pub lowestPair : (ℕ → ℕ → Bool) → List ℕ → List ℕ → Outcome
 lowestPair f ys [] = holdsIn
 lowestPair f ys (x ∷ xs) = orElse (lowestTo f x ys) (lowestPair f ys xs)
 
+-- the claim on the graph: `include`: each left pair a right one; `empty`: no pair; `irreflexive`: no event with itself ("Sheet and graph bytes")
 unfoldable pub claimed : Finite → Query → Claim → Outcome
 claimed G q (includes e f) =
     let t : Table = judged G q e in
@@ -99,9 +104,11 @@ claimed G q (includes e f) =
 claimed G q (empty e) = let t : Table = judged G q e in lowestPair (entry t) (events G) (events G)
 claimed G q (irreflexive e) = let t : Table = judged G q e in lowestEvent (λ x. entry t x x) (events G)
 
+-- the first line that is broken, or 0, and what becomes of the claim ("Sheet and graph bytes")
 pub record Judgement : Type 0 where
   pub line : ℕ
   pub outcome : Outcome
 
+-- the judgement of a graph ("Sheet and graph bytes")
 unfoldable pub judgement : Finite → Query → Claim → Judgement
 judgement G q c = record { line = firstBroken G q 1 q; outcome = claimed G q c }

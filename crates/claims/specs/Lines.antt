@@ -10,16 +10,19 @@ use Rattle.claims.specs.Tokens.{Token, word, mark, bad, tokens}
 use Rattle.claims.specs.Tree.{Name, TestTree, Tree, includes, empty, irreflexive, Line, testLine, relLine, letLine, neverLine, withinLine, closedLine, assumeEmpty, assumeIrreflexive, claimLine}
 use Rattle.claims.specs.Grammar.{Found, got, wrong, deep, andThen, goesOn, past, closes, saysNext, nameNext, testUnion, unionOf}
 
--- each token is met by at most 8 calls in a row that read none
+-- each token is met by at most 8 calls in a row that read none ("The query")
 unfoldable pub enough : List Token → ℕ
 enough ts = 8 * suc (length ts)
 
+-- an E ("The query")
 unfoldable pub expression : List Token → Found Tree
 expression ts = unionOf (enough ts) 0 ts
 
+-- a T ("The query")
 unfoldable pub condition : List Token → Found TestTree
 condition ts = testUnion (enough ts) 0 ts
 
+-- a T in square brackets ("The query")
 unfoldable pub bracketed : List Token → Found TestTree
 bracketed ts =
     elim (goesOn (byte "[") ts) [
@@ -27,7 +30,7 @@ bracketed ts =
       | false ↦ wrong
     ]
 
--- the place of a declared name: any word, a reserved one too
+-- the place of a declared name: any word, a reserved one too ("The query")
 unfoldable pub declared : List Token → Found Name
 declared [] = wrong
 declared (word w ∷ ts) = got w ts
@@ -35,30 +38,34 @@ declared (mark b ∷ ts) = wrong
 declared (bad ∷ ts) = wrong
 
 module _ {A B : Type 0} where
-  -- the reader's value, under f
+  -- the reader's value, under f ("The query")
   abbrev pub mapped : (A → B) → Found A → Found B
   mapped f x = andThen x (λ a us. got (f a) us)
 
--- the line goes on as one of the readers says, by its next word
+-- the line goes on as one of the readers says, by its next word ("The query")
 pub record Choice : Type 0 where
   pub says : List ℕ
   pub reads : List Token → Found Line
 
+-- the reader that the next word chooses ("The query")
 unfoldable pub choose : List Choice → List Token → Found Line
 choose [] ts = wrong
 choose (c ∷ cs) ts = elim (saysNext (c .says) ts) [ true ↦ c .reads (past ts) | false ↦ choose cs ts ]
 
+-- `N = E` ("The query")
 unfoldable pub letReader : List Token → Found Line
 letReader ts =
     andThen (declared ts) (λ n us.
     elim (goesOn (byte "=") us) [ true ↦ mapped (letLine n) (expression (past us)) | false ↦ wrong ])
 
+-- `N [T] [U]` ("The query")
 unfoldable pub withinReader : List Token → Found Line
 withinReader ts =
     andThen (nameNext (λ n. n) ts) (λ n us.
     andThen (bracketed us) (λ t vs.
     mapped (withinLine n t) (bracketed vs)))
 
+-- `E in E` ("The query")
 unfoldable pub includeReader : List Token → Found Line
 includeReader ts =
     andThen (expression ts) (λ e us.
@@ -67,12 +74,14 @@ includeReader ts =
       | false ↦ wrong
     ])
 
+-- `empty E` or `irreflexive E` ("The query")
 unfoldable pub assumptions : List Choice
 assumptions =
     record { says = text "empty"; reads = λ ts. mapped assumeEmpty (expression ts) }
     ∷ record { says = text "irreflexive"; reads = λ ts. mapped assumeIrreflexive (expression ts) }
     ∷ []
 
+-- `include E in E`, `empty E` or `irreflexive E` ("The query")
 unfoldable pub claims : List Choice
 claims =
     record { says = text "include"; reads = includeReader }
@@ -80,6 +89,7 @@ claims =
     ∷ record { says = text "irreflexive"; reads = λ ts. mapped (λ e. claimLine (irreflexive e)) (expression ts) }
     ∷ []
 
+-- the eight line words, each with what follows it ("The query")
 unfoldable pub lineKinds : List Choice
 lineKinds =
     record { says = text "test"; reads = λ ts. mapped testLine (declared ts) }
@@ -92,11 +102,12 @@ lineKinds =
     ∷ record { says = text "claim"; reads = choose claims }
     ∷ []
 
+-- no token is left ("The query")
 abbrev pub atEnd : List Token → Bool
 atEnd [] = true
 atEnd (t ∷ ts) = false
 
--- a line as the notation reads it
+-- a line as the notation reads it ("The query")
 unfoldable pub line : RawLine → Found Line
 line l =
     andThen (choose lineKinds (tokens (l .bytes))) (λ x us.

@@ -12,15 +12,15 @@ use Rattle.claims.specs.Query.{Query, tests, relations, indexOf, holds, 
 use Rattle.claims.specs.Sides.{meant, single}
 
 module _ (G : Graph) (q : Query) where
-  -- an execution graph of the query: each event has one of its atoms, each edge is of one of its relations
+  -- an execution graph of the query: each event has one of its atoms, each edge is of one of its relations ("Sheet and graph bytes")
   abbrev pub Execution : Type 0
   Execution = ((x : G .Event) → G .atom x < atoms q) × ((r : ℕ) (x y : G .Event) → G .edge r x y → r < length (relations q))
 
-  -- the pairs of an expression as written, where relations mean the graph's edges
+  -- the pairs of an expression as written, where relations mean the graph's edges ("Sheet and graph bytes")
   abbrev pub Related : Tree → G .Event → G .Event → Type 0
   Related e x y = Rel G (meant q (single q) e) x y
 
-  -- the graph meets the line
+  -- the graph meets the line ("Sheet and graph bytes")
   abbrev pub Meets : Line → Type 0
   Meets (testLine n) = Unit {0}
   Meets (relLine n) = Unit {0}
@@ -36,11 +36,11 @@ module _ (G : Graph) (q : Query) where
   Meets (assumeIrreflexive e) = (x : G .Event) → Related e x x → ⊥
   Meets (claimLine c) = Unit {0}
 
-  -- the graph meets all lines
+  -- the graph meets all lines ("Sheet and graph bytes")
   abbrev pub MeetsAll : Type 0
   MeetsAll = (l : Line) → In l q → Meets l
 
-  -- the claim holds in the graph
+  -- the claim holds in the graph ("Sheet and graph bytes")
   abbrev pub ClaimHolds : Claim → Type 0
   ClaimHolds (includes e f) = (x y : G .Event) → Related e x y → Related f x y
   ClaimHolds (empty e) = (x y : G .Event) → Related e x y → ⊥

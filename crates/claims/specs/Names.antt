@@ -10,13 +10,15 @@ use Rattle.claims.specs.Tokens.{isReserved}
 use Rattle.claims.specs.Tree.{Name, TestTree, testName, always, never, either, both, not, Tree, name, tested, union, sequence, star, plus, opt, Claim, includes, empty, irreflexive, Line, testLine, relLine, letLine, neverLine, withinLine, closedLine, assumeEmpty, assumeIrreflexive, claimLine}
 use Rattle.claims.specs.Refusals.{Cause, unknownName, wrongKind, declaredTwice, reservedName}
 
+-- what a name is declared as ("The query")
 pub data Kind : Type 0 where
   aTest aRelation aLet : Kind
 
--- a place at which a name stands in a line, and what must stand there
+-- a place at which a name stands in a line, and what must stand there ("The query")
 pub data Use : Type 0 where
   declares usesTest usesRelation usesEither : Name → Use  -- the last: a relation or a let
 
+-- the names of a T, from left to right ("The query")
 unfoldable pub testUses : TestTree → List Use
 testUses (testName n) = usesTest n ∷ []
 testUses always = []
@@ -25,6 +27,7 @@ testUses (either t u) = testUses t ++ testUses u
 testUses (both t u) = testUses t ++ testUses u
 testUses (not t) = testUses t
 
+-- the names of an E, from left to right ("The query")
 unfoldable pub treeUses : Tree → List Use
 treeUses (name n) = usesEither n ∷ []
 treeUses (tested t) = testUses t
@@ -34,12 +37,13 @@ treeUses (star e) = treeUses e
 treeUses (plus e) = treeUses e
 treeUses (opt e) = treeUses e
 
+-- the names of a claim, from left to right ("The query")
 unfoldable pub claimUses : Claim → List Use
 claimUses (includes e f) = treeUses e ++ treeUses f
 claimUses (empty e) = treeUses e
 claimUses (irreflexive e) = treeUses e
 
--- the names of a line, from left to right
+-- the names of a line, from left to right ("The query")
 unfoldable pub uses : Line → List Use
 uses (testLine n) = declares n ∷ []
 uses (relLine n) = declares n ∷ []
@@ -51,7 +55,7 @@ uses (assumeEmpty e) = treeUses e
 uses (assumeIrreflexive e) = treeUses e
 uses (claimLine c) = claimUses c
 
--- what a name is declared as by the lines so far
+-- what a name is declared as by the lines so far ("The query")
 unfoldable pub declares? : Line → Name → Option Kind
 declares? (testLine n) m = elim (same n m) [ true ↦ some aTest | false ↦ none ]
 declares? (relLine n) m = elim (same n m) [ true ↦ some aRelation | false ↦ none ]
@@ -63,41 +67,46 @@ declares? (assumeEmpty e) m = none
 declares? (assumeIrreflexive e) m = none
 declares? (claimLine c) m = none
 
+-- what the lines declare a name as, if they do ("The query")
 unfoldable pub kindOf : List Line → Name → Option Kind
 kindOf [] m = none
 kindOf (l ∷ ls) m = elim (declares? l m) [ some k ↦ some k | none ↦ kindOf ls m ]
 
--- the slip of a name that stands where a test, a relation, or a relation or a let is wanted
+-- the slip of a name that stands where a test, a relation, or a relation or a let is wanted ("The query")
 unfoldable pub testSlip : Option Kind → Option Cause
 testSlip none = some unknownName
 testSlip (some aTest) = none
 testSlip (some aRelation) = some wrongKind
 testSlip (some aLet) = some wrongKind
 
+-- where a relation is wanted ("The query")
 unfoldable pub relationSlip : Option Kind → Option Cause
 relationSlip none = some unknownName
 relationSlip (some aTest) = some wrongKind
 relationSlip (some aRelation) = none
 relationSlip (some aLet) = some wrongKind
 
+-- where a relation or a let is wanted ("The query")
 unfoldable pub eitherSlip : Option Kind → Option Cause
 eitherSlip none = some unknownName
 eitherSlip (some aTest) = some wrongKind
 eitherSlip (some aRelation) = none
 eitherSlip (some aLet) = none
 
+-- where a name is declared: reserved, or declared before ("The query")
 unfoldable pub declarationSlip : Bool → Option Kind → Option Cause
 declarationSlip true k = some reservedName
 declarationSlip false none = none
 declarationSlip false (some k) = some declaredTwice
 
+-- the slip of one name, if it is one ("The query")
 unfoldable pub slip : List Line → Use → Option Cause
 slip ls (declares n) = declarationSlip (isReserved n) (kindOf ls n)
 slip ls (usesTest n) = testSlip (kindOf ls n)
 slip ls (usesRelation n) = relationSlip (kindOf ls n)
 slip ls (usesEither n) = eitherSlip (kindOf ls n)
 
--- the leftmost slip
+-- the leftmost slip ("The query")
 unfoldable pub firstSlip : List Line → List Use → Option Cause
 firstSlip ls [] = none
 firstSlip ls (u ∷ us) = elim (slip ls u) [ some c ↦ some c | none ↦ firstSlip ls us ]

@@ -10,19 +10,21 @@ use Rattle.claims.specs.Standings.{System, Letter, letters}
 use Rattle.claims.specs.SheetReading.{Said, saysProved, saysRefuted}
 
 module _ (S : System) where
-  -- the rest of a word completes a refuting word, after a prefix with the standing s
+  -- the rest of a word completes a refuting word, after a prefix with the standing s ("Sheet and graph bytes")
   unfoldable pub completes : S .Standing → Word → Bool
   completes s (end a) = member a (S .finals s)
   completes s (at a r w) = member a (S .live) && completes (S .onward s (record { atom = a; relation = r })) w
 
+  -- the word is a refuting word, by standings ("Sheet and graph bytes")
   unfoldable pub refuting : Word → Bool
   refuting (end a) = member a (S .alone)
   refuting (at a r w) = member a (S .live) && completes (S .begin (record { atom = a; relation = r })) w
 
-  -- the standing is listed; where no left occurrence is possible there is none to list
+  -- the standing is listed; where no left occurrence is possible there is none to list ("Sheet and graph bytes")
   unfoldable pub listed : List (S .Standing) → S .Standing → Bool
   listed ss s = not (S .possible s) || some (S .equal s) ss
 
+  -- what a sheet says passes ("Sheet and graph bytes")
   unfoldable pub passes : Said S → Bool
   passes (saysRefuted w) = refuting w
   passes (saysProved ss) =

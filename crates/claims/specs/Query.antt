@@ -10,45 +10,47 @@ use Rattle.kat.specs.Lists.{upto, filter, some}
 use Rattle.claims.specs.Bytes.{same}
 use Rattle.claims.specs.Tree.{Name, TestTree, testName, always, never, either, both, not, Tree, Claim, empty, Line, testLine, relLine, letLine, neverLine, withinLine, closedLine, assumeEmpty, assumeIrreflexive, claimLine}
 
+-- a query is the list of its lines ("The query")
 abbrev pub Query : Type 0
 Query = List Line
 
--- a name with what it stands for
+-- a name with what it stands for ("The query")
 pub record Bound (A : Type 0) : Type 0 where
   pub called : Name
   pub means : A
 
--- the two tests of a `within` line
+-- the two tests of a `within` line ("The query")
 pub record Limit : Type 0 where
   pub from : TestTree
   pub to : TestTree
 
 module _ {A : Type 0} where
-  -- what each line gives, in the order of the lines
+  -- what each line gives, in the order of the lines ("The query")
   abbrev pub each : (Line → List A) → Query → List A
   each f [] = []
   each f (l ∷ ls) = f l ++ each f ls
 
-  -- what a name is bound to, or d
+  -- what a name is bound to, or d ("The query")
   abbrev pub lookup : A → Name → List (Bound A) → A
   lookup d n [] = d
   lookup d n (b ∷ bs) = elim (same n (b .called)) [ true ↦ b .means | false ↦ lookup d n bs ]
 
-  -- each name with what w gives it
+  -- each name with what w gives it ("The query")
   abbrev pub bound : (Name → A) → List Name → List (Bound A)
   bound w [] = []
   bound w (n ∷ ns) = record { called = n; means = w n } ∷ bound w ns
 
-  -- each let, in order, with what f makes of its expression over the names before it
+  -- each let, in order, with what f makes of its expression over the names before it ("The query")
   abbrev pub boundLets : (List (Bound A) → Tree → A) → List (Bound A) → List (Bound Tree) → List (Bound A)
   boundLets f env [] = env
   boundLets f env (b ∷ bs) = boundLets f (env ++ (record { called = b .called; means = f env (b .means) } ∷ [])) bs
 
--- the place of a name in a list of names, from 0
+-- the place of a name in a list of names, from 0 ("The query")
 abbrev pub indexOf : Name → List Name → ℕ
 indexOf n [] = 0
 indexOf n (m ∷ ms) = elim (same n m) [ true ↦ 0 | false ↦ suc (indexOf n ms) ]
 
+-- the test that a line declares ("The query")
 unfoldable pub testNames : Line → List Name
 testNames (testLine n) = n ∷ []
 testNames (relLine n) = []
@@ -60,6 +62,7 @@ testNames (assumeEmpty e) = []
 testNames (assumeIrreflexive e) = []
 testNames (claimLine c) = []
 
+-- the relation that a line declares ("The query")
 unfoldable pub relationNames : Line → List Name
 relationNames (testLine n) = []
 relationNames (relLine n) = n ∷ []
@@ -71,6 +74,7 @@ relationNames (assumeEmpty e) = []
 relationNames (assumeIrreflexive e) = []
 relationNames (claimLine c) = []
 
+-- the let that a line declares ("The query")
 unfoldable pub lets : Line → List (Bound Tree)
 lets (testLine n) = []
 lets (relLine n) = []
@@ -82,6 +86,7 @@ lets (assumeEmpty e) = []
 lets (assumeIrreflexive e) = []
 lets (claimLine c) = []
 
+-- the test of a `never` line ("The query")
 unfoldable pub nevers : Line → List TestTree
 nevers (testLine n) = []
 nevers (relLine n) = []
@@ -93,6 +98,7 @@ nevers (assumeEmpty e) = []
 nevers (assumeIrreflexive e) = []
 nevers (claimLine c) = []
 
+-- the limits that a line sets to relation m ("The query")
 unfoldable pub limits : Name → Line → List Limit
 limits m (testLine n) = []
 limits m (relLine n) = []
@@ -104,6 +110,7 @@ limits m (assumeEmpty e) = []
 limits m (assumeIrreflexive e) = []
 limits m (claimLine c) = []
 
+-- the relation that a line closes ("The query")
 unfoldable pub closings : Line → List Name
 closings (testLine n) = []
 closings (relLine n) = []
@@ -115,6 +122,7 @@ closings (assumeEmpty e) = []
 closings (assumeIrreflexive e) = []
 closings (claimLine c) = []
 
+-- the expression that a line assumes empty ("The query")
 unfoldable pub assumedEmpty : Line → List Tree
 assumedEmpty (testLine n) = []
 assumedEmpty (relLine n) = []
@@ -126,6 +134,7 @@ assumedEmpty (assumeEmpty e) = e ∷ []
 assumedEmpty (assumeIrreflexive e) = []
 assumedEmpty (claimLine c) = []
 
+-- the expression that a line assumes irreflexive ("The query")
 unfoldable pub assumedIrreflexive : Line → List Tree
 assumedIrreflexive (testLine n) = []
 assumedIrreflexive (relLine n) = []
@@ -137,6 +146,7 @@ assumedIrreflexive (assumeEmpty e) = []
 assumedIrreflexive (assumeIrreflexive e) = e ∷ []
 assumedIrreflexive (claimLine c) = []
 
+-- the claim of a line ("The query")
 unfoldable pub claimsOf : Line → List Claim
 claimsOf (testLine n) = []
 claimsOf (relLine n) = []
@@ -148,26 +158,28 @@ claimsOf (assumeEmpty e) = []
 claimsOf (assumeIrreflexive e) = []
 claimsOf (claimLine c) = c ∷ []
 
+-- the tests, numbered from 0 as declared ("The query")
 unfoldable pub tests : Query → List Name
 tests q = each testNames q
 
+-- the relations, numbered from 0 as declared ("The query")
 unfoldable pub relations : Query → List Name
 relations q = each relationNames q
 
--- relation r is closed
+-- relation r is closed ("The query")
 unfoldable pub closed : Query → Name → Bool
 closed q r = some (same r) (each closings q)
 
 module _ {A : Type 0} where
-  -- the relations with what w gives each, then the lets with what f makes of them
+  -- the relations with what w gives each, then the lets with what f makes of them ("The query")
   unfoldable pub names : Query → (Name → A) → (List (Bound A) → Tree → A) → List (Bound A)
   names q w f = boundLets f (bound w (relations q)) (each lets q)
 
--- bit i of a is set
+-- bit i of a is set ("Words")
 unfoldable pub bit : ℕ → ℕ → Bool
 bit i a = eqb (a / 2 ^ i % 2) 1
 
--- an event with atom a satisfies T: test i holds where the atom has bit i
+-- an event with atom a satisfies T: test i holds where the atom has bit i ("Words")
 unfoldable pub holds : List Name → TestTree → ℕ → Bool
 holds ns (testName n) a = bit (indexOf n ns) a
 holds ns always a = true
@@ -176,14 +188,14 @@ holds ns (either t u) a = holds ns t a || holds ns u a
 holds ns (both t u) a = holds ns t a && holds ns u a
 holds ns (not t) a = flip (holds ns t a)
 
--- how many atoms there are: numbers from 0 to below this
+-- how many atoms there are: numbers from 0 to below this ("Words")
 unfoldable pub atoms : Query → ℕ
 atoms q = 2 ^ length (tests q)
 
--- an atom under a `never` is removed
+-- an atom under a `never` is removed ("Words")
 unfoldable pub removed : Query → ℕ → Bool
 removed q a = some (λ t. holds (tests q) t a) (each nevers q)
 
--- the atoms that are not removed, rising
+-- the atoms that are not removed, rising ("Words")
 unfoldable pub live : Query → List ℕ
 live q = filter (λ a. flip (removed q a)) (upto 0 (atoms q))

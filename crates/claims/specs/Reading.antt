@@ -17,13 +17,13 @@ use Rattle.claims.specs.Query.{Query, each, tests, relations, lets, clai
 use Rattle.claims.specs.Counting.{withinLimits}
 use Rattle.claims.specs.Refusals.{Cause, tooLong, badByte, notation, tooDeep, tooMany, noClaim, afterClaim, overLimit, Result, ok, refuse, onward}
 
--- the line of the first byte that is neither printable nor byte 10; n is the line of the first byte
+-- the line of the first byte that is neither printable nor byte 10; n is the line of the first byte ("Refusals with an example each")
 unfoldable pub badLine : ℕ → List ℕ → Option ℕ
 badLine n [] = none
 badLine n (b ∷ bs) =
     elim (eqb b 10) [ true ↦ badLine (suc n) bs | false ↦ elim (printable b) [ true ↦ badLine n bs | false ↦ some n ] ]
 
--- one declaration too many: 6 tests, 16 relations and 32 lets at most
+-- one declaration too many: 6 tests, 16 relations and 32 lets at most ("Refusals with an example each")
 unfoldable pub crowded : Query → Line → Bool
 crowded q (testLine n) = leb 6 (length (tests q))
 crowded q (relLine n) = leb 16 (length (relations q))
@@ -35,11 +35,11 @@ crowded q (assumeEmpty e) = false
 crowded q (assumeIrreflexive e) = false
 crowded q (claimLine c) = false
 
--- the claim, which is the last line
+-- the claim, which is the last line ("Refusals with an example each")
 unfoldable pub claimOf : Query → Option Claim
 claimOf q = elim (each claimsOf q) [ [] ↦ none | c ∷ cs ↦ some c ]
 
--- line n after the lines of q, as the notation found it
+-- line n after the lines of q, as the notation found it ("Refusals with an example each")
 unfoldable pub readLine : Query → ℕ → Found Line → Result Line
 readLine q n (got l us) =
     elim (firstSlip q (uses l)) [
@@ -49,7 +49,7 @@ readLine q n (got l us) =
 readLine q n wrong = refuse notation n
 readLine q n deep = refuse tooDeep n
 
--- the lines from line n on, after those of q
+-- the lines from line n on, after those of q ("Refusals with an example each")
 unfoldable pub readLines : Query → ℕ → List RawLine → Result Query
 readLines q n [] = ok q
 readLines q n (l ∷ ls) =
@@ -58,7 +58,7 @@ readLines q n (l ∷ ls) =
       | none ↦ onward (readLine q n (line l)) (λ x. readLines (q ++ (x ∷ [])) (suc n) ls)
     ]
 
--- a claim there must be, and its sides within the limits; 8 is placed at the claim line, which is the last
+-- a claim there must be, and its sides within the limits; 8 is placed at the claim line, which is the last ("Refusals with an example each")
 unfoldable pub limited : Query → Result Query
 limited q =
     elim (claimOf q) [
@@ -66,6 +66,7 @@ limited q =
       | some c ↦ elim (withinLimits q c) [ true ↦ ok q | false ↦ refuse overLimit (length q) ]
     ]
 
+-- the query that the bytes are, or the first refusal: 1, then 2, then the lines, a missing claim, and 8 ("Refusals with an example each")
 unfoldable pub read : List ℕ → Result Query
 read bs =
     elim (leb (length bs) 4096) [

@@ -3,6 +3,7 @@
 -- Assumes nothing.
 use Prim.Native.Nat.{ℕ}
 
+-- why something is refused ("Refusals with an example each")
 pub data Cause : Type 0 where
   tooLong badByte : Cause
   notation tooDeep : Cause
@@ -16,6 +17,7 @@ pub data Cause : Type 0 where
   graphField sheetField : Cause
   doesNotPass : Cause
 
+-- the number that is reported ("Refusals with an example each")
 unfoldable pub number : Cause → ℕ
 number tooLong = 1
 number badByte = 2
@@ -37,20 +39,22 @@ number graphField = 12
 number sheetField = 13
 number doesNotPass = 14
 
+-- a refusal gives its number, by its cause, and a place ("Refusals with an example each")
 pub record Refusal : Type 0 where
   pub cause : Cause
   pub place : ℕ
 
--- a value, or the refusal that stands in its stead
+-- a value, or the refusal that stands in its stead ("Refusals with an example each")
 pub data Result (A : Type 0) : Type 0 where
   ok : A → Result A
   refused : Refusal → Result A
 
+-- the result that is a refusal ("Refusals with an example each")
 abbrev pub refuse : {A : Type 0} → Cause → ℕ → Result A
 refuse c p = refused (record { cause = c; place = p })
 
 module _ {A B : Type 0} where
-  -- what is asked of the value comes after what refused it
+  -- what is asked of the value comes after what refused it ("Refusals with an example each")
   abbrev pub onward : Result A → (A → Result B) → Result B
   onward (ok a) k = k a
   onward (refused r) k = refused r

@@ -13,40 +13,40 @@ use Rattle.kat.specs.Ring.{Prefix, nothing, then, onto}
 use Rattle.claims.specs.Standings.{System, Letter, letters}
 
 module _ (S : System) where
-  -- a standing with a prefix that has it
+  -- a standing with a prefix that has it ("Standings")
   pub record Entry : Type 0 where
     pub standing : S .Standing
     pub prefix : Prefix
 
--- proved with its standings, refuted with the first word, or allowance spent
+-- proved with its standings, refuted with the first word, or allowance spent ("Standings")
 pub data Verdict (S : System) : Type 0 where
   proved : List (S .Standing) → Verdict S
   refuted : Word → Verdict S
   spent : Verdict S
 
 module _ (S : System) where
-  -- the prefixes of one relation
+  -- the prefixes of one relation ("Standings")
   unfoldable pub firstLevel : List Letter → List (Entry S)
   firstLevel [] = []
   firstLevel (l ∷ ls) =
       record { standing = S .begin l; prefix = then nothing (l .atom) (l .relation) } ∷ firstLevel ls
 
-  -- one relation more, for each letter
+  -- one relation more, for each letter ("Standings")
   unfoldable pub grown : Entry S → List Letter → List (Entry S)
   grown e [] = []
   grown e (l ∷ ls) =
       record { standing = S .onward (e .standing) l; prefix = then (e .prefix) (l .atom) (l .relation) } ∷ grown e ls
 
-  -- the next level, of what stands in this one
+  -- the next level, of what stands in this one ("Standings")
   unfoldable pub nextLevel : List (Entry S) → List (Entry S)
   nextLevel [] = []
   nextLevel (e ∷ es) = grown e (letters S) ++ nextLevel es
 
-  -- the standing is among those seen
+  -- the standing is among those seen ("Standings")
   unfoldable pub seenIn : List (Entry S) → S .Standing → Bool
   seenIn seen s = someOf (λ e. S .equal s (e .standing)) seen
 
-  -- those that have a standing which was not seen, each once
+  -- those that have a standing which was not seen, each once ("Standings")
   unfoldable pub fresh : List (Entry S) → List (Entry S) → List (Entry S)
   fresh seen [] = []
   fresh seen (e ∷ es) =
@@ -55,12 +55,12 @@ module _ (S : System) where
         | false ↦ fresh seen es
       ]
 
-  -- the first refuting word that a level completes
+  -- the first refuting word that a level completes ("Standings")
   unfoldable pub completed : List (Entry S) → Option Word
   completed [] = none
   completed (e ∷ es) = elim (S .finals (e .standing)) [ [] ↦ completed es | a ∷ as′ ↦ some (onto (e .prefix) (end a)) ]
 
-  -- level n and on, n at least 1: seen are the standings of levels 1 to n, new those that are fresh in level n
+  -- level n and on, n at least 1: seen are the standings of levels 1 to n, new those that are fresh in level n ("Standings")
   unfoldable pub levels : ℕ → ℕ → List (Entry S) → List (Entry S) → Verdict S
   levels zero allowance seen new = spent
   levels (suc f) allowance seen new =
@@ -76,7 +76,7 @@ module _ (S : System) where
       ]
 
   -- level 0 has no standing; then level by level. Each level but the last adds a standing, so there are at most as many as the
-  -- allowance, and two more.
+  -- allowance, and two more. ("Standings")
   unfoldable pub verdict : ℕ → Verdict S
   verdict allowance =
       elim (S .alone) [

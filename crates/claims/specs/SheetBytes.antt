@@ -9,30 +9,34 @@ use Rattle.claims.specs.Standings.{System, Path, Ring, row}
 use Rattle.claims.specs.Search.{Verdict, proved, refuted, spent}
 use Rattle.claims.specs.Fields.{bigEndian, setNumber, field}
 
--- how many rows a table of a ring standing has in a sheet, each of a quarter as many bits in bytes
+-- how many rows a table of a ring standing has in a sheet, each of a quarter as many bits in bytes ("Sheet and graph bytes")
 unfoldable pub width : ℕ
 width = 32
 
+-- a set in 8 bytes, bit k - 1 for occurrence k ("Sheet and graph bytes")
 unfoldable pub setBytes : List ℕ → List ℕ
 setBytes s = bigEndian 8 (setNumber 1 s)
 
--- n rows from row p on; a row that the table lacks is empty
+-- n rows from row p on; a row that the table lacks is empty ("Sheet and graph bytes")
 unfoldable pub rowBytes : List (List ℕ) → ℕ → ℕ → List ℕ
 rowBytes t p zero = []
 rowBytes t p (suc n) = bigEndian 4 (setNumber 0 (row t p)) ++ rowBytes t (suc p) n
 
+-- P, S: 16 bytes ("Sheet and graph bytes")
 unfoldable pub pathBytes : Path → List ℕ
 pathBytes s = setBytes (s .P) ++ setBytes (s .S)
 
+-- first atom, Z, P, 32 rows of M, 32 rows of N: 266 bytes ("Sheet and graph bytes")
 unfoldable pub ringBytes : Ring → List ℕ
 ringBytes s = s .first ∷ cond (s .Z) 1 0 ∷ (setBytes (s .P) ++ (rowBytes (s .M) 0 width ++ rowBytes (s .N) 0 width))
 
 module _ (S : System) (contents : S .Standing → List ℕ) where
+  -- one tag 3 a standing ("Sheet and graph bytes")
   unfoldable pub standingFields : List (S .Standing) → List ℕ
   standingFields [] = []
   standingFields (s ∷ ss) = field 3 (contents s) ++ standingFields ss
 
-  -- the sheet of a verdict; a spent allowance has none
+  -- the sheet of a verdict; a spent allowance has none ("Sheet and graph bytes")
   unfoldable pub sheetBytes : Verdict S → List ℕ
   sheetBytes (proved ss) = field 1 (1 ∷ []) ++ standingFields ss
   sheetBytes (refuted w) = field 1 (2 ∷ []) ++ field 2 (numbers w)

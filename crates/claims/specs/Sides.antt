@@ -11,7 +11,7 @@ use Rattle.kat.specs.Tables.{null}
 use Rattle.claims.specs.Tree.{Name, Tree, name, tested, union, sequence, star, plus, opt, Claim, includes, empty, irreflexive}
 use Rattle.claims.specs.Query.{Query, Bound, Limit, lookup, each, names, indexOf, tests, relations, limits, closed, holds, atoms, live, assumedEmpty, assumedIrreflexive}
 
--- an expression as written, where each name stands for what it is bound to
+-- an expression as written, where each name stands for what it is bound to ("Words")
 unfoldable pub expand : List Name → List (Bound Expr) → Tree → Expr
 expand ts env (name n) = lookup nowhere n env
 expand ts env (tested t) = test (holds ts t)
@@ -21,48 +21,51 @@ expand ts env (star e) = starred (expand ts env e)
 expand ts env (plus e) = repeated (expand ts env e)
 expand ts env (opt e) = optional (expand ts env e)
 
--- an expression of the query, where each relation stands for what w says, and lets are expanded
+-- an expression of the query, where each relation stands for what w says, and lets are expanded ("Words")
 unfoldable pub meant : Query → (Name → Expr) → Tree → Expr
 meant q w e = expand (tests q) (names q w (expand (tests q))) e
 
--- the single step of a relation
+-- the single step of a relation ("Words")
 unfoldable pub single : Query → Name → Expr
 single q n = rel (indexOf n (relations q))
 
--- e from T to U, for each limit
+-- e from T to U, for each limit ("Words")
 unfoldable pub bounded : List Name → List Limit → Expr → Expr
 bounded ts [] e = e
 bounded ts (l ∷ ls) e = bounded ts ls (seq (seq (test (holds ts (l .from))) e) (test (holds ts (l .to))))
 
--- what a relation stands for
+-- what a relation stands for ("Words")
 unfoldable pub replaced : Query → Name → Expr
 replaced q n =
     let e : Expr = bounded (tests q) (each (limits n) q) (single q n) in
     elim (closed q n) [ true ↦ repeated e | false ↦ e ]
 
+-- an expression of a side: relations replaced, lets expanded ("Words")
 unfoldable pub side : Query → Tree → Expr
 side q e = meant q (replaced q) e
 
+-- the union of several expressions ("Words")
 abbrev pub unionAll : Query → List Tree → Expr
 unionAll q [] = nowhere
 unionAll q (e ∷ es) = alt (side q e) (unionAll q es)
 
--- the union of all assumed-empty expressions, and of the assumed-irreflexive ones
+-- the union of all assumed-empty expressions ("Words")
 unfoldable pub a0 : Query → Expr
 a0 q = unionAll q (each assumedEmpty q)
 
+-- the union of the assumed-irreflexive expressions ("Words")
 unfoldable pub a1 : Query → Expr
 a1 q = unionAll q (each assumedIrreflexive q)
 
--- the set of length-0 words of a1
+-- the set of length-0 words of a1 ("Words")
 unfoldable pub zero : Query → Expr
 zero q = test (null (a1 q))
 
--- any*;e;any*
+-- any*;e;any* ("Words")
 unfoldable pub somewhere : Expr → Expr
 somewhere e = seq (seq (starred any) e) (starred any)
 
--- what the search, the sheet and its check are about: all that a claim leaves of a query
+-- what the search, the sheet and its check are about: all that a claim leaves of a query ("Words")
 pub record Decision : Type 0 where
   pub ring : Bool  -- a ring claim, or a path claim
   pub left : Expr
@@ -71,11 +74,12 @@ pub record Decision : Type 0 where
   pub live : List ℕ  -- those under no `never`, rising
   pub relations : ℕ  -- how many relations
 
+-- a decision of the query, with its sides ("Words")
 abbrev pub decisionOf : Query → Bool → Expr → Expr → Decision
 decisionOf q k l r =
     record { ring = k; left = l; right = r; atoms = atoms q; live = live q; relations = length (relations q) }
 
--- y | any*;(a0 | zero);any* for a path claim, a1 | any*;a0;any* for a ring claim
+-- y | any*;(a0 | zero);any* for a path claim, a1 | any*;a0;any* for a ring claim ("Words")
 unfoldable pub decision : Query → Claim → Decision
 decision q (includes e f) = decisionOf q false (side q e) (alt (side q f) (somewhere (alt (a0 q) (zero q))))
 decision q (empty e) = decisionOf q false (side q e) (alt nowhere (somewhere (alt (a0 q) (zero q))))

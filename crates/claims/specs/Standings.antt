@@ -13,12 +13,12 @@ use Rattle.kat.specs.Closure.{Table, entry, closure}
 use Rattle.claims.specs.Bytes.{same}
 use Rattle.claims.specs.Sides.{Decision}
 
--- an atom and a relation: what a prefix grows by
+-- an atom and a relation: what a prefix grows by ("Standings")
 pub record Letter : Type 0 where
   pub atom : ℕ
   pub relation : ℕ
 
--- a kind of standing
+-- a kind of standing ("Standings")
 pub record System : Type 1 where
   pub Standing : Type 0
   pub equal : Standing → Standing → Bool
@@ -30,26 +30,29 @@ pub record System : Type 1 where
   pub live : List ℕ  -- the atoms that are not removed, rising
   pub relations : ℕ  -- how many relations
 
--- the letters, in the order of words: atoms rising, and relations rising for each
+-- the letters, in the order of words: atoms rising, and relations rising for each ("Standings")
 unfoldable pub lettersAt : List ℕ → ℕ → List Letter
 lettersAt rs a = map (λ r. record { atom = a; relation = r }) rs
 
+-- each atom with each relation ("Standings")
 unfoldable pub lettersOf : List ℕ → List ℕ → List Letter
 lettersOf [] rs = []
 lettersOf (a ∷ as′) rs = lettersAt rs a ++ lettersOf as′ rs
 
+-- the letters of a system ("Standings")
 unfoldable pub letters : System → List Letter
 letters S = lettersOf (S .live) (upto 0 (S .relations))
 
--- a single atom refutes where it is a left word and no right word, in a path and in a ring
+-- a single atom refutes where it is a left word and no right word, in a path and in a ring ("Standings")
 unfoldable pub alone : Decision → List ℕ
 alone D = filter (λ a. null (D .left) a && not (null (D .right) a)) (D .live)
 
--- Path: the set P of left occurrences that the prefix may have just read, and the set S of right ones
+-- Path: the set P of left occurrences that the prefix may have just read, and the set S of right ones ("Standings")
 pub record Path : Type 0 where
   pub P : List ℕ
   pub S : List ℕ
 
+-- one letter on ("Standings")
 unfoldable pub pathStep : Decision → Path → Letter → Path
 pathStep D s l =
     record {
@@ -57,10 +60,11 @@ pathStep D s l =
       S = after (D .right) (s .S) (l .atom) (l .relation);
     }
 
--- it completes with an atom at which a left word may end and no right word
+-- it completes with an atom at which a left word may end and no right word ("Standings")
 unfoldable pub pathFinals : Decision → Path → List ℕ
 pathFinals D s = filter (λ a. ends (D .left) (s .P) a && not (ends (D .right) (s .S) a)) (D .live)
 
+-- the standings of path claims ("Standings")
 abbrev pub pathSystem : Decision → System
 pathSystem D =
     record {
@@ -78,7 +82,7 @@ pathSystem D =
 -- Ring: the first atom; flag Z, an atom before one of its relations is a right word; P; table M, from 0 and from each right
 -- occurrence those reached by reading the prefix; table N of pairs (q, p) such that at some atom strictly inside the prefix q is
 -- reached from 0 by the part after it, and from p the part before it reaches an occurrence that may end at that atom. M has a row
--- for each p, N a row for each q.
+-- for each p, N a row for each q. ("Standings")
 pub record Ring : Type 0 where
   pub first : ℕ
   pub Z : Bool
@@ -86,17 +90,19 @@ pub record Ring : Type 0 where
   pub M : List (List ℕ)
   pub N : List (List ℕ)
 
+-- row p of a table; one that it lacks is empty ("Standings")
 abbrev pub row : List (List ℕ) → ℕ → List ℕ
 row t p = getD t p []
 
--- 0 and the right occurrences
+-- 0 and the right occurrences ("Standings")
 unfoldable pub states : Decision → List ℕ
 states D = upto 0 (suc (occurrences (D .right)))
 
--- right occurrence q may be read next by the letter, where p was read last
+-- right occurrence q may be read next by the letter, where p was read last ("Standings")
 unfoldable pub moves : Decision → Letter → ℕ → ℕ → Bool
 moves D l p q = reads (D .right) 0 q (l .relation) && next (D .right) p q (l .atom)
 
+-- the standing of a prefix of one relation ("Standings")
 unfoldable pub ringBegin : Decision → Letter → Ring
 ringBegin D l =
     record {
@@ -107,7 +113,7 @@ ringBegin D l =
       N = map (λ q. []) (states D);
     }
 
--- row q of N one letter on: q is reached from an occurrence that was paired, or the part after the letter's atom begins with q
+-- row q of N one letter on: q is reached from an occurrence that was paired, or the part after the letter's atom begins with q ("Standings")
 unfoldable pub pairs : Decision → Ring → Letter → ℕ → List ℕ
 pairs D s l q =
     filter
@@ -115,6 +121,7 @@ pairs D s l q =
     || (moves D l 0 q && ends (D .right) (row (s .M) p) (l .atom)))
     (states D)
 
+-- one letter on ("Standings")
 unfoldable pub ringStep : Decision → Ring → Letter → Ring
 ringStep D s l =
     record {
@@ -126,7 +133,7 @@ ringStep D s l =
     }
 
 -- the completed ring is covered: n = 0 by Z; a rotation from the first atom by turns from 0, one or more; one from inside by a pair
--- (q, p), with none or more turns from q to p
+-- (q, p), with none or more turns from q to p ("Standings")
 unfoldable pub covered : Decision → Ring → Bool
 covered D s =
     let turns : Table = closure (suc (occurrences (D .right))) (λ p q. member q (row (s .M) p)) in
@@ -134,17 +141,19 @@ covered D s =
     || some (λ q. entry turns 0 q && stop (D .right) q (s .first)) (states D)
     || some (λ q. some (λ p. eqb q p || entry turns q p) (row (s .N) q)) (states D)
 
--- a ring completes with its first atom, if that is not removed
+-- a ring completes with its first atom, if that is not removed ("Standings")
 unfoldable pub ringFinals : Decision → Ring → List ℕ
 ringFinals D s =
     cond (member (s .first) (D .live) && ends (D .left) (s .P) (s .first) && not (covered D s)) (s .first ∷ []) []
 
+-- two tables are equal ("Standings")
 abbrev pub sameRows : List (List ℕ) → List (List ℕ) → Bool
 sameRows [] [] = true
 sameRows [] (y ∷ ys) = false
 sameRows (x ∷ xs) [] = false
 sameRows (x ∷ xs) (y ∷ ys) = same x y && sameRows xs ys
 
+-- the standings of ring claims ("Standings")
 abbrev pub ringSystem : Decision → System
 ringSystem D =
     record {

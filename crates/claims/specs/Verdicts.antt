@@ -13,59 +13,60 @@ use Rattle.kat.specs.Ring.{Prefix, nothing, then}
 use Rattle.claims.specs.Standings.{System, Letter}
 use Rattle.claims.specs.Passing.{refuting}
 
--- how many relations a prefix has
+-- how many relations a prefix has ("Standings")
 abbrev pub relationsIn : Prefix → ℕ
 relationsIn nothing = zero
 relationsIn (then l a r) = suc (relationsIn l)
 
--- no member stands twice in the list
+-- no member stands twice in the list ("Standings")
 abbrev pub Distinct : {A : Type 0} → List A → Type 0
 Distinct [] = Unit {0}
 Distinct (x ∷ xs) = (In x xs → ⊥) × Distinct xs
 
--- lists of numbers, the first no later than the second in the order of words
+-- lists of numbers, the first no later than the second in the order of words ("Standings")
 abbrev pub NotAfter : List ℕ → List ℕ → Type 0
 NotAfter [] ys = Unit {0}
 NotAfter (x ∷ xs) [] = ⊥
 NotAfter (x ∷ xs) (y ∷ ys) = (x < y) ⊎ ((x ≡ y) × NotAfter xs ys)
 
 module _ (S : System) where
-  -- a word of the query: no removed atom, and declared relations
+  -- a word of the query: no removed atom, and declared relations ("Standings")
   abbrev pub GuardedWord : Word → Type 0
   GuardedWord (end a) = member a (S .live) ≡ true
   GuardedWord (at a r w) = (member a (S .live) ≡ true) × (r < S .relations) × GuardedWord w
 
-  -- s is the standing of the prefix l: each of its atoms is live and each of its relations declared
+  -- s is the standing of the prefix l: each of its atoms is live and each of its relations declared ("Standings")
   pub data StandingOf : Prefix → S .Standing → Type 0 where
     begun : {a r : ℕ} → member a (S .live) ≡ true → r < S .relations
         → StandingOf (then nothing a r) (S .begin (record { atom = a; relation = r }))
     grown : {l : Prefix} {s : S .Standing} {a r : ℕ} → StandingOf l s → member a (S .live) ≡ true → r < S .relations
         → StandingOf (then l a r) (S .onward s (record { atom = a; relation = r }))
 
-  -- level n holds s: it is the standing of a prefix of n relations, after which a left occurrence is possible
+  -- level n holds s: it is the standing of a prefix of n relations, after which a left occurrence is possible ("Standings")
   abbrev pub Holds : ℕ → S .Standing → Type 0
   Holds n s = (l : Prefix) × StandingOf l s × (relationsIn l ≡ n) × (S .possible s ≡ true)
 
-  -- s stands in one of the levels 1 to n
+  -- s stands in one of the levels 1 to n ("Standings")
   abbrev pub Within : ℕ → S .Standing → Type 0
   Within n s = (m : ℕ) × (m ≤ n) × Holds m s
 
-  -- no word shorter than n refutes
+  -- no word shorter than n refutes ("Standings")
   abbrev pub NoneShorter : ℕ → Type 0
   NoneShorter n = (v : Word) → GuardedWord v → size v < n → refuting S v ≡ false
 
-  -- levels 1 to n hold at most, or more than, so many distinct standings
+  -- levels 1 to n hold at most, or more than, so many distinct standings ("Standings")
   abbrev pub AtMost : ℕ → ℕ → Type 0
   AtMost n c = (ss : List (S .Standing)) → Distinct ss → ((s : S .Standing) → In s ss → Within n s) → length ss ≤ c
 
+  -- levels 1 to n hold more than c distinct standings ("Standings")
   abbrev pub MoreThan : ℕ → ℕ → Type 0
   MoreThan n c = (ss : List (S .Standing)) × Distinct ss × ((s : S .Standing) → In s ss → Within n s) × (c < length ss)
 
-  -- level m holds a standing that no earlier level holds
+  -- level m holds a standing that no earlier level holds ("Standings")
   abbrev pub FreshAt : ℕ → Type 0
   FreshAt m = (s : S .Standing) × Holds m s × ((k : ℕ) → k < m → Holds k s → ⊥)
 
-  -- proved: no word of any length refutes, and the list has each standing of a prefix once, within the allowance
+  -- proved: no word of any length refutes, and the list has each standing of a prefix once, within the allowance ("Standings")
   abbrev pub ProvedBy : ℕ → List (S .Standing) → Type 0
   ProvedBy allowance ss =
       ((v : Word) → GuardedWord v → refuting S v ≡ false)
@@ -74,7 +75,7 @@ module _ (S : System) where
       × (length ss ≤ allowance)
 
   -- refuted: the word refutes, no shorter one does, none of its length that comes first does, and the levels up to it keep to the
-  -- allowance
+  -- allowance ("Standings")
   abbrev pub RefutedBy : ℕ → Word → Type 0
   RefutedBy allowance w =
       GuardedWord w
@@ -84,7 +85,7 @@ module _ (S : System) where
       × AtMost (size w) allowance
 
   -- spent: at some n levels 1 to n hold more than the allowance, no word shorter than n refutes, and every level from 1 to n - 1 has
-  -- a fresh standing
+  -- a fresh standing ("Standings")
   abbrev pub SpentAt : ℕ → ℕ → Type 0
   SpentAt allowance n =
       MoreThan n allowance

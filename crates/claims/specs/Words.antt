@@ -11,17 +11,17 @@ use Rattle.kat.specs.Language.{Lang}
 use Rattle.kat.specs.Ring.{Covered, body, nothing}
 use Rattle.claims.specs.Sides.{Decision}
 
--- a guarded word of the query: no removed atom, and declared relations
+-- a guarded word of the query: no removed atom, and declared relations ("Words")
 abbrev pub Guarded : Decision → Word → Type 0
 Guarded D (end a) = member a (D .live) ≡ true
 Guarded D (at a r w) = (member a (D .live) ≡ true) × (r < D .relations) × Guarded D w
 
 -- path claims: the word isn't a right word. Ring claims: its first and last atoms are equal and no rotation of it, repeated n
--- times, n at least 0, is a right word.
+-- times, n at least 0, is a right word. ("Words")
 abbrev pub Uncovered : Bool → Expr → Word → Type 0
 Uncovered false R w = Lang R w → ⊥
 Uncovered true R w = (first w ≡ last w) × (Covered R (first w) (body nothing w) → ⊥)
 
--- a left word that is not covered
+-- a left word that is not covered ("Words")
 abbrev pub Refutes : Decision → Word → Type 0
 Refutes D w = Guarded D w × Lang (D .left) w × Uncovered (D .ring) (D .right) w

@@ -7,6 +7,7 @@ use Prim.Native.Nat.{ℕ}
 use mathlib.Core.Bool.{Bool, true, false}
 use lib.Dec.{eqb}
 
+-- expressions ("Words")
 pub data Expr : Type 0 where
   step : (ℕ → Bool) → Expr  -- one step of a relation in the set
   test : (ℕ → Bool) → Expr  -- stay at an event whose atom is in the set
@@ -14,22 +15,22 @@ pub data Expr : Type 0 where
   seq : Expr → Expr → Expr  -- sequence
   plus : Expr → Expr  -- one or more times
 
--- one step of relation r
+-- one step of relation r ("Words")
 abbrev pub rel : ℕ → Expr
 rel r = step (eqb r)
 
--- one step of whichever relation
+-- one step of whichever relation ("Words")
 abbrev pub any : Expr
 any = step (λ r. true)
 
--- the union of nothing
+-- the union of nothing ("Words")
 abbrev pub none : Expr
 none = test (λ a. false)
 
--- `?` adds each event with itself
+-- `?` adds each event with itself ("Words")
 abbrev pub opt : Expr → Expr
 opt e = alt e (test (λ a. true))
 
--- `*` is `+`, then `?`
+-- `*` is `+`, then `?` ("Words")
 abbrev pub star : Expr → Expr
 star e = opt (plus e)

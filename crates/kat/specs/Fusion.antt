@@ -23,6 +23,7 @@ pub data Power (L : Word → Type 0) : Word → Type 0 where
   single : {w : Word} → L w → Power L w
   join : {u v w : Word} → L u → Power L v → last u ≡ first v → w ≡ fuse u v → Power L w
 
+-- the language of E by fusion products
 abbrev pub Textbook : Expr → Word → Type 0
 Textbook (step s) w = (a : ℕ) × (r : ℕ) × (b : ℕ) × (s r ≡ true) × (w ≡ at a r (end b))
 Textbook (test s) w = (a : ℕ) × (s a ≡ true) × (w ≡ end a)

@@ -8,14 +8,15 @@ use Rattle.kat.specs.Expr.{Expr}
 use Rattle.kat.specs.Graph.{Graph, Rel}
 use Rattle.kat.specs.Word.{Word, end, at, first, last}
 
--- relation r leads from the place u to the place v
+-- relation r leads from the place u to the place v ("Words")
 abbrev pub Leads : ℕ → Word → Word → Type 0
 Leads r (end a) v = ⊥
 Leads r (at a s u) v = (s ≡ r) × (u ≡ v)
 
+-- the graph of all places of words ("Words")
 abbrev pub places : Graph
 places = record { Event = Word; atom = first; edge = Leads }
 
--- w is a word of E
+-- w is a word of E ("Words")
 abbrev pub Lang : Expr → Word → Type 0
 Lang E w = Rel places E w (end (last w))
