@@ -78,19 +78,19 @@ filter-agrees p q lo zero h = refl
 filter-agrees p q lo (suc n) h =
     rw (h lo (omega arith), filter-agrees p q (suc lo) n (λ k i. h k (omega arith)))
 
-bit-zero : (m : ℕ) → bit 0 m ≡ eqb (m % 2) 1
+pub bit-zero : (m : ℕ) → bit 0 m ≡ eqb (m % 2) 1
 unfolding bit
 bit-zero m = ap (λ k. eqb (k % 2) 1) (div-one m)
 
-bit-suc : (i m : ℕ) → bit (suc i) m ≡ bit i (m / 2)
+pub bit-suc : (i m : ℕ) → bit (suc i) m ≡ bit i (m / 2)
 unfolding bit
 bit-suc i m = ap (λ k. eqb (k % 2) 1) (ap (λ k. m / k) (pow-succ' 2 i) ∙ sym (div-div-eq-div-mul m 2 (2 ^ i)))
 
 -- the members among the n numbers from lo on
-picked : ℕ → ℕ → ℕ → List ℕ
+unfoldable pub picked : ℕ → ℕ → ℕ → List ℕ
 picked lo n m = filter (λ k. bit (k - lo) m) (counted lo n)
 
-picked-suc : (lo n m : ℕ)
+pub picked-suc : (lo n m : ℕ)
     → picked lo (suc n) m ≡ cond (eqb (m % 2) 1) (lo ∷ picked (suc lo) n (m / 2)) (picked (suc lo) n (m / 2))
 unfolding picked
 picked-suc lo n m =
@@ -99,13 +99,13 @@ picked-suc lo n m =
     agree : (k : ℕ) → suc lo ≤ k → bit (k - lo) m ≡ bit (k - suc lo) (m / 2)
     agree k h = let e : k - lo ≡ suc (k - suc lo) = omega arith in ap (λ i. bit i m) e ∙ bit-suc (k - suc lo) m
 
-picked-even : (lo n m x : ℕ) → m ≡ 2 * x → picked lo (suc n) m ≡ picked (suc lo) n x
+pub picked-even : (lo n m x : ℕ) → m ≡ 2 * x → picked lo (suc n) m ≡ picked (suc lo) n x
 picked-even lo n m x e =
     let p : m % 2 ≡ 0 = omega arith in
     let q : m / 2 ≡ x = omega arith in
     picked-suc lo n m ∙ rw (p, q)
 
-picked-odd : (lo n m x : ℕ) → m ≡ 1 + 2 * x → picked lo (suc n) m ≡ lo ∷ picked (suc lo) n x
+pub picked-odd : (lo n m x : ℕ) → m ≡ 1 + 2 * x → picked lo (suc n) m ≡ lo ∷ picked (suc lo) n x
 picked-odd lo n m x e =
     let p : m % 2 ≡ 1 = omega arith in
     let q : m / 2 ≡ x = omega arith in
