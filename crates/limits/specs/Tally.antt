@@ -1,0 +1,81 @@
+-- Counting by codes: what an expression counts is the sum of what its codes count, so one walk over the codes of a query counts every
+-- line. (Document 01, "Standings", Limits; the codes are those of the crate `codes`.) The same walk counts occurrences and leaves:
+-- they differ in what a bracketed test and a relation count.
+-- Assumes nothing.
+use Prim.Native.Nat.{ℕ, _+_, _*_, _-_, min}
+use mathlib.Core.Bool.{Bool, cond, _||_}
+use mathlib.Core.List.{List, [], _∷_, _++_}
+use lib.Dec.{eqb, ltb}
+use lib.ListN.{length, getD, set}
+
+-- 1,000 stands for itself and every number above, and is above every limit
+abbrev pub capped : ℕ → ℕ
+capped n = min n 1000
+
+-- what a code of an expression counts: `[T]` t, relation r what w gives it, let j what stands at j in ls; every other code nothing
+unfoldable pub weight : ℕ → (ℕ → ℕ) → List ℕ → ℕ → ℕ
+weight t w ls k =
+    cond (ltb k 32) (cond (eqb k 6) t 0)
+    (cond (ltb k 48) (w (k - 32)) (cond (ltb k 64) 0 (cond (ltb k 96) (getD ls (k - 64) 0) 0)))
+
+-- what was counted up to a code
+pub record Tally : Type 0 where
+  pub now : ℕ  -- of the expression that is being read
+  pub lets : List ℕ  -- of each let, in order
+  pub empty : ℕ  -- a0
+  pub irreflexive : ℕ  -- a1
+  pub left : ℕ  -- the left side
+  pub right : ℕ  -- y
+
+-- the left side ends: 135 in an inclusion, 137 empty, 138 irreflexive
+unfoldable pub endsLeft : ℕ → Bool
+endsLeft k = eqb k 135 || (eqb k 137 || eqb k 138)
+
+-- what the end of a claim adds to y: the expression after `in` (136), and for empty (137) `[false]`, a bracketed test
+unfoldable pub rightEnd : ℕ → ℕ → ℕ → ℕ
+rightEnd k t now = cond (eqb k 136) now (cond (eqb k 137) t 0)
+
+-- one code more: a number from 128 on ends a line, and what its expression counted goes where the line's kind says
+unfoldable pub step : ℕ → (ℕ → ℕ) → Tally → ℕ → Tally
+step t w d k =
+    record {
+      now = cond (ltb k 128) (d .now + weight t w (d .lets) k) 0;
+      lets = cond (eqb k 130) (d .lets ++ (d .now ∷ [])) (d .lets);
+      empty = d .empty + cond (eqb k 133) (d .now) 0;
+      irreflexive = d .irreflexive + cond (eqb k 134) (d .now) 0;
+      left = d .left + cond (endsLeft k) (d .now) 0;
+      right = d .right + rightEnd k t (d .now);
+    }
+
+unfoldable pub run : ℕ → (ℕ → ℕ) → Tally → List ℕ → Tally
+run t w d [] = d
+run t w d (k ∷ ks) = run t w (step t w d k) ks
+
+unfoldable pub nothing : Tally
+nothing = record { now = 0; lets = []; empty = 0; irreflexive = 0; left = 0; right = 0 }
+
+-- what the codes count
+unfoldable pub tally : ℕ → (ℕ → ℕ) → List ℕ → Tally
+tally t w ks = run t w nothing ks
+
+-- how often a code stands in a list
+unfoldable pub times : ℕ → List ℕ → ℕ
+times k [] = 0
+times k (x ∷ xs) = cond (eqb x k) 1 0 + times k xs
+
+-- a relation is one leaf, with two tests for each of its `within` lines, wherever they stand
+unfoldable pub relationLeaves : List ℕ → ℕ → ℕ
+relationLeaves ks r = 1 + 2 * times (144 + r) ks
+
+-- the claim is the last line, and irreflexive
+unfoldable pub ring : List ℕ → Bool
+ring ks = eqb (getD ks (length ks - 1) 0) 138
+
+-- the right side, of which any counts 1 and stands there twice: y, a0 and zero of a path claim, zero counting what a bracketed test
+-- counts; a1 and a0 of a ring claim
+unfoldable pub rightSide : Bool → ℕ → Tally → ℕ
+rightSide ring t d = cond ring (d .irreflexive + d .empty + 2) (d .right + d .empty + (2 + t))
+
+-- the memory of the lets' sums, let n being the next: a let line (130) puts what its expression counted there, and there is room for 32
+unfoldable pub kept : List ℕ → ℕ → ℕ → ℕ → List ℕ
+kept ls k n x = cond (eqb k 130) (cond (ltb n 32) (set ls n x) ls) ls

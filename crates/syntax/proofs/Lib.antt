@@ -1,0 +1,12 @@
+pub mod Stores
+pub mod Slips
+pub mod Told
+pub mod Next
+pub mod Outcomes
+pub mod Chains
+pub mod Loops
+pub mod Bracketed
+pub mod Words
+pub mod Tests
+pub mod Postfixes
+pub mod Trees
