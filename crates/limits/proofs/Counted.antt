@@ -16,7 +16,7 @@ use Rattle.kat.proofs.Bools.{bool-ext}
 use Rattle.claims.specs.Bytes.{RawLine}
 use Rattle.claims.specs.Tree.{Tree, Claim, includes, empty, irreflexive, claimLine}
 use Rattle.claims.specs.Query.{Query, each, limits, assumedEmpty, assumedIrreflexive, claimsOf}
-use Rattle.claims.specs.Counting.{count, total, occurrencesOf, leavesOf, sizeOf, withAnys, leftSize, rightSize, rightLimit, withinLimits}
+use Rattle.claims.specs.Counting.{total, occurrencesOf, leavesOf, sizeOf, withAnys, leftSize, rightSize, rightLimit, withinLimits}
 use Rattle.claims.specs.Sides.{decision}
 use Rattle.claims.specs.Refusals.{ok}
 use Rattle.claims.specs.Reading.{claimOf, readLines}
@@ -50,8 +50,7 @@ taken-claimed ls q c ts e =
 pub read-claimed : (ls : List RawLine) (q : Query) (c : Claim) → readLines [] 1 ls ≡ ok q → claimOf q ≡ some c → Claimed q c
 read-claimed ls q c r e = taken-claimed ls q c (lines-taken [] 1 ls q .0 r) e
 
--- the kind of the claim is the last code
-
+-- a sum over several expressions goes by what each counts
 total-sum : (f g : Tree → ℕ) → ((e : Tree) → f e ≡ g e) → (es : List Tree) → total f es ≡ sumOf g es
 total-sum f g h [] = refl
 total-sum f g h (e ∷ es) = ap₂ _+_ (h e) (total-sum f g h es)

@@ -84,7 +84,7 @@ fn marks_next(s: &[u8], at: usize, b: u8) -> Run
 }
 
 // Writes the code `count` times.
-fn write(out: &mut [u64; 4096], used: usize, count: usize, code: u64) -> usize
+pub fn write(out: &mut [u64; 4096], used: usize, count: usize, code: u64) -> usize
     requires { ⌜ used + count ≤ 4096 ⌝ }
     ensures { λ r. ⌜ (r ≡ used + count) × (now (out .exit) ≡ sets (now (out .entry)) used (replicate count code)) ⌝ }
 {
@@ -104,7 +104,7 @@ fn first_slip(old: u64, new: u64) -> u64
 }
 
 // The slip of a name, by its code, where only codes from `low` to below `high` are wanted.
-fn slip_of(code: u64, low: u64, high: u64) -> u64
+pub fn slip_of(code: u64, low: u64, high: u64) -> u64
     ensures { λ r. ⌜ r ≡ slipOfCode low high code ⌝ }
 {
     if code == 0 {

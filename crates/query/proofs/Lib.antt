@@ -1,0 +1,14 @@
+pub mod Answers
+pub mod Bodies
+pub mod Declared
+pub mod Fates
+pub mod FirstWords
+pub mod LineEnds
+pub mod NameKinds
+pub mod NameTable
+pub mod NextWords
+pub mod Parts
+pub mod Sides
+pub mod Taken
+pub mod TextLines
+pub mod Turns
