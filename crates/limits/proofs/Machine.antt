@@ -14,8 +14,9 @@ use borrow.Author.Tests.{eqb-true, eqb-false, ltb-true, ltb-false}
 use Rattle.kat.proofs.Bools.{lt-or-le}
 use Rattle.limits.specs.declared.Sizes.{Sizes}
 use Rattle.limits.specs.declared.Sums.{Sums}
-use Rattle.limits.specs.Tally.{Tally, capped, weight, kept, endsLeft, rightEnd, step, nothing, tally, relationLeaves, ring, rightSide}
-use Rattle.limits.specs.Sizes.{Agrees, Turned, rightSum, exactSizes, cappedSize, cappedSizes, sizesOf}
+use Rattle.limits.specs.Tally.{Tally, capped, weight, endsLeft, rightEnd, step, nothing, tally, relationLeaves, ring, rightSide}
+use Rattle.limits.specs.Sizes.{exactSizes, cappedSize, cappedSizes, sizesOf}
+use Rattle.limits.specs.Machine.{kept, Agrees, Turned, rightSum}
 use Rattle.limits.proofs.Walk.{tally-same}
 
 -- sums of numbers up to 1,000

@@ -1,2 +1,3 @@
-pub mod Sizes
 pub mod Tally
+pub mod Sizes
+pub mod Machine

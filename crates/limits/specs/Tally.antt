@@ -6,7 +6,7 @@ use Prim.Native.Nat.{ℕ, _+_, _*_, _-_, min}
 use mathlib.Core.Bool.{Bool, cond, _||_}
 use mathlib.Core.List.{List, [], _∷_, _++_}
 use lib.Dec.{eqb, ltb}
-use lib.ListN.{length, getD, set}
+use lib.ListN.{length, getD}
 
 -- 1,000 stands for itself and every number above, and is above every limit
 abbrev pub capped : ℕ → ℕ
@@ -75,7 +75,3 @@ ring ks = eqb (getD ks (length ks - 1) 0) 138
 -- counts; a1 and a0 of a ring claim
 unfoldable pub rightSide : Bool → ℕ → Tally → ℕ
 rightSide ring t d = cond ring (d .irreflexive + d .empty + 2) (d .right + d .empty + (2 + t))
-
--- the memory of the lets' sums, let n being the next: a let line (130) puts what its expression counted there, and there is room for 32
-unfoldable pub kept : List ℕ → ℕ → ℕ → ℕ → List ℕ
-kept ls k n x = cond (eqb k 130) (cond (ltb n 32) (set ls n x) ls) ls

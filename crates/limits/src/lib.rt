@@ -3,11 +3,12 @@
 
 ghost use mathlib.Core.Path.{_≡_};
 ghost use mathlib.Core.Bool.{cond};
-ghost use Prim.Native.Nat.{ℕ, suc, _+_, _*_, _<_, _^_};
-ghost use lib.Dec.{eqb, ltb};
+ghost use Prim.Native.Nat.{ℕ, _+_, _<_, _^_};
+ghost use lib.Dec.{eqb};
 ghost use lib.ListN.{length, getD, replicate};
-ghost use Rattle.limits.specs.Tally.{capped, weight as weightOf, kept, endsLeft, rightEnd, times as timesOf, relationLeaves, ring, tally};
-ghost use Rattle.limits.specs.Sizes.{Agrees, Turned, rightSum, sizesOf, withinTest};
+ghost use Rattle.limits.specs.Tally.{capped, weight as weightOf, endsLeft, rightEnd, times as timesOf, relationLeaves, ring, tally};
+ghost use Rattle.limits.specs.Sizes.{sizesOf, withinTest};
+ghost use Rattle.limits.specs.Machine.{kept, Agrees, Turned, rightSum};
 
 // Occurrences and leaves of a side, up to 1,000.
 pub struct Size {

@@ -8,8 +8,8 @@ use lib.Dec.{eqb}
 use lib.ListN.{length, getD, take}
 use lib.Seq.{take-all}
 use borrow.Author.Needs.{needs}
-use Rattle.limits.specs.Sizes.{Agrees}
 use Rattle.limits.specs.Tally.{tally, run, weight}
+use Rattle.limits.specs.Machine.{Agrees}
 use Rattle.limits.proofs.Machine.{once, Follows, follows-on, follows-start}
 use Rattle.limits.proofs.Walk.{tally-more}
 use Rattle.limits.proofs.count.Statement.{statement}

@@ -2,7 +2,7 @@
 -- Assumes nothing.
 use borrow.Author.Needs.{needs}
 use borrow.Author.Tests.{eq-eqb, ne-eqb, lt-ltb, le-ltb}
-use Rattle.limits.specs.Tally.{kept}
+use Rattle.limits.specs.Machine.{kept}
 use Rattle.limits.proofs.keep.Statement.{statement}
 use Rattle.limits.proofs.keep.Tie as tie
 
