@@ -1,5 +1,4 @@
--- The proof of the readers of T, which call each other for what stands in brackets. The measure is what is left of the line, and then
--- which reader it is. The laws are those of chains, of prefix `!` and of brackets; here they are cited.
+-- The proof of the readers of T, which call each other: what is left of the line falls, and then which reader it is. Laws are cited.
 -- Assumes nothing.
 use mathlib.Core.Path.{refl}
 use Prim.Native.Nat.{ℕ, _+_, _-_, _*_, _<_}
