@@ -98,7 +98,7 @@ counted-union : (q : Query) (es : List Tree) → total (occurrencesOf q) es ≡ 
 counted-union q [] = refl
 counted-union q (e ∷ es) = ap₂ _+_ (counted-occurrences q e) (counted-union q es)
 
-total-append : (f : Tree → ℕ) (es fs : List Tree) → total f (es ++ fs) ≡ total f es + total f fs
+pub total-append : (f : Tree → ℕ) (es fs : List Tree) → total f (es ++ fs) ≡ total f es + total f fs
 total-append f [] fs = omega arith
 total-append f (e ∷ es) fs = omega (arith, total-append f es fs)
 

@@ -186,7 +186,7 @@ atoms-few q d =
     let h : 2 ^ length (tests q) ≤ 2 ^ 6 = pow-le-pow-right (omega arith) {i = length (tests q)} {j = 6} (d .tests) in
     omega arith
 
-decision-within-limits : (q : Query) (c : Claim) → Declared q → withinLimits q c ≡ true → WithinLimits (decision q c)
+pub decision-within-limits : (q : Query) (c : Claim) → Declared q → withinLimits q c ≡ true → WithinLimits (decision q c)
 decision-within-limits q c d w =
     let (l, r) = within-sides q c w in
     let (m, g) = limit-of-right q c in

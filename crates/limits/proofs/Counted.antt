@@ -79,7 +79,7 @@ module _ (q : Query) where
     leaves-counted = query-tally q 1 _ (relationLeaves (queryCodes q)) (relation-leaves q o) o
 
 -- the kind of the claim is the last code
-lines-append : (p a b : Query) → linesCodes p (a ++ b) ≡ linesCodes p a ++ linesCodes (p ++ a) b
+pub lines-append : (p a b : Query) → linesCodes p (a ++ b) ≡ linesCodes p a ++ linesCodes (p ++ a) b
 unfolding linesCodes
 lines-append p [] b = ap (λ x. linesCodes x b) (sym (append-nil p))
 lines-append p (l ∷ a) b =

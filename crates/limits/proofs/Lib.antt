@@ -7,11 +7,15 @@ pub mod Test
 -- Names, and the lines of a query that declare them.
 pub mod Names
 pub mod Orderly
+-- What the names of a query are bound to.
+pub mod Bindings
+pub mod NamedRelations
 -- Expressions, by their codes.
 pub mod Expressions
 pub mod Environment
 -- Lines, by their codes.
 pub mod Lines
+pub mod Counts
 pub mod Within
 -- What is counted is what the document counts.
 pub mod Counted

@@ -71,60 +71,39 @@ index-same m n (x ∷ ns) h k e = go (same m x) refl (same n x) refl h k e (inde
     go false f true g h k e i = absurd (omega arith)
     go false f false g h k e i = i h k (omega arith)
 
--- the names of a list of bound names, and what they are bound to
-abbrev pub called : List (Bound ℕ) → List Name
-called es = map (λ b. b .called) es
+module _ {A : Type 0} where
+  -- the names of a list of bound names
+  abbrev pub called : List (Bound A) → List Name
+  called es = map (λ b. b .called) es
 
-abbrev pub meant : List (Bound ℕ) → List ℕ
-meant es = map (λ b. b .means) es
+  pub lookup-first : (d : A) (n : Name) (a b : List (Bound A)) → has n (called a) ≡ true → lookup d n (a ++ b) ≡ lookup d n a
+  lookup-first d n [] b h = absurd (true≢false (sym h))
+  lookup-first d n (x ∷ a) b h = go (same n (x .called)) h (lookup-first d n a b)
+    where
+      go : (s : Bool) → (s || has n (called a)) ≡ true → (has n (called a) ≡ true → lookup d n (a ++ b) ≡ lookup d n a)
+          → _≡_ {A = A} (elim s [ true ↦ x .means | false ↦ lookup d n (a ++ b) ]) (elim s [ true ↦ x .means | false ↦ lookup d n a ])
+      go true e h = refl
+      go false e h = h e
 
-pub lookup-first : (n : Name) (a b : List (Bound ℕ)) → has n (called a) ≡ true → lookup 0 n (a ++ b) ≡ lookup 0 n a
-lookup-first n [] b h = absurd (true≢false (sym h))
-lookup-first n (x ∷ a) b h = go (same n (x .called)) h (lookup-first n a b)
-  where
-    go : (s : Bool) → (s || has n (called a)) ≡ true → (has n (called a) ≡ true → lookup 0 n (a ++ b) ≡ lookup 0 n a)
-        → _≡_ {A = ℕ} (elim s [ true ↦ x .means | false ↦ lookup 0 n (a ++ b) ]) (elim s [ true ↦ x .means | false ↦ lookup 0 n a ])
-    go true e h = refl
-    go false e h = h e
+  pub lookup-second : (d : A) (n : Name) (a b : List (Bound A)) → has n (called a) ≡ false → lookup d n (a ++ b) ≡ lookup d n b
+  lookup-second d n [] b h = refl
+  lookup-second d n (x ∷ a) b h = go (same n (x .called)) h (lookup-second d n a b)
+    where
+      go : (s : Bool) → (s || has n (called a)) ≡ false → (has n (called a) ≡ false → lookup d n (a ++ b) ≡ lookup d n b)
+          → _≡_ {A = A} (elim s [ true ↦ x .means | false ↦ lookup d n (a ++ b) ]) (lookup d n b)
+      go true e h = absurd (true≢false e)
+      go false e h = h e
 
-pub lookup-second : (n : Name) (a b : List (Bound ℕ)) → has n (called a) ≡ false → lookup 0 n (a ++ b) ≡ lookup 0 n b
-lookup-second n [] b h = refl
-lookup-second n (x ∷ a) b h = go (same n (x .called)) h (lookup-second n a b)
-  where
-    go : (s : Bool) → (s || has n (called a)) ≡ false → (has n (called a) ≡ false → lookup 0 n (a ++ b) ≡ lookup 0 n b)
-        → _≡_ {A = ℕ} (elim s [ true ↦ x .means | false ↦ lookup 0 n (a ++ b) ]) (lookup 0 n b)
-    go true e h = absurd (true≢false e)
-    go false e h = h e
+  pub called-bound : (w : Name → A) (ns : List Name) → called (bound w ns) ≡ ns
+  called-bound w [] = refl
+  called-bound w (n ∷ ns) = ap (λ l. n ∷ l) (called-bound w ns)
 
-pub lookup-at : (n : Name) (es : List (Bound ℕ)) → lookup 0 n es ≡ getD (meant es) (indexOf n (called es)) 0
-lookup-at n [] = refl
-lookup-at n (x ∷ es) = go (same n (x .called)) (lookup-at n es)
-  where
-    go : (s : Bool) → lookup 0 n es ≡ getD (meant es) (indexOf n (called es)) 0
-        → _≡_ {A = ℕ} (elim s [ true ↦ x .means | false ↦ lookup 0 n es ])
-        (getD (x .means ∷ meant es) (elim s [ true ↦ 0 | false ↦ suc (indexOf n (called es)) ]) 0)
-    go true e = refl
-    go false e = e
-
-pub called-bound : (w : Name → ℕ) (ns : List Name) → called (bound w ns) ≡ ns
-called-bound w [] = refl
-called-bound w (n ∷ ns) = ap (λ l. n ∷ l) (called-bound w ns)
-
-pub lookup-bound : (w : Name → ℕ) (n : Name) (ns : List Name) (b : List (Bound ℕ)) → has n ns ≡ true
-    → lookup 0 n (bound w ns ++ b) ≡ w n
-lookup-bound w n [] b h = absurd (true≢false (sym h))
-lookup-bound w n (x ∷ ns) b h = go (same n x) refl h (lookup-bound w n ns b)
-  where
-    go : (s : Bool) → same n x ≡ s → (s || has n ns) ≡ true → (has n ns ≡ true → lookup 0 n (bound w ns ++ b) ≡ w n)
-        → _≡_ {A = ℕ} (elim s [ true ↦ w x | false ↦ lookup 0 n (bound w ns ++ b) ]) (w n)
-    go true f e h = ap w (sym (same-is-equal n x f))
-    go false f e h = h e
-
--- a name of the list behind another, among the first of its names
-pub lookup-behind : (n : Name) (a b : List (Bound ℕ)) (ns ms : List Name) (xs ys : List ℕ) → has n (called a) ≡ false
-    → called b ≡ ns ++ ms → meant b ≡ xs ++ ys → length xs ≡ length ns → has n ns ≡ true
-    → lookup 0 n (a ++ b) ≡ getD xs (indexOf n ns) 0
-lookup-behind n a b ns ms xs ys h c m e i =
-    lookup-second n a b h ∙ lookup-at n b ∙ ap₂ (λ x y. getD x (indexOf n y) 0) m c
-    ∙ ap (λ k. getD (xs ++ ys) k 0) (index-append n ns ms i)
-    ∙ List·getD-append xs ys 0 (indexOf n ns) (omega (arith, index-lt n ns i))
+  pub lookup-bound : (d : A) (w : Name → A) (n : Name) (ns : List Name) (b : List (Bound A)) → has n ns ≡ true
+      → lookup d n (bound w ns ++ b) ≡ w n
+  lookup-bound d w n [] b h = absurd (true≢false (sym h))
+  lookup-bound d w n (x ∷ ns) b h = go (same n x) refl h (lookup-bound d w n ns b)
+    where
+      go : (s : Bool) → same n x ≡ s → (s || has n ns) ≡ true → (has n ns ≡ true → lookup d n (bound w ns ++ b) ≡ w n)
+          → _≡_ {A = A} (elim s [ true ↦ w x | false ↦ lookup d n (bound w ns ++ b) ]) (w n)
+      go true f e h = ap w (sym (same-is-equal n x f))
+      go false f e h = h e

@@ -127,7 +127,7 @@ line-let (assumeIrreflexive e) n = refl
 line-let (claimLine c) n = refl
 
 -- a name is declared once
-undeclared : (b : Bool) (k : Option Kind) → declarationSlip b k ≡ none → k ≡ none
+pub undeclared : (b : Bool) (k : Option Kind) → declarationSlip b k ≡ none → k ≡ none
 unfolding declarationSlip
 undeclared true k e = absurd (let z : _≡_ {A = ℕ} 0 1 = cc in omega arith)
 undeclared false none e = refl
@@ -159,11 +159,11 @@ module _ (p : Query) (n : Name) (k : Kind) (known : kindOf p n ≡ some k) where
   not-again (claimLine c) e = refl
 
 -- what further lines declare
-abbrev firstOf : Option Kind → Option Kind → Option Kind
+abbrev pub firstOf : Option Kind → Option Kind → Option Kind
 firstOf none o = o
 firstOf (some k) o = some k
 
-kind-append : (p r : Query) (n : Name) → kindOf (p ++ r) n ≡ firstOf (kindOf p n) (kindOf r n)
+pub kind-append : (p r : Query) (n : Name) → kindOf (p ++ r) n ≡ firstOf (kindOf p n) (kindOf r n)
 unfolding kindOf
 kind-append [] r n = refl
 kind-append (l ∷ p) r n = go (declares? l n) (kind-append p r n)

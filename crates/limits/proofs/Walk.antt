@@ -1,4 +1,4 @@
--- The walk over a list of codes: in two parts, one code more, and how often a code stands in a list.
+-- The walk over a list of codes: in two parts, one code more, and how many codes pass a test.
 -- Assumes nothing.
 use Prim.Native.Nat.{ℕ, _+_, _-_, _<_}
 use native.Mathlib.Nat.{add-zero}
@@ -10,8 +10,8 @@ use mathlib.Core.List.{List, [], _∷_, _++_}
 use lib.Dec.{eqb, ltb}
 use lib.ListN.{length, getD, take}
 use lib.Seq.{take-suc}
-use borrow.Author.Tests.{ltb-true, ltb-false, eq-eqb, ne-eqb}
-use Rattle.limits.specs.Tally.{Tally, weight, step, run, nothing, tally, times}
+use borrow.Author.Tests.{ltb-true, ltb-false}
+use Rattle.limits.specs.Tally.{Tally, weight, step, run, nothing, tally, howMany}
 
 module _ (t : ℕ) (w : ℕ → ℕ) where
   pub run-append : (d : Tally) (xs ys : List ℕ) → run t w d (xs ++ ys) ≡ run t w (run t w d xs) ys
@@ -26,25 +26,17 @@ module _ (t : ℕ) (w : ℕ → ℕ) where
       ap (λ n. run t w nothing (take n ks)) (add-one i) ∙ ap (run t w nothing) (take-suc ks i 0 h)
       ∙ run-append nothing (take i ks) (getD ks i 0 ∷ [])
 
-pub times-append : (k : ℕ) (xs ys : List ℕ) → times k (xs ++ ys) ≡ times k xs + times k ys
-unfolding times
-times-append k [] ys = omega arith
-times-append k (x ∷ xs) ys = omega (arith, times-append k xs ys)
+module _ (test : ℕ → Bool) where
+  pub how-many-append : (xs ys : List ℕ) → howMany test (xs ++ ys) ≡ howMany test xs + howMany test ys
+  how-many-append [] ys = omega arith
+  how-many-append (x ∷ xs) ys = omega (arith, how-many-append xs ys)
 
--- one code more, which is k or not
-times-more : (k : ℕ) (ks : List ℕ) (i : ℕ) → i < length ks
-    → times k (take (i + 1) ks) ≡ times k (take i ks) + cond (eqb (getD ks i 0) k) 1 0
-unfolding times
-times-more k ks i h =
-    ap (λ n. times k (take n ks)) (add-one i) ∙ ap (times k) (take-suc ks i 0 h)
-    ∙ omega (arith, times-append k (take i ks) (getD ks i 0 ∷ []))
-
-pub times-hit : (k : ℕ) (ks : List ℕ) (i : ℕ) → i < length ks → getD ks i 0 ≡ k → times k (take (i + 1) ks) ≡ times k (take i ks) + 1
-times-hit k ks i h e = times-more k ks i h ∙ ap (λ b. times k (take i ks) + cond b 1 0) (eq-eqb (getD ks i 0) k e)
-
-pub times-miss : (k : ℕ) (ks : List ℕ) (i : ℕ) → i < length ks → (getD ks i 0 ≡ k → ⊥) → times k (take (i + 1) ks) ≡ times k (take i ks)
-times-miss k ks i h e =
-    times-more k ks i h ∙ ap (λ b. times k (take i ks) + cond b 1 0) (ne-eqb (getD ks i 0) k e) ∙ add-zero (times k (take i ks))
+  -- one code more, which passes or not
+  pub how-many-more : (b : Bool) (ks : List ℕ) (i : ℕ) → i < length ks → test (getD ks i 0) ≡ b
+      → howMany test (take (i + 1) ks) ≡ howMany test (take i ks) + cond b 1 0
+  how-many-more b ks i h e =
+      ap (λ n. howMany test (take n ks)) (add-one i) ∙ ap (howMany test) (take-suc ks i 0 h)
+      ∙ how-many-append (take i ks) (getD ks i 0 ∷ []) ∙ ap (λ n. howMany test (take i ks) + n) (add-zero _ ∙ ap (λ x. cond x 1 0) e)
 
 -- relations that count the same below 16 make the same walk
 weight-same : (t : ℕ) (w v : ℕ → ℕ) → ((r : ℕ) → r < 16 → w r ≡ v r) → (ls : List ℕ) (k : ℕ) → weight t w ls k ≡ weight t v ls k

@@ -3,7 +3,7 @@
 -- they differ in what a bracketed test and a relation count.
 -- Assumes nothing.
 use Prim.Native.Nat.{ℕ, _+_, _*_, _-_, min}
-use mathlib.Core.Bool.{Bool, cond, _||_}
+use mathlib.Core.Bool.{Bool, false, cond, not, _||_}
 use mathlib.Core.List.{List, [], _∷_, _++_}
 use lib.Dec.{eqb, ltb}
 use lib.ListN.{length, getD}
@@ -58,10 +58,22 @@ nothing = record { now = 0; lets = []; empty = 0; irreflexive = 0; left = 0; rig
 unfoldable pub tally : ℕ → (ℕ → ℕ) → List ℕ → Tally
 tally t w ks = run t w nothing ks
 
+-- how many codes pass a test
+abbrev pub howMany : (ℕ → Bool) → List ℕ → ℕ
+howMany test [] = 0
+howMany test (k ∷ ks) = cond (test k) 1 0 + howMany test ks
+
 -- how often a code stands in a list
 unfoldable pub times : ℕ → List ℕ → ℕ
-times k [] = 0
-times k (x ∷ xs) = cond (eqb x k) 1 0 + times k xs
+times k ks = howMany (λ x. eqb x k) ks
+
+-- a line ends: every line has one code from 128 on, but for 135, which only divides an inclusion
+unfoldable pub endsLine : ℕ → Bool
+endsLine k = cond (ltb k 128) false (not (eqb k 135))
+
+-- how many lines the codes of a query have
+unfoldable pub lineCount : List ℕ → ℕ
+lineCount ks = howMany endsLine ks
 
 -- a relation is one leaf, with two tests for each of its `within` lines, wherever they stand
 unfoldable pub relationLeaves : List ℕ → ℕ → ℕ

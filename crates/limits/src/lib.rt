@@ -6,7 +6,7 @@ ghost use mathlib.Core.Bool.{cond};
 ghost use Prim.Native.Nat.{ℕ, _+_, _<_, _^_};
 ghost use lib.Dec.{eqb};
 ghost use lib.ListN.{length, getD, replicate};
-ghost use Rattle.limits.specs.Tally.{capped, weight as weightOf, endsLeft, rightEnd, times as timesOf, relationLeaves, ring, tally};
+ghost use Rattle.limits.specs.Tally.{capped, weight as weightOf, endsLeft, rightEnd, times as timesOf, endsLine, lineCount, relationLeaves, ring, tally};
 ghost use Rattle.limits.specs.Sizes.{sizesOf, withinTest};
 ghost use Rattle.limits.specs.Machine.{kept, Agrees, Turned, rightSum};
 
@@ -156,13 +156,38 @@ fn count(codes: &[u64], test: u64, relations: &[u64; 16], lets: &mut [u64; 32]) 
 }
 
 // How often k stands among the codes.
-fn times(codes: &[u64], k: u64) -> u64
+pub fn times(codes: &[u64], k: u64) -> u64
     ensures { λ r. ⌜ (r ≡ timesOf k (now (codes .entry))) × (r < 2 ^ 61) ⌝ }
 {
     let mut n = 0;
     let mut i = 0;
     while i < codes.len() {
         if codes[i] == k {
+            n += 1;
+        }
+        i += 1;
+    }
+    n
+}
+
+// Whether a line ends here: 135 only divides an inclusion.
+fn ends_line(k: u64) -> bool
+    ensures { λ r. ⌜ r ≡ endsLine k ⌝ }
+{
+    if k < 128 {
+        return false;
+    }
+    k != 135
+}
+
+// How many lines the codes have.
+pub fn lines_of(codes: &[u64]) -> usize
+    ensures { λ r. ⌜ r ≡ lineCount (now (codes .entry)) ⌝ }
+{
+    let mut n = 0;
+    let mut i = 0;
+    while i < codes.len() {
+        if ends_line(codes[i]) {
             n += 1;
         }
         i += 1;

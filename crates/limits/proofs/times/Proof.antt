@@ -5,11 +5,14 @@ use Prim.Native.Nat.{_-_, _≤_}
 use native.Mathlib.Omega.{arith}
 use mathlib.Core.Logic.{⊎-elim}
 use mathlib.Core.Path.{_≡_, refl, _∙_, ap}
+use mathlib.Core.Bool.{true, false}
+use lib.Dec.{eqb}
 use lib.ListN.{length, take}
 use lib.Seq.{take-all}
 use borrow.Author.Needs.{needs}
+use borrow.Author.Tests.{eq-eqb, ne-eqb}
 use Rattle.limits.specs.Tally.{times}
-use Rattle.limits.proofs.Walk.{times-hit, times-miss}
+use Rattle.limits.proofs.Walk.{how-many-more}
 use Rattle.limits.proofs.times.Statement.{statement}
 use Rattle.limits.proofs.times.Tie as tie
 
@@ -39,12 +42,13 @@ loop-less : tie.Need-loop-less Inv-loop μ-loop
 loop-less c = search needs
 
 loop-again : tie.Need-loop-again Inv-loop μ-loop
+unfolding times
 loop-again c =
     let at = c .before .before .before .loop in
     let a = c .before .before .before .before .args in
     ⊎-elim
-    (λ w. omega (arith, times-hit (a .k) (a .codes .now) (at .i) (omega arith) (w .0 .taken)))
-    (λ w. omega (arith, times-miss (a .k) (a .codes .now) (at .i) (omega arith) (w .0 .left)))
+    (λ w. omega (arith, how-many-more (λ x. eqb x (a .k)) true (a .codes .now) (at .i) (omega arith) (eq-eqb _ _ (w .0 .taken))))
+    (λ w. omega (arith, how-many-more (λ x. eqb x (a .k)) false (a .codes .now) (at .i) (omega arith) (ne-eqb _ _ (w .0 .left))))
     (c .if1 .came)
 
 returns : tie.Need-returns Inv-loop μ-loop
