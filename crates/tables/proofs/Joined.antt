@@ -1,5 +1,5 @@
--- The table of followers by rows and columns: what stands at a place after a join of rows with columns; and the loops, which join row by
--- row and in a row place by place.
+-- The table of followers by rows and columns: what stands at a place after a join of rows with columns, which is the same after a second
+-- one; and the loops, which join row by row and in a row place by place.
 -- Assumes nothing.
 use Prim.Native.Nat.{ℕ, _+_, _*_, _/_, _%_, _≤_, _<_, min}
 use native.Mathlib.Omega.{arith}
@@ -7,10 +7,11 @@ use mathlib.Core.Path.{_≡_, refl, sym, _∙_, ap, ap₂}
 use mathlib.Core.Logic.{_⊎_, ⊎-elim}
 use mathlib.Core.Bool.{Bool, true, false, cond, _&&_}
 use mathlib.Core.List.{List}
-use lib.Bits.{bitAnd, bitOr}
+use lib.Bits.{bitAnd, bitOr, or-self}
 use lib.ListN.{length, getD, set, length-set}
 use lib.Seq.{getD-set-same, getD-set-other, set-out}
 use Rattle.kat.proofs.Bools.{le-or-lt, bool-ext}
+use Rattle.bits.proofs.Bit.{or-assoc}
 use Rattle.tables.specs.Occurrences.{words, between, joinedAt, joined}
 use Rattle.tables.proofs.Words.{words-length, words-at, words-ext, words-same, same-or-not, inside, inside-out, below, above, between-other}
 
@@ -66,6 +67,26 @@ module _ (f l w : List ℕ) where
   row-end lo mid s e h =
       sym (words-ext w (length w) (joinedAt f l w lo mid s e) refl
       (λ k i. sym (joined-column-out lo mid s e k (between-none s e (k % 64) h))))
+
+-- a second join of the same rows with the same columns
+or-twice : (b : Bool) (u x : ℕ) → cond b (bitOr (cond b (bitOr u x) u) x) (cond b (bitOr u x) u) ≡ cond b (bitOr u x) u
+or-twice true u x = or-assoc u x x ∙ ap (bitOr u) (or-self x)
+or-twice false u x = refl
+
+module _ (f l w : List ℕ) (lo mid s e : ℕ) where
+  twice-place : (k : ℕ) → k < length w → joinedAt f l (joined f l w lo mid s e) lo mid s e k ≡ joinedAt f l w lo mid s e k
+  unfolding joinedAt
+  twice-place k h =
+      let b = between lo mid (k / 64) && between s e (k % 64) in
+      let x = bitAnd (getD l (k / 64) 0) (getD f (k % 64) 0) in
+      ap (λ u. cond b (bitOr u x) u) (joined-at f l w lo mid s e k h) ∙ or-twice b (getD w k 0) x
+
+  pub joined-twice : joined f l (joined f l w lo mid s e) lo mid s e ≡ joined f l w lo mid s e
+  unfolding joined
+  joined-twice =
+      words-same (length (joined f l w lo mid s e)) (length w) (joinedAt f l (joined f l w lo mid s e) lo mid s e)
+      (joinedAt f l w lo mid s e) (joined-length f l w lo mid s e)
+      (λ k i. twice-place k (omega (arith, joined-length f l w lo mid s e)))
 
 -- the same place with the same word there and the same ranges
 joined-same : (f l w w′ : List ℕ) (lo mid s e lo′ mid′ s′ e′ k : ℕ) → getD w′ k 0 ≡ getD w k 0

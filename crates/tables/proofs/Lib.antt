@@ -15,3 +15,4 @@ pub mod Singles
 pub mod NewOccurrence
 -- The tables turned round by atom.
 pub mod Turning
+pub mod SideTable

@@ -8,11 +8,11 @@ use mathlib.Core.Path.{_≡_, refl, sym, _∙_, ap, ap₂}
 use mathlib.Core.Logic.{_⊎_, ⊎-elim}
 use mathlib.Core.Logic._⊎_.{inl, inr}
 use mathlib.Core.Bool.{Bool, true, false, cond, _&&_}
-use mathlib.Core.List.{List, map}
+use mathlib.Core.List.{List, [], _∷_, _++_, map}
 use lib.Bits.{bitAnd, bitOr}
 use lib.Dec.{eqb, leb, ltb}
-use lib.ListN.{length, getD, set, length-map, length-set}
-use lib.Seq.{ext-getD, getD-set-same, getD-set-other}
+use lib.ListN.{length, getD, set, length-append, length-map, length-set, List·getD-append}
+use lib.Seq.{ext-getD, getD-append-add, getD-set-same, getD-set-other}
 use borrow.Author.Tests.{eqb-true, eqb-false, ltb-true, ltb-false, leb-true, leb-false, lt-ltb, le-ltb, le-leb, lt-leb}
 use Rattle.kat.specs.Lists.{upto}
 use Rattle.kat.proofs.Bools.{bool-cases, le-or-lt, and-left, and-right, and-both, bool-ext}
@@ -35,6 +35,25 @@ words-ext l n f e h =
 pub words-same : (n m : ℕ) (f g : ℕ → ℕ) → n ≡ m → ((k : ℕ) → k < n → f k ≡ g k) → words n f ≡ words m g
 words-same n m f g e h =
     words-ext (words n f) m g (words-length n f ∙ e) (λ k i. words-at n f k (omega arith) ∙ h k (omega arith))
+
+pub words-one : (f : ℕ → ℕ) → words 1 f ≡ f 0 ∷ []
+unfolding words
+words-one f = refl
+
+-- a memory in two parts, one behind the other
+pub words-append : (m n : ℕ) (f g : ℕ → ℕ) → ((k : ℕ) → k < n → f (m + k) ≡ g k) → words (m + n) f ≡ words m f ++ words n g
+words-append m n f g h =
+    sym (words-ext (words m f ++ words n g) (m + n) f
+    (length-append (words m f) (words n g) ∙ ap₂ _+_ (words-length m f) (words-length n g))
+    (λ k i. ⊎-elim (λ l. second k (k - m) (omega arith) (omega arith)) (λ l. first k l) (le-or-lt m k)))
+  where
+    first : (k : ℕ) → k < m → getD (words m f ++ words n g) k 0 ≡ f k
+    first k l = List·getD-append (words m f) (words n g) 0 k (omega (arith, words-length m f)) ∙ words-at m f k l
+
+    second : (k j : ℕ) → k ≡ m + j → j < n → getD (words m f ++ words n g) k 0 ≡ f k
+    second k j e l =
+        ap (λ i. getD (words m f ++ words n g) i 0) (e ∙ ap (λ i. i + j) (sym (words-length m f)))
+        ∙ getD-append-add (words m f) (words n g) j 0 ∙ words-at n g j l ∙ sym (h j l) ∙ ap f (sym e)
 
 -- two numbers are equal or not
 pub same-or-not : (m n : ℕ) → (m ≡ n) ⊎ (m ≡ n → ⊥)

@@ -5,3 +5,4 @@ pub mod Tests
 pub mod Occurrences
 pub mod Single
 pub mod Turned
+pub mod SideTable
