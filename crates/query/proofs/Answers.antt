@@ -20,7 +20,7 @@ use Rattle.codes.specs.Codes.{queryCodes}
 use Rattle.query.specs.Reading.{orZero, claimed, inLines, readable, Says, zeros, leftCodes, Written}
 use Rattle.query.specs.State.{causeOf}
 use Rattle.query.specs.declared.lines.Reason.{Reason}
-use Rattle.query.specs.declared.lines.Reason.the-variants.{TooLong, BadByte, Notation, TooDeep, UnknownName, WrongKind, DeclaredTwice, ReservedName, TooMany, NoClaim, AfterClaim}
+use Rattle.query.specs.declared.lines.Reason.the-variants.{TooLong, BadByte, Notation, TooDeep, UnknownName, WrongKind, DeclaredTwice, ReservedName, TooMany, NoClaim, AfterClaim, OverLimit}
 use Rattle.query.specs.declared.Reading.{Reading}
 use Rattle.query.specs.declared.Reading.the-variants.{Accepted, Refused}
 use Rattle.query.proofs.TextLines.{bad-line-there, bad-line-none}
@@ -38,7 +38,7 @@ reasonOf reservedName = ReservedName
 reasonOf tooMany = TooMany
 reasonOf noClaim = NoClaim
 reasonOf afterClaim = AfterClaim
-reasonOf overLimit = TooLong
+reasonOf overLimit = OverLimit
 reasonOf badAllowance = TooLong
 reasonOf shortMemory = TooLong
 reasonOf spentAllowance = TooLong
@@ -60,6 +60,7 @@ reason-back ReservedName = refl
 reason-back TooMany = refl
 reason-back NoClaim = refl
 reason-back AfterClaim = refl
+reason-back OverLimit = refl
 
 pub one-reason : (c d : Reason) → causeOf c ≡ causeOf d → c ≡ d
 one-reason c d e = sym (reason-back c) ∙ ap reasonOf e ∙ reason-back d

@@ -14,14 +14,14 @@ use Rattle.claims.specs.Tokens.{wordLike}
 use Rattle.claims.specs.Tree.{Name, Line}
 use Rattle.claims.specs.Query.{Query, each, tests, relations, lets}
 use Rattle.claims.specs.Lines.{line}
-use Rattle.claims.specs.Refusals.{Cause, tooLong, badByte, notation, tooDeep, unknownName, wrongKind, declaredTwice, reservedName, tooMany, noClaim, afterClaim, Result, ok, refuse}
+use Rattle.claims.specs.Refusals.{Cause, tooLong, badByte, notation, tooDeep, unknownName, wrongKind, declaredTwice, reservedName, tooMany, noClaim, afterClaim, overLimit, Result, ok, refuse}
 use Rattle.claims.specs.Reading.{claimOf, readLine}
 use Rattle.codes.specs.Codes.{codeOf, queryCodes}
 use Rattle.scan.specs.Scan.{wordByte, keyOf}
 use Rattle.scan.specs.Keys.{findIn}
 use Rattle.scan.specs.declared.Key.{Key}
 use Rattle.query.specs.declared.lines.Reason.{Reason}
-use Rattle.query.specs.declared.lines.Reason.the-variants.{TooLong, BadByte, Notation, TooDeep, UnknownName, WrongKind, DeclaredTwice, ReservedName, TooMany, NoClaim, AfterClaim}
+use Rattle.query.specs.declared.lines.Reason.the-variants.{TooLong, BadByte, Notation, TooDeep, UnknownName, WrongKind, DeclaredTwice, ReservedName, TooMany, NoClaim, AfterClaim, OverLimit}
 use Rattle.query.specs.declared.lines.State.{State}
 use Rattle.query.specs.declared.lines.LineRead.{LineRead}
 use Rattle.query.specs.declared.lines.LineRead.the-variants.{Taken, Refused}
@@ -39,6 +39,7 @@ causeOf ReservedName = reservedName
 causeOf TooMany = tooMany
 causeOf NoClaim = noClaim
 causeOf AfterClaim = afterClaim
+causeOf OverLimit = overLimit
 
 -- line n after the lines of q: nothing may stand behind a claim
 unfoldable pub lineFate : Query → ℕ → RawLine → Result Line

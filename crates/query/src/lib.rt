@@ -60,7 +60,7 @@ fn line_end(text: &[u8], at: usize) -> usize
 }
 
 // All zeros.
-fn clear(out: &mut [u64])
+pub fn clear(out: &mut [u64])
     ensures { λ r. ⌜ now (out .exit) ≡ zeros (length (now (out .entry))) ⌝ }
 {
     let mut i = 0;

@@ -36,6 +36,7 @@ pub enum Reason {
     TooMany,
     NoClaim,
     AfterClaim,
+    OverLimit, // given by the crate `decision`, which counts
 }
 
 // What the lines read so far declare, and how many codes they have.

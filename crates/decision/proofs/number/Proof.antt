@@ -1,12 +1,10 @@
--- `show::number` gives the document's number of each reason.
+-- `decision::number` gives the document's number of each reason.
 -- Assumes nothing.
 use Rattle.claims.specs.Refusals
 use Rattle.query.specs.State
 use borrow.Author.Needs.{needs}
-use Rattle.show.proofs.number.Statement.{statement}
-use Rattle.show.proofs.number.Tie as tie
-use Rattle.show.proofs.number.Reads as reads
-use Rattle.show.proofs.number.Lts as lts
+use Rattle.decision.proofs.number.Statement.{statement}
+use Rattle.decision.proofs.number.Tie as tie
 
 enum-told : tie.Need-enum-told
 enum-told c = search needs
@@ -40,6 +38,9 @@ enum-told-10 c = search needs
 
 enum-told-11 : tie.Need-enum-told-11
 enum-told-11 c = search needs
+
+enum-told-12 : tie.Need-enum-told-12
+enum-told-12 c = search needs
 
 returns : tie.Need-returns
 unfolding Refusals.number State.causeOf
@@ -85,6 +86,10 @@ returns-11 : tie.Need-returns-11
 unfolding Refusals.number State.causeOf
 returns-11 c = search needs
 
+returns-12 : tie.Need-returns-12
+unfolding Refusals.number State.causeOf
+returns-12 c = search needs
+
 pub number-spec : {M : Type 1} → statement M
 number-spec =
     tie.close
@@ -100,6 +105,7 @@ number-spec =
     enum-told-9
     enum-told-10
     enum-told-11
+    enum-told-12
     returns
     returns-2
     returns-3
@@ -110,4 +116,5 @@ number-spec =
     returns-8
     returns-9
     returns-10
-    returns-11)
+    returns-11
+    returns-12)

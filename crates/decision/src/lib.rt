@@ -1,0 +1,135 @@
+// From the bytes of a query to its decision: what the search, the sheet check and the judge of graphs start from. (Document 01, "The query",
+// "Words", "Standings" and "Refusals with an example each".) Every list of bytes gets an answer, and every lent word is said.
+use limits::Sizes;
+use query::Reading;
+use query::lines::Reason;
+ghost use Prim.Native.Nat.{_≤_};
+ghost use mathlib.Core.Path.{_≡_};
+ghost use lib.ListN.{length, take};
+ghost use Rattle.claims.specs.Reading.{read as reading};
+ghost use Rattle.claims.specs.Refusals.{number as numberOf};
+ghost use Rattle.query.specs.State.{causeOf};
+ghost use Rattle.query.specs.Reading.{leftCodes};
+ghost use Rattle.limits.specs.Sizes.{sizesOf};
+ghost use Rattle.limits.specs.Tally.{lineCount};
+ghost use Rattle.decision.specs.Answer.{Says, leftAfter, rightAfter};
+ghost use Rattle.decision.specs.Counted.{factsFrom, LeavesTables, Limited};
+
+// What an accepted query leaves: how many codes it has, whether its claim is one of rings, the occurrences of its two sides, the number of
+// its atoms and relations, and the set of the atoms that no `never` removes.
+pub struct Facts {
+    pub codes: usize,
+    pub ring: bool,
+    pub left: usize,
+    pub right: usize,
+    pub atoms: usize,
+    pub live: u64,
+    pub relations: usize,
+}
+
+// The facts of an accepted query, or the reason and the place of a refusal.
+pub enum Answer {
+    Accepted(Facts),
+    Refused(Reason, usize),
+}
+
+// The number of a refusal.
+pub fn number(why: Reason) -> u64
+    ensures { λ r. ⌜ r ≡ numberOf (causeOf why) ⌝ }
+{
+    match why {
+        Reason::TooLong => 1,
+        Reason::BadByte => 2,
+        Reason::Notation => 3,
+        Reason::TooDeep => 4,
+        Reason::UnknownName => 5,
+        Reason::WrongKind => 5,
+        Reason::DeclaredTwice => 5,
+        Reason::ReservedName => 5,
+        Reason::TooMany => 6,
+        Reason::NoClaim => 7,
+        Reason::AfterClaim => 7,
+        Reason::OverLimit => 8,
+    }
+}
+
+// What the first n codes count.
+fn sizes(codes: &[u64], n: usize) -> Sizes
+    requires { ⌜ n ≤ length (now codes) ⌝ }
+    ensures { λ r. ⌜ r ≡ sizesOf (take n (now (codes .entry))) ⌝ }
+{
+    let part = &codes[..n];
+    limits::sizes_of(part)
+}
+
+// How many lines the first n codes have.
+fn lines(codes: &[u64], n: usize) -> usize
+    requires { ⌜ n ≤ length (now codes) ⌝ }
+    ensures { λ r. ⌜ r ≡ lineCount (take n (now (codes .entry))) ⌝ }
+{
+    let part = &codes[..n];
+    limits::lines_of(part)
+}
+
+// The facts of the first n codes, and the tables of the two sides.
+fn tabled(
+    codes: &[u64],
+    n: usize,
+    ring: bool,
+    left: &mut [u64; 4241],
+    right: &mut [u64; 4241],
+) -> Facts
+    requires { ⌜ n ≤ length (now codes) ⌝ }
+    ensures { λ r. ⌜ (r ≡ factsFrom n ring (take n (now (codes .entry)))) × LeavesTables (take n (now (codes .entry))) (now (left .exit)) (now (right .exit)) ⌝ }
+{
+    let part = &codes[..n];
+    let tests = limits::times(part, 128);
+    let relations = limits::times(part, 129);
+    let b = build::build(part, left, right);
+    Facts {
+        codes: n,
+        ring,
+        left: b.left,
+        right: b.right,
+        atoms: program::atom_count(tests),
+        live: b.live,
+        relations: relations as usize,
+    }
+}
+
+// The limits, for a query with n codes: refusal 8 at its last line, or its facts and tables.
+fn limited(codes: &mut [u64], n: usize, left: &mut [u64; 4241], right: &mut [u64; 4241]) -> Answer
+    requires { ⌜ (n ≤ 4096) × (length (now codes) ≡ 4096) ⌝ }
+    ensures { λ r. ⌜ Limited n (now (codes .entry)) (now (left .entry)) (now (right .entry)) r (now (codes .exit)) (now (left .exit)) (now (right .exit)) ⌝ }
+{
+    let s = sizes(codes, n);
+    if !limits::within_limits(s) {
+        let line = lines(codes, n);
+        query::clear(codes);
+        return Answer::Refused(Reason::OverLimit, line);
+    }
+    let f = tabled(codes, n, s.ring, left, right);
+    Answer::Accepted(f)
+}
+
+// Reads the query that the text is. After an answer `codes` has its codes and zeros behind, `left` and `right` the tables of the two sides;
+// after a refusal all are zero.
+pub fn read(
+    text: &[u8],
+    codes: &mut [u64; 4096],
+    left: &mut [u64; 4241],
+    right: &mut [u64; 4241],
+) -> Answer
+    ensures { λ r. ⌜ Says (reading (now (text .entry))) r
+        × (now (codes .exit) ≡ leftCodes (reading (now (text .entry))))
+        × (now (left .exit) ≡ leftAfter (reading (now (text .entry))))
+        × (now (right .exit) ≡ rightAfter (reading (now (text .entry)))) ⌝ }
+{
+    query::clear(left);
+    query::clear(right);
+    let r = query::read(text, codes);
+    match r {
+        Reading::Refused(why, line) => Answer::Refused(why, line),
+        Reading::Accepted(n) => limited(codes, n, left, right),
+    }
+}
