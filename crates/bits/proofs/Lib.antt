@@ -3,6 +3,8 @@ pub mod Bit
 -- The members of a set, as a rising list.
 pub mod Lists
 pub mod Members
+-- A number put into a set.
+pub mod Puts
 -- The walk of a set, lowest member first.
 pub mod Lowest
 pub mod Walk

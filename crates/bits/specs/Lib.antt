@@ -1,1 +1,2 @@
+-- Sets, and tables of sets.
 pub mod Sets

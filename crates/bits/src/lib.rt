@@ -1,11 +1,11 @@
 // Sets of numbers below 64 as machine words: number k is a member where bit k is set. A table of such sets is a slice of rows, and a
 // row past its end is empty. In a set, members are taken lowest number first (document 01, "The form for each place"): each loop walks
 // a set by its trailing zeros, and the count of its ones falls.
-
+use words::word;
 ghost use mathlib.Core.Path.{_≡_};
-ghost use lib.ListN.{getD};
 ghost use Rattle.claims.specs.Query.{bit};
 ghost use Rattle.bits.specs.Sets.{including, allBelow, unionRows, meetsRows, anyMember};
+ghost use mathlib.Core.Bool.{cond};
 
 // Whether k is in s.
 pub fn member(s: u64, k: usize) -> bool
@@ -32,11 +32,11 @@ pub fn below(n: usize) -> u64
     }
 }
 
-// Row k of a table.
-fn row(rows: &[u64], k: usize) -> u64
-    ensures { λ r. ⌜ r ≡ getD (now (rows .entry)) k 0 ⌝ }
+// The set w with p in it, if p is to be in it.
+pub fn marked(w: u64, p: usize, on: bool) -> u64
+    ensures { λ r. ⌜ r ≡ cond on (including 64 w p) w ⌝ }
 {
-    if k < rows.len() { rows[k] } else { 0 }
+    if on { with(w, p) } else { w }
 }
 
 // The union of the rows of the members of s.
@@ -47,7 +47,7 @@ pub fn union_rows(rows: &[u64], s: u64) -> u64
     let mut all = 0;
     while left != 0 {
         let k = u64::trailing_zeros(left) as usize;
-        all = all | row(rows, k);
+        all = all | word(rows, k);
         left = left & (left - 1);
     }
     all
@@ -60,7 +60,7 @@ pub fn meets_rows(rows: &[u64], s: u64, t: u64) -> bool
     let mut left = s;
     while left != 0 {
         let k = u64::trailing_zeros(left) as usize;
-        if (row(rows, k) & t) != 0 {
+        if (word(rows, k) & t) != 0 {
             return true;
         }
         left = left & (left - 1);
@@ -75,7 +75,7 @@ pub fn any_member(rows: &[u64], s: u64, k: usize) -> bool
     let mut left = s;
     while left != 0 {
         let p = u64::trailing_zeros(left) as usize;
-        if member(row(rows, p), k) {
+        if member(word(rows, p), k) {
             return true;
         }
         left = left & (left - 1);

@@ -2,8 +2,7 @@
 -- from. Every operator, postfix and `!` is there as written; brackets are not, lets are not expanded, and a name stands as its kind and
 -- its number. Numbers are small, so that a word holds one.
 -- Assumes nothing.
-use Prim.Native.Nat.{ℕ, zero, suc, _+_}
-use mathlib.Core.Bool.{Bool, true, false}
+use Prim.Native.Nat.{ℕ, _+_}
 use mathlib.Core.List.{List, [], _∷_, _++_, map}
 use mathlib.Core.Option.{Option, some, none}
 use Rattle.claims.specs.Tree.{Name, TestTree, testName, always, never, either, both, not, Tree, name, tested, union, sequence, star, plus, opt, Claim, includes, empty, irreflexive, Line, testLine, relLine, letLine, neverLine, withinLine, closedLine, assumeEmpty, assumeIrreflexive, claimLine}

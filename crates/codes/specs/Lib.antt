@@ -1,1 +1,4 @@
+-- The codes of a query.
 pub mod Codes
+-- What a walk over them keeps of the lets.
+pub mod Lets

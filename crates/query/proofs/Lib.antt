@@ -1,14 +1,4 @@
-pub mod Answers
-pub mod Bodies
-pub mod Declared
-pub mod Fates
-pub mod FirstWords
-pub mod LineEnds
-pub mod NameKinds
-pub mod NameTable
-pub mod NextWords
-pub mod Parts
-pub mod Sides
-pub mod Taken
-pub mod TextLines
-pub mod Turns
+-- The reading of document 01 in two steps, the limits, and the answer.
+pub mod Readings
+pub mod Limits
+pub mod Outcomes

@@ -1,3 +1,4 @@
-pub mod State
-pub mod LineRead
-pub mod Reading
+-- What a query is answered, and what is left in memory.
+pub mod Answer
+-- Promises between the functions of this crate.
+pub mod Counted

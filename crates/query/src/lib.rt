@@ -1,137 +1,113 @@
-// The reader of queries: every list of bytes gets an answer. (Document 01, "The query" and "Refusals with an example each".) It reads
-// line by line over a state that carries what the lines so far declare, and writes the query's syntax as codes, children before parents.
-use lines::LineRead;
-use lines::Reason;
-use lines::State;
+// From the bytes of a query to its decision: what the search, the sheet check and the judge of graphs start from. (Document 01, "The query",
+// "Words", "Standings" and "Refusals with an example each".) Every list of bytes gets an answer, and every lent word is said.
+use read_text::Reading;
+use refusals::Reason;
+use side_limits::Sizes;
+ghost use Prim.Native.Nat.{_≤_};
 ghost use mathlib.Core.Path.{_≡_};
-ghost use Prim.Native.Nat.{_+_, _≤_};
-ghost use lib.ListN.{length, drop};
-ghost use Rattle.claims.specs.Bytes.{RawLine};
-ghost use Rattle.claims.specs.Reading.{badLine};
-ghost use Rattle.scan.specs.Scan.{front};
-ghost use Rattle.query.specs.Reading.{inLine, orZero, inLines, readable, Says, zeros, leftCodes, Written};
+ghost use lib.ListN.{length, take};
+ghost use Rattle.claims.specs.Reading.{read as reading};
+ghost use Rattle.read_text.specs.Reading.{leftCodes};
+ghost use Rattle.side_limits.specs.Sizes.{sizesOf};
+ghost use Rattle.side_limits.specs.Tally.{lineCount};
+ghost use Rattle.query.specs.Answer.{Says, leftAfter, rightAfter};
+ghost use Rattle.query.specs.Counted.{factsFrom, LeavesTables, Limited};
 
-mod entries;
-pub mod lines;
-mod readers;
+// What an accepted query leaves: how many codes it has, whether its claim is one of rings, the occurrences of its two sides, the number of
+// its atoms and relations, and the set of the atoms that no `never` removes.
+pub struct Facts {
+    pub codes: usize,
+    pub ring: bool,
+    pub left: usize,
+    pub right: usize,
+    pub atoms: usize,
+    pub live: u64,
+    pub relations: usize,
+}
 
-// The number of codes of an accepted query, or the reason and the place of a refusal.
-pub enum Reading {
-    Accepted(usize),
+// The facts of an accepted query, or the reason and the place of a refusal.
+pub enum Answer {
+    Accepted(Facts),
     Refused(Reason, usize),
 }
 
-// The line of the first byte that is neither printable nor byte 10, or 0.
-fn bad_line(text: &[u8]) -> usize
-    ensures { λ r. ⌜ r ≡ orZero (badLine 1 (now (text .entry))) ⌝ }
+// What the first n codes count.
+fn sizes(codes: &[u64], n: usize) -> Sizes
+    requires { ⌜ n ≤ length (now codes) ⌝ }
+    ensures { λ r. ⌜ r ≡ sizesOf (take n (now (codes .entry))) ⌝ }
 {
-    let mut line = 1;
-    let mut i = 0;
-    while i < text.len() {
-        let b = text[i];
-        if b == 10 {
-            line += 1;
-        } else {
-            if b < 32 {
-                return line;
-            }
-            if 126 < b {
-                return line;
-            }
-        }
-        i += 1;
-    }
-    0
+    let part = &codes[..n];
+    side_limits::sizes_of(part)
 }
 
-// The position of the first byte 10 at or behind `at`, or the length.
-fn line_end(text: &[u8], at: usize) -> usize
-    requires { ⌜ at ≤ length (now text) ⌝ }
-    ensures { λ r. ⌜ (r ≡ at + front inLine (drop at (now (text .entry)))) × (r ≤ length (now (text .entry))) ⌝ }
+// How many lines the first n codes have.
+fn lines(codes: &[u64], n: usize) -> usize
+    requires { ⌜ n ≤ length (now codes) ⌝ }
+    ensures { λ r. ⌜ r ≡ lineCount (take n (now (codes .entry))) ⌝ }
 {
-    let mut i = at;
-    while i < text.len() {
-        if text[i] == 10 {
-            return i;
-        }
-        i += 1;
-    }
-    i
+    let part = &codes[..n];
+    side_limits::lines_of(part)
 }
 
-// All zeros.
-pub fn clear(out: &mut [u64])
-    ensures { λ r. ⌜ now (out .exit) ≡ zeros (length (now (out .entry))) ⌝ }
+// The facts of the first n codes, and the tables of the two sides.
+fn tabled(
+    codes: &[u64],
+    n: usize,
+    ring: bool,
+    left: &mut [u64; 4241],
+    right: &mut [u64; 4241],
+) -> Facts
+    requires { ⌜ n ≤ length (now codes) ⌝ }
+    ensures { λ r. ⌜ (r ≡ factsFrom n ring (take n (now (codes .entry)))) × LeavesTables (take n (now (codes .entry))) (now (left .exit)) (now (right .exit)) ⌝ }
 {
-    let mut i = 0;
-    while i < out.len() {
-        out[i] = 0;
-        i += 1;
+    let part = &codes[..n];
+    let tests = side_limits::times(part, 128);
+    let relations = side_limits::times(part, 129);
+    let b = side_build::build(part, left, right);
+    Facts {
+        codes: n,
+        ring,
+        left: b.left,
+        right: b.right,
+        atoms: side_relations::atom_count(tests),
+        live: b.live,
+        relations: relations as usize,
     }
 }
 
-// The lines from the top.
-fn read_lines(text: &[u8], names: &mut [u64; 192], out: &mut [u64; 4096]) -> Reading
-    requires { ⌜ (length (now text) ≤ 4096) × (length (now names) ≡ 192) × (length (now out) ≡ 4096) ⌝ }
-    ensures { λ r. ⌜ Says (inLines (now (text .entry))) r × Written (inLines (now (text .entry))) (now (out .entry)) (now (out .exit)) ⌝ }
+// The limits, for a query with n codes: refusal 8 at its last line, or its facts and tables.
+fn limited(codes: &mut [u64], n: usize, left: &mut [u64; 4241], right: &mut [u64; 4241]) -> Answer
+    requires { ⌜ (n ≤ 4096) × (length (now codes) ≡ 4096) ⌝ }
+    ensures { λ r. ⌜ Limited n (now (codes .entry)) (now (left .entry)) (now (right .entry)) r (now (codes .exit)) (now (left .exit)) (now (right .exit)) ⌝ }
 {
-    let mut st = State {
-        used: 0,
-        names: 0,
-        tests: 0,
-        relations: 0,
-        lets: 0,
-        claimed: false,
-    };
-    let mut number = 1;
-    let mut at = 0;
-    while at < text.len() {
-        let e = line_end(text, at);
-        let ended = e < text.len();
-        match lines::read_line(&text[at..e], ended, st, names, out) {
-            LineRead::Refused(r) => {
-                return Reading::Refused(r, number);
-            }
-            LineRead::Taken(next) => {
-                st = next;
-            }
-        }
-        number += 1;
-        at = e + 1;
+    let s = sizes(codes, n);
+    if !side_limits::within_limits(s) {
+        let line = lines(codes, n);
+        words::clear(codes);
+        return Answer::Refused(Reason::OverLimit, line);
     }
-    if !st.claimed {
-        return Reading::Refused(Reason::NoClaim, 0);
-    }
-    Reading::Accepted(st.used)
+    let f = tabled(codes, n, s.ring, left, right);
+    Answer::Accepted(f)
 }
 
-// Refusals 1 and 2, and then the lines. `names` is lent for the table of names.
-fn read_text(text: &[u8], names: &mut [u64; 192], out: &mut [u64; 4096]) -> Reading
-    requires { ⌜ length (now names) ≡ 192 ⌝ }
-    ensures { λ r. ⌜ Says (readable (now (text .entry))) r × (now (out .exit) ≡ leftCodes (readable (now (text .entry)))) ⌝ }
+// Reads the query that the text is. After an answer `codes` has its codes and zeros behind, `left` and `right` the tables of the two sides;
+// after a refusal all are zero.
+pub fn read(
+    text: &[u8],
+    codes: &mut [u64; 4096],
+    left: &mut [u64; 4241],
+    right: &mut [u64; 4241],
+) -> Answer
+    ensures { λ r. ⌜ Says (reading (now (text .entry))) r
+        × (now (codes .exit) ≡ leftCodes (reading (now (text .entry))))
+        × (now (left .exit) ≡ leftAfter (reading (now (text .entry))))
+        × (now (right .exit) ≡ rightAfter (reading (now (text .entry)))) ⌝ }
 {
-    clear(out);
-    if 4096 < text.len() {
-        return Reading::Refused(Reason::TooLong, 0);
-    }
-    let bad = bad_line(text);
-    if 0 < bad {
-        return Reading::Refused(Reason::BadByte, bad);
-    }
-    let r = read_lines(text, names, out);
+    words::clear(left);
+    words::clear(right);
+    let r = read_text::read(text, codes);
     match r {
-        Reading::Refused(why, line) => {
-            clear(out);
-            Reading::Refused(why, line)
-        }
-        Reading::Accepted(n) => Reading::Accepted(n),
+        Reading::Refused(why, line) => Answer::Refused(why, line),
+        Reading::Accepted(n) => limited(codes, n, left, right),
     }
-}
-
-// The query that the text is, as codes in `out`, or the first refusal of 1 to 7.
-pub fn read(text: &[u8], out: &mut [u64; 4096]) -> Reading
-    ensures { λ r. ⌜ Says (readable (now (text .entry))) r × (now (out .exit) ≡ leftCodes (readable (now (text .entry)))) ⌝ }
-{
-    let mut names = [0u64; 192];
-    read_text(text, &mut names, out)
 }

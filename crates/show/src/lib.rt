@@ -1,9 +1,9 @@
 // What the reader says of a query, as one line on standard output: `refusal N line P`, or `accepted path L R` or `accepted ring L R` with
 // the numbers of left and right occurrences. A contract cannot speak of what is written; the program `read_cases` compares it with the
 // stored cases.
-use decision::Answer;
-use decision::Facts;
 use libc::STDOUT_FILENO;
+use query::Answer;
+use query::Facts;
 
 fn refusal(n: u64, line: u64) {
     io::write_all(STDOUT_FILENO, b"refusal ");
@@ -30,9 +30,9 @@ pub fn show(text: &[u8]) {
     let mut codes = [0u64; 4096];
     let mut left = [0u64; 4241];
     let mut right = [0u64; 4241];
-    let r = decision::read(text, &mut codes, &mut left, &mut right);
+    let r = query::read(text, &mut codes, &mut left, &mut right);
     match r {
-        Answer::Refused(why, line) => refusal(decision::number(why), line as u64),
+        Answer::Refused(why, line) => refusal(refusals::number(why), line as u64),
         Answer::Accepted(f) => accepted(f),
     }
 }

@@ -35,7 +35,7 @@ tested : (c : tie.After-member Inv-loop μ-loop)
     (trailingZeros 64 (c .before .before .before .loop .left))
     ≡ c .member .result
 tested c =
-    ap (bit (c .before .before .before .before .before .args .k)) (sym (c .before .row .ensures)) ∙ sym (c .member .ensures)
+    ap (bit (c .before .before .before .before .before .args .k)) (sym (c .before .word .ensures)) ∙ sym (c .member .ensures)
 
 loop-holds : tie.Need-loop-holds Inv-loop μ-loop
 loop-holds c = (search needs, refl)
@@ -43,8 +43,8 @@ loop-holds c = (search needs, refl)
 cast-p : tie.Need-cast-p Inv-loop μ-loop
 cast-p c = omega (arith, trailing-le 64 (c .before .loop .left))
 
-row-requires : tie.Need-row-requires Inv-loop μ-loop
-row-requires c κs = search needs
+word-requires : tie.Need-word-requires Inv-loop μ-loop
+word-requires c κs = search needs
 
 member-requires : tie.Need-member-requires Inv-loop μ-loop
 member-requires c κs = search needs
@@ -89,7 +89,7 @@ any-member-spec =
     μ-loop
     loop-holds
     cast-p
-    row-requires
+    word-requires
     member-requires
     returns
     sub-left

@@ -35,8 +35,8 @@ loop-holds c = (search needs, refl)
 cast-k : tie.Need-cast-k Inv-loop μ-loop
 cast-k c = omega (arith, trailing-le 64 (c .before .loop .left))
 
-row-requires : tie.Need-row-requires Inv-loop μ-loop
-row-requires c κs = search needs
+word-requires : tie.Need-word-requires Inv-loop μ-loop
+word-requires c κs = search needs
 
 returns : tie.Need-returns Inv-loop μ-loop
 unfolding meetsRows
@@ -44,7 +44,7 @@ returns c =
     let at = c .before .before .before .loop in
     let a = c .before .before .before .before .before .args in
     sym
-    (some-hit (passes (a .rows .now) (a .t)) 64 (low (c .before .before)) (meets-true _ _ _ (c .before .row .ensures) (c .if1 .taken)))
+    (some-hit (passes (a .rows .now) (a .t)) 64 (low (c .before .before)) (meets-true _ _ _ (c .before .word .ensures) (c .if1 .taken)))
     ∙ at .inv .1
 
 sub-left : tie.Need-sub-left Inv-loop μ-loop
@@ -60,7 +60,7 @@ loop-again c =
     let at = c .before .before .before .loop in
     let a = c .before .before .before .before .before .args in (
       omega (arith, l .less),
-      some-miss (passes (a .rows .now) (a .t)) 64 l (meets-false _ _ _ (c .before .row .ensures) (c .if1 .left)) ∙ at .inv .1,
+      some-miss (passes (a .rows .now) (a .t)) 64 l (meets-false _ _ _ (c .before .word .ensures) (c .if1 .left)) ∙ at .inv .1,
     )
 
 returns-2 : tie.Need-returns-2 Inv-loop μ-loop
@@ -78,7 +78,7 @@ meets-rows-spec =
     μ-loop
     loop-holds
     cast-k
-    row-requires
+    word-requires
     returns
     sub-left
     loop-less

@@ -31,8 +31,8 @@ loop-holds c = (search needs, refl)
 cast-k : tie.Need-cast-k Inv-loop μ-loop
 cast-k c = omega (arith, trailing-le 64 (c .before .loop .left))
 
-row-requires : tie.Need-row-requires Inv-loop μ-loop
-row-requires c κs = search needs
+word-requires : tie.Need-word-requires Inv-loop μ-loop
+word-requires c κs = search needs
 
 sub-left : tie.Need-sub-left Inv-loop μ-loop
 sub-left c = omega arith
@@ -46,7 +46,7 @@ loop-again c =
     let at = c .before .before .loop in
     let rows = c .before .before .before .before .args .rows .now in (
       omega (arith, l .less),
-      union-more rows 64 l (at .all) (c .row .result) (c .row .ensures) ∙ at .inv .1,
+      union-more rows 64 l (at .all) (c .word .result) (c .word .ensures) ∙ at .inv .1,
     )
 
 returns : tie.Need-returns Inv-loop μ-loop
@@ -57,4 +57,4 @@ returns c =
 pub union-rows-spec : {M : Type 1} → statement M
 union-rows-spec =
     tie.close
-    (tie.spec Inv-loop μ-loop loop-holds cast-k row-requires sub-left loop-less loop-again returns)
+    (tie.spec Inv-loop μ-loop loop-holds cast-k word-requires sub-left loop-less loop-again returns)

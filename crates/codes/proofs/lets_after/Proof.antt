@@ -1,0 +1,19 @@
+-- `limits::lets_after` meets its contract.
+-- Assumes nothing.
+use native.Mathlib.Nat.{add-zero}
+use borrow.Author.Needs.{needs}
+use borrow.Author.Tests.{eq-eqb, ne-eqb}
+use Rattle.codes.proofs.lets_after.Statement.{statement}
+use Rattle.codes.proofs.lets_after.Tie as tie
+
+add-result : tie.Need-add-result
+add-result c = search needs
+
+returns : tie.Need-returns
+returns c = simp (eq-eqb _ _ (c .if1 .taken))
+
+returns-2 : tie.Need-returns-2
+returns-2 c = simp (ne-eqb _ _ (c .if1 .left), add-zero)
+
+pub lets-after-spec : {M : Type 1} → statement M
+lets-after-spec = tie.close (tie.spec add-result returns returns-2)

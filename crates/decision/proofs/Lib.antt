@@ -1,3 +1,0 @@
-pub mod Readings
-pub mod Outcomes
-pub mod Limits

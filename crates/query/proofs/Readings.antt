@@ -1,0 +1,124 @@
+-- The reading of document 01 after the readable text: a query that the reader takes has its claim last, and its codes stand at the start of
+-- the array; the limits then accept it or refuse it at its last line.
+-- Assumes nothing.
+use Prim.Native.Nat.{ℕ, _-_, _≤_}
+use native.Mathlib.Omega.{arith}
+use mathlib.Core.Path.{_≡_, refl, sym, _∙_, ap}
+use mathlib.Core.Bool.{Bool, true, false}
+use mathlib.Core.List.{List, []}
+use mathlib.Core.Option.{Option, some, none}
+use lib.Dec.{leb}
+use lib.ListN.{length, take, length-append}
+use lib.Seq.{take-append-seam}
+use Rattle.claims.specs.Bytes.{rawLines}
+use Rattle.claims.specs.Tree.{Claim}
+use Rattle.claims.specs.Query.{Query}
+use Rattle.claims.specs.Counting.{withinLimits}
+use Rattle.claims.specs.Reading.{badLine, claimOf, readLines, limited, read}
+use Rattle.claims.specs.Refusals.{tooLong, badByte, noClaim, overLimit, Refusal, Result, ok, refused, refuse, onward}
+use Rattle.codes.specs.Codes.{queryCodes}
+use Rattle.read_text.specs.Reading.{claimed, inLines, readable, leftCodes, Says}
+use Rattle.words.specs.Memory.{zeros}
+use Rattle.read_text.specs.declared.Reading.the-variants.{Accepted}
+use Rattle.read_text.proofs.Answers.{readable-then-limits}
+use Rattle.side_limits.specs.Sizes.{sizesOf, withinTest}
+use Rattle.side_limits.proofs.Counted.{within-is-within}
+use Rattle.codes.proofs.Claimed.{Claimed, read-claimed}
+
+same-query : (p q : Query) → _≡_ {A = Result Query} (ok p) (ok q) → p ≡ q
+same-query p q e = cc
+
+not-both : (r : Refusal) (q : Query) → _≡_ {A = Result Query} (refused r) (ok q) → ⊥
+not-both r q e = let z : _≡_ {A = ℕ} 0 1 = cc in omega arith
+
+-- a query that the reader takes
+pub record Taken (bs : List ℕ) (q : Query) : Type 0 where
+  pub lines : readLines [] 1 (rawLines bs) ≡ ok q
+  pub claim : Claim
+  pub found : claimOf q ≡ some claim
+
+claimed-taken : (bs : List ℕ) (p q : Query) → readLines [] 1 (rawLines bs) ≡ ok p → claimed p ≡ ok q → Taken bs q
+unfolding claimed
+claimed-taken bs p q l e = go (claimOf p) refl e
+  where
+    go : (o : Option Claim) → claimOf p ≡ o → _≡_ {A = Result Query} (elim o [ none ↦ refuse noClaim 0 | some c ↦ ok p ]) (ok q) → Taken bs q
+    go none f h = absurd (not-both _ q h)
+    go (some c) f h =
+        let z : p ≡ q = same-query p q h in
+        record { lines = l ∙ ap ok z; claim = c; found = ap claimOf (sym z) ∙ f }
+
+lines-taken : (bs : List ℕ) (q : Query) → inLines bs ≡ ok q → Taken bs q
+unfolding inLines
+lines-taken bs q e = go (readLines [] 1 (rawLines bs)) refl e
+  where
+    go : (r : Result Query) → readLines [] 1 (rawLines bs) ≡ r → onward r claimed ≡ ok q → Taken bs q
+    go (ok p) f h = claimed-taken bs p q f h
+    go (refused r) f h = absurd (not-both r q h)
+
+pub readable-taken : (bs : List ℕ) (q : Query) → readable bs ≡ ok q → Taken bs q
+unfolding readable
+readable-taken bs q e = go (leb (length bs) 4096) (badLine 1 bs) e
+  where
+    go : (t : Bool) (o : Option ℕ)
+        → _≡_ {A = Result Query} (elim t [ false ↦ refuse tooLong 0 | true ↦ elim o [ some n ↦ refuse badByte n | none ↦ inLines bs ] ]) (ok q)
+        → Taken bs q
+    go false o h = absurd (not-both _ q h)
+    go true (some n) h = absurd (not-both _ q h)
+    go true none h = lines-taken bs q h
+
+pub taken-claimed : (bs : List ℕ) (q : Query) (t : Taken bs q) → Claimed q (t .claim)
+taken-claimed bs q t = read-claimed (rawLines bs) q (t .claim) (t .lines) (t .found)
+
+-- an accepted reading is that of a query, whose codes are the first n of the array
+pub record Accepts (bs : List ℕ) (n : ℕ) (out : List ℕ) : Type 0 where
+  pub query : Query
+  pub is-it : readable bs ≡ ok query
+  pub taken : Taken bs query
+  pub codes : take n out ≡ queryCodes query
+  pub count : n ≡ length (queryCodes query)
+  pub room : n ≤ 4096
+
+pub accepts : (bs : List ℕ) (n : ℕ) (out : List ℕ) → length out ≡ 4096 → Says (readable bs) (Accepted n) → out ≡ leftCodes (readable bs) → Accepts bs n out
+unfolding leftCodes
+accepts bs n out l s w = go (readable bs) refl s w
+  where
+    go : (r : Result Query) → readable bs ≡ r → Says r (Accepted n) → out ≡ leftCodes r → Accepts bs n out
+    go (ok q) e s w =
+        record {
+          query = q;
+          is-it = e;
+          taken = readable-taken bs q e;
+          codes = ap (λ k. take k out) s ∙ ap (take (length (queryCodes q))) w
+              ∙ take-append-seam (queryCodes q) (zeros (4096 - length (queryCodes q)));
+          count = s;
+          room = omega (arith, ap length w, length-append (queryCodes q) (zeros (4096 - length (queryCodes q))));
+        }
+    go (refused r) e s w = absurd s
+
+-- the limits
+limited-by : (q : Query) (c : Claim) → claimOf q ≡ some c → (b : Bool) → withinLimits q c ≡ b
+    → limited q ≡ elim b [ true ↦ ok q | false ↦ refuse overLimit (length q) ]
+unfolding limited
+limited-by q c e b f = rw (e, f, limited)
+
+module _ (bs : List ℕ) (n : ℕ) (out : List ℕ) (a : Accepts bs n out) where
+  tested : (b : Bool) → withinTest (sizesOf (take n out)) ≡ b → withinLimits (a .query) (a .taken .claim) ≡ b
+  tested b e =
+      sym (within-is-within (a .query) (a .taken .claim) (taken-claimed bs (a .query) (a .taken)))
+      ∙ sym (ap (λ ks. withinTest (sizesOf ks)) (a .codes)) ∙ e
+
+  read-is : (b : Bool) → withinTest (sizesOf (take n out)) ≡ b
+      → read bs ≡ elim b [ true ↦ ok (a .query) | false ↦ refuse overLimit (length (a .query)) ]
+  read-is b e =
+      readable-then-limits bs ∙ ap (λ r. onward r limited) (a .is-it)
+      ∙ limited-by (a .query) (a .taken .claim) (a .taken .found) b (tested b e)
+
+  pub read-within : withinTest (sizesOf (take n out)) ≡ true → (read bs ≡ ok (a .query)) × (withinLimits (a .query) (a .taken .claim) ≡ true)
+  read-within e = (read-is true e, tested true e)
+
+  pub read-over : withinTest (sizesOf (take n out)) ≡ false → read bs ≡ refuse overLimit (length (a .query))
+  read-over e = read-is false e
+
+-- a refusal of the reader is one of document 01's reading
+pub read-refused : (bs : List ℕ) (r : Refusal) → readable bs ≡ refused r → read bs ≡ refused r
+read-refused bs r e = readable-then-limits bs ∙ ap (λ x. onward x limited) e

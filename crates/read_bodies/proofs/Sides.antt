@@ -1,0 +1,197 @@
+-- Assumptions and claims: one E behind `empty` or `irreflexive`, or two with `in` between them.
+-- Assumes nothing.
+use Prim.Native.Nat.{ℕ, _+_, _≤_}
+use native.Mathlib.Omega.{arith}
+use mathlib.Core.Path.{_≡_, refl, sym, ap, _∙_, subst}
+use mathlib.Core.Bool.{Bool, true, false}
+use mathlib.Core.List.{List, [], _∷_, _++_, append-assoc}
+use lib.ListN.{length, drop, length-append}
+use lib.Seq.{sets}
+use Rattle.claims.specs.Bytes.{text}
+use Rattle.claims.specs.Tokens as Notation
+use Rattle.claims.specs.Tokens.{tokens, reservedWords}
+use Rattle.claims.specs.Grammar.{Found, got, wrong, past, saysNext}
+use Rattle.claims.specs.Tree.{Tree, includes, empty, irreflexive, Line, assumeEmpty, assumeIrreflexive, claimLine}
+use Rattle.claims.specs.Lines.{choose, mapped, expression, includeReader, assumptions, claims}
+use Rattle.claims.specs.Names.{treeUses, claimUses, uses, firstSlip}
+use Rattle.claims.specs.Query.{Query}
+use Rattle.codes.specs.Codes.{treeCodes, claimCodes, lineCodes}
+use Rattle.read_tests.specs.declared.Place.{Place}
+use Rattle.read_tests.specs.declared.Parsed.{Parsed}
+use Rattle.read_tests.specs.declared.Parsed.the-variants.{Got, Wrong, Deep}
+use Rattle.read_tests.specs.Places.{Is}
+use Rattle.read_names.specs.Keys.{Knows}
+use Rattle.read_names.specs.Slips.{slipNumber}
+use Rattle.read_bodies.specs.Bodies.{Answers, TreeThen, BodyOutcome, Bare, OneSided, oneSide}
+use Rattle.read_tests.proofs.Stores.{stores-then}
+use Rattle.read_names.proofs.Slips.{slips-then}
+use Rattle.read_bodies.proofs.Parts.{behind-of}
+use Rattle.read_bodies.proofs.NextWords.{SaysWord, keyword, choose-here, choose-next, choose-none}
+
+-- what is read from a later place on, under another reader
+pub body-via : (D E : List Notation.Token → Found Line) (K : Line → Type 0) (s names : List ℕ) (n at later used : ℕ) (before after : List ℕ)
+    → D (tokens (drop at s)) ≡ E (tokens (drop later s)) → at ≤ later → (r : Parsed)
+    → BodyOutcome E K s names n later used before after r → BodyOutcome D K s names n at used before after r
+body-via D E K s names n at later used before after e h (Got g) (a, b) = (
+  record { onward = omega (arith, a .onward); within = a .within; room = omega (arith, a .room) },
+  (λ q m. let o = b q m in
+      record { line = o .line; sort = o .sort; read = e ∙ o .read; slip = o .slip; written = o .written; used = o .used }),
+)
+body-via D E K s names n at later used before after e h Wrong (a, b) = (tt, λ q m. e ∙ b q m)
+body-via D E K s names n at later used before after e h Deep (a, b) = (tt, λ q m. e ∙ b q m)
+
+-- one E
+pub side-passed : (D : List Notation.Token → Found Line) (kind : Tree → Line) (code : ℕ) (c : Bool) → OneSided kind code c
+    → (s names : List ℕ) (n at later used : ℕ) (before after : List ℕ)
+    → D (tokens (drop at s)) ≡ mapped kind (expression (tokens (drop later s))) → at ≤ later → (r : Parsed)
+    → TreeThen code s names n (record { at = later; used = used; slip = 0 }) before after r
+    → BodyOutcome D (Bare c) s names n at used before after r
+side-passed D kind code c i s names n at later used before after e h (Got g) (a, b) = (
+  record { onward = omega (arith, a .onward); within = a .within; room = omega (arith, a .room) },
+  (λ q m. let o = b q m in
+      record {
+        line = kind (o .tree);
+        sort = i .plain (o .tree);
+        read = e ∙ ap (mapped kind) (o .read);
+        slip = o .slip ∙ ap (λ us. slipNumber (firstSlip q us)) (sym (i .names (o .tree)));
+        written = λ z. o .written ∙ ap (sets before used) (sym (i .codes q (o .tree)));
+        used = o .used ∙ ap (λ cs. used + length cs) (sym (i .codes q (o .tree)));
+      }),
+)
+side-passed D kind code c i s names n at later used before after e h Wrong (a, b) = (tt, λ q m. e ∙ ap (mapped kind) (b q m))
+side-passed D kind code c i s names n at later used before after e h Deep (a, b) = (tt, λ q m. e ∙ ap (mapped kind) (b q m))
+
+module _ (f g : Tree → Line) (s : List ℕ) (at : ℕ) where
+  pub side-empty : (e : ℕ) → SaysWord s at (keyword 9) e → choose (oneSide f g) (tokens (drop at s)) ≡ mapped f (expression (tokens (drop e s)))
+  unfolding oneSide reservedWords
+  side-empty e w = choose-here _ _ (tokens (drop at s)) (w .says) ∙ ap (λ ts. mapped f (expression ts)) (w .passed)
+
+  pub side-irreflexive : saysNext (keyword 9) (tokens (drop at s)) ≡ false → (e : ℕ) → SaysWord s at (keyword 11) e
+      → choose (oneSide f g) (tokens (drop at s)) ≡ mapped g (expression (tokens (drop e s)))
+  unfolding oneSide reservedWords
+  side-irreflexive h e w =
+      choose-next _ _ (tokens (drop at s)) h ∙ choose-here _ _ (tokens (drop at s)) (w .says) ∙ ap (λ ts. mapped g (expression ts)) (w .passed)
+
+  pub side-none : saysNext (keyword 9) (tokens (drop at s)) ≡ false → saysNext (keyword 11) (tokens (drop at s)) ≡ false
+      → choose (oneSide f g) (tokens (drop at s)) ≡ wrong
+  unfolding oneSide reservedWords
+  side-none h i = choose-next _ _ (tokens (drop at s)) h ∙ choose-next _ _ (tokens (drop at s)) i ∙ choose-none (tokens (drop at s))
+
+pub assumes-empty : OneSided assumeEmpty 133 false
+unfolding lineCodes uses
+assumes-empty = record { codes = λ q e. refl; names = λ e. refl; plain = λ e. refl }
+
+pub assumes-irreflexive : OneSided assumeIrreflexive 134 false
+unfolding lineCodes uses
+assumes-irreflexive = record { codes = λ q e. refl; names = λ e. refl; plain = λ e. refl }
+
+pub claims-empty : OneSided (λ e. claimLine (empty e)) 137 true
+unfolding lineCodes claimCodes uses claimUses
+claims-empty = record { codes = λ q e. refl; names = λ e. refl; plain = λ e. refl }
+
+pub claims-irreflexive : OneSided (λ e. claimLine (irreflexive e)) 138 true
+unfolding lineCodes claimCodes uses claimUses
+claims-irreflexive = record { codes = λ q e. refl; names = λ e. refl; plain = λ e. refl }
+
+pub assumptions-sides : assumptions ≡ oneSide assumeEmpty assumeIrreflexive
+unfolding assumptions oneSide
+assumptions-sides = refl
+
+-- a claim by its first word
+module _ (s : List ℕ) (at : ℕ) where
+  pub claim-include : (e : ℕ) → SaysWord s at (keyword 10) e → choose claims (tokens (drop at s)) ≡ includeReader (tokens (drop e s))
+  unfolding claims reservedWords
+  claim-include e w = choose-here _ _ (tokens (drop at s)) (w .says) ∙ ap includeReader (w .passed)
+
+  pub claim-side : saysNext (keyword 10) (tokens (drop at s)) ≡ false
+      → choose claims (tokens (drop at s)) ≡ choose (oneSide (λ e. claimLine (empty e)) (λ e. claimLine (irreflexive e))) (tokens (drop at s))
+  unfolding claims oneSide reservedWords
+  claim-side h = choose-next _ _ (tokens (drop at s)) h
+
+-- `E in E`
+module _ (ts us : List Notation.Token) (e : Tree) (h : expression ts ≡ got e us) where
+  abbrev rest : Bool → Found Line
+  rest b = elim b [ true ↦ mapped (λ f. claimLine (includes e f)) (expression (past us)) | false ↦ wrong ]
+
+  include-left : includeReader ts ≡ rest (saysNext (text "in") us)
+  unfolding includeReader
+  include-left = rw (h, includeReader)
+
+  include-no : saysNext (keyword 8) us ≡ false → includeReader ts ≡ wrong
+  unfolding reservedWords
+  include-no g = include-left ∙ ap rest g
+
+  include-in : saysNext (keyword 8) us ≡ true → includeReader ts ≡ mapped (λ f. claimLine (includes e f)) (expression (past us))
+  unfolding reservedWords
+  include-in g = include-left ∙ ap rest g
+
+abbrev start : ℕ → ℕ → Place
+start at used = record { at = at; used = used; slip = 0 }
+
+module _ (s names : List ℕ) (n at used : ℕ) (before mid : List ℕ) (r : Parsed) (w : TreeThen 135 s names n (start at used) before mid r) where
+  left : (x : Parsed) → r ≡ x → (q : Query) → Knows names n q
+      → Answers (Is expression) (λ e. treeCodes q e ++ (135 ∷ [])) treeUses q s (start at used) before mid x
+  left x e q m = subst (Answers (Is expression) (λ e. treeCodes q e ++ (135 ∷ [])) treeUses q s (start at used) before mid) e (w .1 q m)
+
+  pub include-wrong : r ≡ Wrong → (after : List ℕ) → BodyOutcome includeReader (Bare true) s names n at used before after Wrong
+  unfolding includeReader
+  include-wrong e after = (tt, λ q m. rw (left Wrong e q m, includeReader))
+
+  pub include-deep : r ≡ Deep → (after : List ℕ) → BodyOutcome includeReader (Bare true) s names n at used before after Deep
+  unfolding includeReader
+  include-deep e after = (tt, λ q m. rw (left Deep e q m, includeReader))
+
+  module _ (g : Place) (e : r ≡ Got g) where
+    pub include-missing : saysNext (keyword 8) (tokens (drop (g .at) s)) ≡ false → (after : List ℕ)
+        → BodyOutcome includeReader (Bare true) s names n at used before after Wrong
+    include-missing h after =
+        (tt, λ q m. let o = left (Got g) e q m in include-no (tokens (drop at s)) (tokens (drop (g .at) s)) (o .tree) (o .read) h)
+
+    module _ (next : ℕ) (i : SaysWord s (g .at) (keyword 8) next) where
+      joined : (q : Query) (m : Knows names n q)
+          → includeReader (tokens (drop at s))
+          ≡ mapped (λ f. claimLine (includes (left (Got g) e q m .tree) f)) (expression (tokens (drop next s)))
+      joined q m =
+          let o = left (Got g) e q m in
+          include-in (tokens (drop at s)) (tokens (drop (g .at) s)) (o .tree) (o .read) (i .says)
+          ∙ (ap (λ ts. mapped (λ f. claimLine (includes (left (Got g) e q m .tree) f)) (expression ts)) (i .passed))
+
+      around : (xs ys : List ℕ) → (xs ++ (135 ∷ [])) ++ (ys ++ (136 ∷ [])) ≡ (xs ++ (135 ∷ ys)) ++ (136 ∷ [])
+      around xs ys = simp append-assoc
+
+      pub include-passed : (after : List ℕ) (x : Parsed)
+          → TreeThen 136 s names n (record { at = next; used = g .used; slip = g .slip }) mid after x
+          → BodyOutcome includeReader (Bare true) s names n at used before after x
+      unfolding uses claimUses lineCodes claimCodes
+      include-passed after (Got h) (a, b) =
+          let f = behind-of s at used 1 r g e (w .0) in (
+            record {
+              onward = omega (arith, f .onward, i .after, a .onward);
+              within = a .within;
+              room = omega (arith, f .room, f .within, i .after, i .within, a .room);
+            },
+            (λ q m. let o = left (Got g) e q m in
+                let p = b q m in
+                record {
+                  line = claimLine (includes (o .tree) (p .tree));
+                  sort = refl;
+                  read = joined q m ∙ ap (mapped (λ f. claimLine (includes (o .tree) f))) (p .read);
+                  slip = slips-then q (treeUses (o .tree)) (treeUses (p .tree)) 0 (g .slip) (h .slip) (o .slip) (p .slip);
+                  written = λ z.
+                      stores-then before used (treeCodes q (o .tree) ++ (135 ∷ [])) (treeCodes q (p .tree) ++ (136 ∷ [])) mid after (g .used)
+                      (o .written) (o .used) (p .written)
+                      ∙ ap (sets before used) (around (treeCodes q (o .tree)) (treeCodes q (p .tree)));
+                  used =
+                      omega (
+                        arith,
+                        o .used,
+                        p .used,
+                        length-append (treeCodes q (o .tree) ++ (135 ∷ [])) (treeCodes q (p .tree) ++ (136 ∷ [])),
+                        ap length (around (treeCodes q (o .tree)) (treeCodes q (p .tree))),
+                      );
+                }),
+          )
+      include-passed after Wrong (a, b) =
+          (tt, λ q m. joined q m ∙ ap (mapped (λ f. claimLine (includes (left (Got g) e q m .tree) f))) (b q m))
+      include-passed after Deep (a, b) =
+          (tt, λ q m. joined q m ∙ ap (mapped (λ f. claimLine (includes (left (Got g) e q m .tree) f))) (b q m))

@@ -1,0 +1,78 @@
+use Rattle.read_bodies.proofs.Bodies.{closed-reserved, closed-got}
+use Rattle.read_bodies.proofs.NextWords.{token-found, name-missing}
+use Rattle.claims.specs.Tree.{closedLine}
+use mathlib.Core.List.{[]}
+use borrow.Author.Needs.{needs}
+use Rattle.read_bodies.proofs.closed_body.Statement.{statement}
+use Rattle.read_bodies.proofs.closed_body.Tie as tie
+
+token-at-requires : tie.Need-token-at-requires
+token-at-requires c κs = search needs
+
+enum-known-t : tie.Need-enum-known-t
+enum-known-t c = search needs
+
+reserved-requires : tie.Need-reserved-requires
+reserved-requires c κs = search needs
+
+returns : tie.Need-returns
+returns c = closed-reserved _ _ _ _ 0 _ _ (token-found _ _ _ _ (c .before .before .before .before .before .token-at .ensures) (c .before .before .before .t .given .1)) _ (c .before .reserved .ensures) (c .if1 .taken) [] []
+
+find-requires : tie.Need-find-requires
+find-requires c κs = search needs
+
+relation-number-requires : tie.Need-relation-number-requires
+relation-number-requires c κs = search needs
+
+add-write : tie.Need-add-write
+add-write c = search needs
+
+write-requires : tie.Need-write-requires
+write-requires c κs = search needs
+
+slip-of-requires : tie.Need-slip-of-requires
+slip-of-requires c κs = search needs
+
+enum-told : tie.Need-enum-told
+enum-told c = search needs
+
+enum-told-2 : tie.Need-enum-told-2
+enum-told-2 c = search needs
+
+enum-told-3 : tie.Need-enum-told-3
+enum-told-3 c = search needs
+
+returns-2 : tie.Need-returns-2
+returns-2 c =
+    closed-got _ _ _ _ _ _ _ (token-found _ _ _ _ (c .before .before .before .before .before .before .before .before .before .before .token-at .ensures) (c .before .before .before .before .before .before .before .before .t .given .1)) _ (c .before .before .before .before .before .before .reserved .ensures) (c .before .before .before .before .before .if1 .left) _ _ _
+    (c .before .before .before .before .find .ensures) (c .slip-of .ensures) (c .before .before .relation-number .ensures .0) _ _ _ (c .before .write .ensures)
+
+returns-3 : tie.Need-returns-3
+returns-3 c = (tt, λ q m. name-missing _ _ _ _ (c .before .before .token-at .ensures) (c .enum-told .given .1) closedLine tt)
+
+returns-4 : tie.Need-returns-4
+returns-4 c = (tt, λ q m. name-missing _ _ _ _ (c .before .before .token-at .ensures) (c .enum-told2 .given .1) closedLine tt)
+
+returns-5 : tie.Need-returns-5
+returns-5 c = (tt, λ q m. name-missing _ _ _ _ (c .before .before .token-at .ensures) (c .enum-told3 .given .1) closedLine tt)
+
+pub closed-body-spec : {M : Type 1} → statement M
+closed-body-spec =
+    tie.close
+    (tie.spec
+    token-at-requires
+    enum-known-t
+    reserved-requires
+    returns
+    find-requires
+    relation-number-requires
+    add-write
+    write-requires
+    slip-of-requires
+    enum-told
+    enum-told-2
+    enum-told-3
+    returns-2
+    returns-3
+    returns-4
+    returns-5)

@@ -1,0 +1,60 @@
+use Rattle.read_bodies.proofs.Sides.{include-wrong, include-deep, include-missing, include-passed}
+use Rattle.read_bodies.proofs.NextWords.{word-stands, word-missing}
+use Rattle.read_bodies.proofs.Parts.{behind-of}
+use mathlib.Core.List.{[]}
+use native.Mathlib.Omega.{arith}
+use borrow.Author.Needs.{needs}
+use Rattle.read_bodies.proofs.two_sides.Statement.{statement}
+use Rattle.read_bodies.proofs.two_sides.Tie as tie
+
+expression-then-requires : tie.Need-expression-then-requires
+expression-then-requires c κs = search needs
+
+enum-known-r : tie.Need-enum-known-r
+enum-known-r c = search needs
+
+word-key-requires : tie.Need-word-key-requires
+word-key-requires c κs = search needs
+
+word-next-requires : tie.Need-word-next-requires
+word-next-requires c κs = search needs
+
+returns : tie.Need-returns
+returns c = include-missing _ _ _ _ _ _ _ _ (c .before .before .before .before .before .before .expression-then .ensures) _ (c .before .before .before .before .r .given .1) (word-missing _ _ 8 (omega arith) _ (c .before .before .word-key .ensures) _ (c .before .word-next .ensures) (c .if1 .taken)) []
+
+expression-then-requires-2 : tie.Need-expression-then-requires-2
+expression-then-requires-2 c κs =
+    let f = behind-of _ _ _ _ _ _ (c .before .before .before .before .before .r .given .1) (c .before .before .before .before .before .before .before .expression-then .ensures .0) in
+    let w = word-stands _ _ 8 (omega arith) _ (c .before .before .before .word-key .ensures) _ (c .before .before .word-next .ensures) (c .before .if1 .left) in
+    omega (arith, f .room, f .within, w .after, w .within, c .before .before .before .before .before .before .before .before .before .before .before .pre)
+
+enum-told : tie.Need-enum-told
+enum-told c = search needs
+
+enum-told-2 : tie.Need-enum-told-2
+enum-told-2 c = search needs
+
+returns-2 : tie.Need-returns-2
+returns-2 c = include-passed _ _ _ _ _ _ _ _ (c .before .before .before .before .before .before .before .before .expression-then .ensures) _ (c .before .before .before .before .before .before .r .given .1) _ (word-stands _ _ 8 (omega arith) _ (c .before .before .before .before .word-key .ensures) _ (c .before .before .before .word-next .ensures) (c .before .before .if1 .left)) _ (c .expression-then2 .result) (c .expression-then2 .ensures)
+
+returns-3 : tie.Need-returns-3
+returns-3 c = include-wrong _ _ _ _ _ _ _ _ (c .before .before .expression-then .ensures) (c .enum-told .given .1) []
+
+returns-4 : tie.Need-returns-4
+returns-4 c = include-deep _ _ _ _ _ _ _ _ (c .before .before .expression-then .ensures) (c .enum-told2 .given .1) []
+
+pub two-sides-spec : {M : Type 1} → statement M
+two-sides-spec =
+    tie.close
+    (tie.spec
+    expression-then-requires
+    enum-known-r
+    word-key-requires
+    word-next-requires
+    returns
+    expression-then-requires-2
+    enum-told
+    enum-told-2
+    returns-2
+    returns-3
+    returns-4)

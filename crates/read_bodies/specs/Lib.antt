@@ -1,0 +1,2 @@
+-- What the readers of a line's body promise.
+pub mod Bodies

@@ -1,0 +1,374 @@
+// What stands behind the first word of a line, by the kind of line, and its codes. (Document 01, "The query".)
+use read_tests::Parsed;
+use read_tests::Place;
+use read_tokens::Token;
+ghost use mathlib.Core.Bool.{Bool, true, false};
+ghost use Prim.Native.Nat.{_+_, _-_, _≤_};
+ghost use lib.ListN.{length};
+ghost use Rattle.claims.specs.Grammar.{nameNext};
+ghost use Rattle.claims.specs.Tree.{Name, Tree, Line, closedLine};
+ghost use Rattle.claims.specs.Lines.{declared, mapped, choose, letReader, withinReader, includeReader, claims};
+ghost use Rattle.read_tests.specs.Places.{Room};
+ghost use Rattle.read_bodies.specs.Bodies.{TestThen, TreeThen, Bracketed, LimitsThen, BodyOutcome, Bare, Declaration, Declares, DeclaresLet, OneSided, oneSide};
+
+// A name that is declared, and the line's code.
+pub fn declaration(
+    s: &[u8],
+    at: usize,
+    names: &[u64],
+    n: usize,
+    used: usize,
+    code: u64,
+    out: &mut [u64; 4096],
+) -> Parsed
+    requires { ⌜ used + (length (now s) - at) + 1 ≤ 4096 ⌝ }
+    ensures { λ r. ⌜ ((kind : Name → Line) → Declaration kind code → BodyOutcome (λ ts. mapped kind (declared ts)) (Declares kind (now (s .entry)) at) (now (s .entry)) (now (names .entry)) n at used (now (out .entry)) (now (out .exit)) r) ⌝ }
+{
+    let t = read_tokens::token_at(s, at);
+    match t {
+        Token::Word(k, next) => {
+            let slip = read_names::declaration_slip(k, names, n);
+            let end = read_tests::write(out, used, 1, code);
+            Parsed::Got(Place {
+                at: next,
+                used: end,
+                slip,
+            })
+        }
+        Token::Mark(_, _) => Parsed::Wrong,
+        Token::Bad => Parsed::Wrong,
+        Token::End => Parsed::Wrong,
+    }
+}
+
+// A T, and a code behind it.
+pub fn condition_then(
+    s: &[u8],
+    names: &[u64],
+    n: usize,
+    p: Place,
+    code: u64,
+    out: &mut [u64; 4096],
+) -> Parsed
+    requires { ⌜ p .used + (length (now s) - p .at) + 1 ≤ 4096 ⌝ }
+    ensures { λ r. ⌜ TestThen code (now (s .entry)) (now (names .entry)) n p (now (out .entry)) (now (out .exit)) r ⌝ }
+{
+    let r = read_tests::condition(s, names, n, p, out);
+    match r {
+        Parsed::Got(g) => {
+            let used = read_tests::write(out, g.used, 1, code);
+            Parsed::Got(Place {
+                at: g.at,
+                used,
+                slip: g.slip,
+            })
+        }
+        Parsed::Wrong => Parsed::Wrong,
+        Parsed::Deep => Parsed::Deep,
+    }
+}
+
+// An E, and a code behind it.
+pub fn expression_then(
+    s: &[u8],
+    names: &[u64],
+    n: usize,
+    p: Place,
+    code: u64,
+    out: &mut [u64; 4096],
+) -> Parsed
+    requires { ⌜ p .used + (length (now s) - p .at) + 1 ≤ 4096 ⌝ }
+    ensures { λ r. ⌜ TreeThen code (now (s .entry)) (now (names .entry)) n p (now (out .entry)) (now (out .exit)) r ⌝ }
+{
+    let r = read_exprs::expression(s, names, n, p, out);
+    match r {
+        Parsed::Got(g) => {
+            let used = read_tests::write(out, g.used, 1, code);
+            Parsed::Got(Place {
+                at: g.at,
+                used,
+                slip: g.slip,
+            })
+        }
+        Parsed::Wrong => Parsed::Wrong,
+        Parsed::Deep => Parsed::Deep,
+    }
+}
+
+// A T in square brackets.
+pub fn bracketed(s: &[u8], names: &[u64], n: usize, p: Place, out: &mut [u64; 4096]) -> Parsed
+    requires { ⌜ Room (now s) p ⌝ }
+    ensures { λ r. ⌜ Bracketed (now (s .entry)) (now (names .entry)) n p (now (out .entry)) (now (out .exit)) r ⌝ }
+{
+    let next = read_tests::mark_next(s, p.at, b'[');
+    if next == 0 {
+        return Parsed::Wrong;
+    }
+    let r = condition_then(
+        s,
+        names,
+        n,
+        Place {
+            at: next,
+            used: p.used,
+            slip: p.slip,
+        },
+        6,
+        out,
+    );
+    match r {
+        Parsed::Got(g) => {
+            let end = read_tests::mark_next(s, g.at, b']');
+            if end == 0 {
+                return Parsed::Wrong;
+            }
+            Parsed::Got(Place {
+                at: end,
+                used: g.used,
+                slip: g.slip,
+            })
+        }
+        Parsed::Wrong => Parsed::Wrong,
+        Parsed::Deep => Parsed::Deep,
+    }
+}
+
+// `N = E`.
+pub fn let_body(
+    s: &[u8],
+    at: usize,
+    names: &[u64],
+    n: usize,
+    used: usize,
+    out: &mut [u64; 4096],
+) -> Parsed
+    requires { ⌜ used + (length (now s) - at) + 1 ≤ 4096 ⌝ }
+    ensures { λ r. ⌜ BodyOutcome letReader (DeclaresLet (now (s .entry)) at) (now (s .entry)) (now (names .entry)) n at used (now (out .entry)) (now (out .exit)) r ⌝ }
+{
+    let t = read_tokens::token_at(s, at);
+    match t {
+        Token::Word(k, next) => {
+            let start = read_tests::mark_next(s, next, b'=');
+            if start == 0 {
+                return Parsed::Wrong;
+            }
+            let slip = read_names::declaration_slip(k, names, n);
+            expression_then(
+                s,
+                names,
+                n,
+                Place {
+                    at: start,
+                    used,
+                    slip,
+                },
+                130,
+                out,
+            )
+        }
+        Token::Mark(_, _) => Parsed::Wrong,
+        Token::Bad => Parsed::Wrong,
+        Token::End => Parsed::Wrong,
+    }
+}
+
+// Two bracketed T, and a code behind them.
+pub fn limits(
+    s: &[u8],
+    names: &[u64],
+    n: usize,
+    p: Place,
+    code: u64,
+    out: &mut [u64; 4096],
+) -> Parsed
+    requires { ⌜ p .used + (length (now s) - p .at) + 1 ≤ 4096 ⌝ }
+    ensures { λ r. ⌜ LimitsThen code (now (s .entry)) (now (names .entry)) n p (now (out .entry)) (now (out .exit)) r ⌝ }
+{
+    let t = bracketed(s, names, n, p, out);
+    match t {
+        Parsed::Got(g) => {
+            let u = bracketed(s, names, n, g, out);
+            match u {
+                Parsed::Got(h) => {
+                    let used = read_tests::write(out, h.used, 1, code);
+                    Parsed::Got(Place {
+                        at: h.at,
+                        used,
+                        slip: h.slip,
+                    })
+                }
+                Parsed::Wrong => Parsed::Wrong,
+                Parsed::Deep => Parsed::Deep,
+            }
+        }
+        Parsed::Wrong => Parsed::Wrong,
+        Parsed::Deep => Parsed::Deep,
+    }
+}
+
+// `N [T] [U]`.
+pub fn within_body(
+    s: &[u8],
+    at: usize,
+    names: &[u64],
+    n: usize,
+    used: usize,
+    out: &mut [u64; 4096],
+) -> Parsed
+    requires { ⌜ used + (length (now s) - at) + 1 ≤ 4096 ⌝ }
+    ensures { λ r. ⌜ BodyOutcome withinReader (Bare false) (now (s .entry)) (now (names .entry)) n at used (now (out .entry)) (now (out .exit)) r ⌝ }
+{
+    let t = read_tokens::token_at(s, at);
+    match t {
+        Token::Word(k, next) => {
+            if read_names::reserved(k) {
+                return Parsed::Wrong;
+            }
+            let c = read_names::find(names, n, k);
+            let p = Place {
+                at: next,
+                used,
+                slip: read_names::slip_of(c, 32, 64),
+            };
+            limits(s, names, n, p, 144 + read_names::relation_number(c), out)
+        }
+        Token::Mark(_, _) => Parsed::Wrong,
+        Token::Bad => Parsed::Wrong,
+        Token::End => Parsed::Wrong,
+    }
+}
+
+// `N`, a relation.
+pub fn closed_body(
+    s: &[u8],
+    at: usize,
+    names: &[u64],
+    n: usize,
+    used: usize,
+    out: &mut [u64; 4096],
+) -> Parsed
+    requires { ⌜ used + (length (now s) - at) + 1 ≤ 4096 ⌝ }
+    ensures { λ r. ⌜ BodyOutcome (λ ts. nameNext closedLine ts) (Bare false) (now (s .entry)) (now (names .entry)) n at used (now (out .entry)) (now (out .exit)) r ⌝ }
+{
+    let t = read_tokens::token_at(s, at);
+    match t {
+        Token::Word(k, next) => {
+            if read_names::reserved(k) {
+                return Parsed::Wrong;
+            }
+            let c = read_names::find(names, n, k);
+            let end = read_tests::write(out, used, 1, 160 + read_names::relation_number(c));
+            Parsed::Got(Place {
+                at: next,
+                used: end,
+                slip: read_names::slip_of(c, 32, 64),
+            })
+        }
+        Token::Mark(_, _) => Parsed::Wrong,
+        Token::Bad => Parsed::Wrong,
+        Token::End => Parsed::Wrong,
+    }
+}
+
+// `empty E` or `irreflexive E`, with a code for each.
+pub fn one_side(
+    s: &[u8],
+    at: usize,
+    names: &[u64],
+    n: usize,
+    used: usize,
+    empty: u64,
+    irreflexive: u64,
+    out: &mut [u64; 4096],
+) -> Parsed
+    requires { ⌜ used + (length (now s) - at) + 1 ≤ 4096 ⌝ }
+    ensures { λ r. ⌜ ((f g : Tree → Line) (c : Bool) → OneSided f empty c → OneSided g irreflexive c → BodyOutcome (choose (oneSide f g)) (Bare c) (now (s .entry)) (now (names .entry)) n at used (now (out .entry)) (now (out .exit)) r) ⌝ }
+{
+    let e = read_tests::word_next(s, at, read_names::word_key(read_names::EMPTY));
+    if e != 0 {
+        return expression_then(
+            s,
+            names,
+            n,
+            Place {
+                at: e,
+                used,
+                slip: 0,
+            },
+            empty,
+            out,
+        );
+    }
+    let i = read_tests::word_next(s, at, read_names::word_key(read_names::IRREFLEXIVE));
+    if i != 0 {
+        return expression_then(
+            s,
+            names,
+            n,
+            Place {
+                at: i,
+                used,
+                slip: 0,
+            },
+            irreflexive,
+            out,
+        );
+    }
+    Parsed::Wrong
+}
+
+// `E in E`.
+pub fn two_sides(
+    s: &[u8],
+    at: usize,
+    names: &[u64],
+    n: usize,
+    used: usize,
+    out: &mut [u64; 4096],
+) -> Parsed
+    requires { ⌜ used + (length (now s) - at) + 1 ≤ 4096 ⌝ }
+    ensures { λ r. ⌜ BodyOutcome includeReader (Bare true) (now (s .entry)) (now (names .entry)) n at used (now (out .entry)) (now (out .exit)) r ⌝ }
+{
+    let r = expression_then(s, names, n, Place { at, used, slip: 0 }, 135, out);
+    match r {
+        Parsed::Got(g) => {
+            let next = read_tests::word_next(s, g.at, read_names::word_key(read_names::IN));
+            if next == 0 {
+                return Parsed::Wrong;
+            }
+            expression_then(
+                s,
+                names,
+                n,
+                Place {
+                    at: next,
+                    used: g.used,
+                    slip: g.slip,
+                },
+                136,
+                out,
+            )
+        }
+        Parsed::Wrong => Parsed::Wrong,
+        Parsed::Deep => Parsed::Deep,
+    }
+}
+
+// `include E in E`, `empty E` or `irreflexive E`.
+pub fn claim_body(
+    s: &[u8],
+    at: usize,
+    names: &[u64],
+    n: usize,
+    used: usize,
+    out: &mut [u64; 4096],
+) -> Parsed
+    requires { ⌜ used + (length (now s) - at) + 1 ≤ 4096 ⌝ }
+    ensures { λ r. ⌜ BodyOutcome (choose claims) (Bare true) (now (s .entry)) (now (names .entry)) n at used (now (out .entry)) (now (out .exit)) r ⌝ }
+{
+    let i = read_tests::word_next(s, at, read_names::word_key(read_names::INCLUDE));
+    if i != 0 {
+        return two_sides(s, i, names, n, used, out);
+    }
+    one_side(s, at, names, n, used, 137, 138, out)
+}

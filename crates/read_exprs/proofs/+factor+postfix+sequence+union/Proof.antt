@@ -1,0 +1,394 @@
+-- The proof of the readers of E, which call each other for what stands in round brackets. The measure is what is left of the line, and
+-- then which reader it is. The laws are those of chains, of postfixes and of brackets; here they are cited.
+-- Assumes nothing.
+use mathlib.Core.Path.{refl, sym, _∙_}
+use Prim.Native.Nat.{ℕ, _+_, _-_, _*_, _<_}
+use native.Mathlib.Omega.{arith}
+use lib.ListN.{length}
+use Rattle.read_tests.proofs.Next.{mark-stands}
+use Rattle.read_tests.proofs.Loops.{loop-wrong, loop-deep, loop-room, loop-onward, loop-got, loop-turn}
+use Rattle.read_tests.proofs.Chains.{Waiting, chain-start}
+use Rattle.read_tests.proofs.Bracketed.{inner-wrong, inner-deep, inner-open, inner-closed}
+use Rattle.read_exprs.proofs.PostfixRuns.{postfix-wrong, postfix-deep, postfix-room, postfix-got}
+use Rattle.read_exprs.proofs.Trees.{unionChain, sequenceChain, roundBracket, factor-deep}
+use borrow.Author.Needs.{needs}
+use borrow.Fn.Kinds.{In}
+use borrow.Fn.PlainCycle.{Measures, is, falls, and}
+use Rattle.read_exprs.proofs.factor.Reads as factor
+use Rattle.read_exprs.proofs.factor.Kinds as factor-kinds
+use Rattle.read_exprs.proofs.+factor+postfix+sequence+union.Lts-factor as factor-lts
+use Rattle.read_exprs.proofs.postfix.Reads as postfix
+use Rattle.read_exprs.proofs.postfix.Kinds as postfix-kinds
+use Rattle.read_exprs.proofs.+factor+postfix+sequence+union.Lts-postfix as postfix-lts
+use Rattle.read_exprs.proofs.sequence.Reads as sequence
+use Rattle.read_exprs.proofs.sequence.Kinds as sequence-kinds
+use Rattle.read_exprs.proofs.+factor+postfix+sequence+union.Lts-sequence as sequence-lts
+use Rattle.read_exprs.proofs.union.Reads as union
+use Rattle.read_exprs.proofs.union.Kinds as union-kinds
+use Rattle.read_exprs.proofs.+factor+postfix+sequence+union.Lts-union as union-lts
+use Rattle.read_exprs.proofs.leaf.Reads as leaf-reads
+use Rattle.read_exprs.proofs.postfixes.Reads as postfixes-reads
+use Rattle.read_tests.proofs.mark_next.Reads as mark-next-reads
+use Rattle.read_tests.proofs.write.Reads as write-reads
+use Rattle.read_exprs.proofs.+factor+postfix+sequence+union.{statement}
+use Rattle.read_exprs.proofs.+factor+postfix+sequence+union.Tie.{close}
+
+abbrev μ-factor : Measures 3 factor-kinds.ps ℕ
+μ-factor κs a = (length (a .0 .now) - a .1 .1 .1 .1 .0 .at) * 8 + 1
+
+abbrev μ-postfix : Measures 3 postfix-kinds.ps ℕ
+μ-postfix κs a = (length (a .0 .now) - a .1 .1 .1 .1 .0 .at) * 8 + 2
+
+abbrev μ-sequence : Measures 3 sequence-kinds.ps ℕ
+μ-sequence κs a = (length (a .0 .now) - a .1 .1 .1 .1 .0 .at) * 8 + 3
+
+abbrev μ-union : Measures 3 union-kinds.ps ℕ
+μ-union κs a = (length (a .0 .now) - a .1 .1 .1 .1 .0 .at) * 8 + 4
+
+abbrev factor-at : ℕ → In 3 factor-kinds.ps
+factor-at t = and 3 factor-kinds.ps (is 3 factor-kinds.ps μ-factor t) factor.Pre
+
+abbrev factor-below : ℕ → In 3 factor-kinds.ps
+factor-below t = and 3 factor-kinds.ps (falls 3 factor-kinds.ps _<_ μ-factor t) factor.Pre
+
+abbrev postfix-at : ℕ → In 3 postfix-kinds.ps
+postfix-at t = and 3 postfix-kinds.ps (is 3 postfix-kinds.ps μ-postfix t) postfix.Pre
+
+abbrev postfix-below : ℕ → In 3 postfix-kinds.ps
+postfix-below t = and 3 postfix-kinds.ps (falls 3 postfix-kinds.ps _<_ μ-postfix t) postfix.Pre
+
+abbrev sequence-at : ℕ → In 3 sequence-kinds.ps
+sequence-at t = and 3 sequence-kinds.ps (is 3 sequence-kinds.ps μ-sequence t) sequence.Pre
+
+abbrev sequence-below : ℕ → In 3 sequence-kinds.ps
+sequence-below t =
+    and 3 sequence-kinds.ps (falls 3 sequence-kinds.ps _<_ μ-sequence t) sequence.Pre
+
+abbrev union-at : ℕ → In 3 union-kinds.ps
+union-at t = and 3 union-kinds.ps (is 3 union-kinds.ps μ-union t) union.Pre
+
+abbrev union-below : ℕ → In 3 union-kinds.ps
+union-below t = and 3 union-kinds.ps (falls 3 union-kinds.ps _<_ μ-union t) union.Pre
+
+-- what `factor` knows of the functions that it calls
+abbrev factor-calls : ℕ → factor-lts.Claims
+factor-calls t = (mark-next-reads.Asked, mark-next-reads.Learnt, leaf-reads.Asked, leaf-reads.Learnt, union-below t, union.Post)
+
+-- what `postfix` knows of the functions that it calls
+abbrev postfix-calls : ℕ → postfix-lts.Claims
+postfix-calls t = (factor-below t, factor.Post, postfixes-reads.Asked, postfixes-reads.Learnt)
+
+-- what `sequence` knows of the functions that it calls
+abbrev sequence-calls : ℕ → sequence-lts.Claims
+sequence-calls t = (postfix-below t, postfix.Post, write-reads.Asked, write-reads.Learnt, mark-next-reads.Asked, mark-next-reads.Learnt)
+
+-- what `union` knows of the functions that it calls
+abbrev union-calls : ℕ → union-lts.Claims
+union-calls t = (sequence-below t, sequence.Post, write-reads.Asked, write-reads.Learnt, mark-next-reads.Asked, mark-next-reads.Learnt)
+
+factor-mark-next-requires : (t : ℕ) → factor-lts.Need-mark-next-requires (factor-calls t) (factor-at t) factor.Post
+factor-mark-next-requires t c κs = search needs
+
+factor-leaf-requires : (t : ℕ) → factor-lts.Need-leaf-requires (factor-calls t) (factor-at t) factor.Post
+factor-leaf-requires t c κs =
+    let b = c .before .before .before .before in
+    (b .before .pre .1, sym (c .before .before .mark-next .ensures) ∙ c .before .if1 .taken)
+
+factor-returns : (t : ℕ) → factor-lts.Need-returns (factor-calls t) (factor-at t) factor.Post
+factor-returns t c = c .leaf .ensures
+
+factor-returns-2 : (t : ℕ) → factor-lts.Need-returns-2 (factor-calls t) (factor-at t) factor.Post
+factor-returns-2 t c =
+    let b = c .before .before .before .before in
+    let a = b .before .args in
+    factor-deep (a .depth) (a .s .now) (a .names .now) (a .n) (a .p) (a .out .now) _ (c .before .before .mark-next .ensures)
+    (c .before .if1 .left) (c .if2 .taken)
+
+factor-add-union : (t : ℕ) → factor-lts.Need-add-union (factor-calls t) (factor-at t) factor.Post
+factor-add-union t c =
+    let b = c .before .before .before .before in
+    omega (arith, b .before .pre .1 .0)
+
+factor-union-requires : (t : ℕ) → factor-lts.Need-union-requires (factor-calls t) (factor-at t) factor.Post
+factor-union-requires t c κs =
+    let b = c .before .before .before .before in
+    let m = mark-stands _ _ _ _ (c .before .before .before .mark-next .ensures) (c .before .before .if1 .left) in (
+      omega (arith, b .before .before .pre .0, m .after, m .within),
+      (
+        omega (arith, b .before .before .pre .1 .0, c .before .if2 .left),
+        omega (arith, b .before .before .pre .1 .1, m .after, m .within),
+      ),
+    )
+
+factor-enum-known-r : (t : ℕ) → factor-lts.Need-enum-known-r (factor-calls t) (factor-at t) factor.Post
+factor-enum-known-r t c = search needs
+
+factor-mark-next-requires-2 : (t : ℕ) → factor-lts.Need-mark-next-requires-2 (factor-calls t) (factor-at t) factor.Post
+factor-mark-next-requires-2 t c κs = search needs
+
+factor-returns-3 : (t : ℕ) → factor-lts.Need-returns-3 (factor-calls t) (factor-at t) factor.Post
+factor-returns-3 t c =
+    let b = c .before .before .before .before in
+    let d = b .before .before .before .before in
+    let e = d .before .before .before .before in
+    let a = e .args in
+    inner-open (roundBracket (a .depth) (b .before .before .before .if2 .left)) (a .s .now) (a .names .now) (a .n) (a .p) (a .out .now) _
+    (d .before .mark-next .ensures) (d .if1 .left) _ _ (b .before .union .ensures) _ (c .before .before .before .r .given .1) _
+    (c .before .mark-next2 .ensures) (c .if3 .taken)
+
+factor-enum-told : (t : ℕ) → factor-lts.Need-enum-told (factor-calls t) (factor-at t) factor.Post
+factor-enum-told t c = search needs
+
+factor-enum-told-2 : (t : ℕ) → factor-lts.Need-enum-told-2 (factor-calls t) (factor-at t) factor.Post
+factor-enum-told-2 t c = search needs
+
+factor-returns-4 : (t : ℕ) → factor-lts.Need-returns-4 (factor-calls t) (factor-at t) factor.Post
+factor-returns-4 t c =
+    let b = c .before .before .before .before in
+    let d = b .before .before .before .before in
+    let e = d .before .before .before .before in
+    let a = e .args in
+    inner-closed (roundBracket (a .depth) (b .before .before .before .if2 .left)) (a .s .now) (a .names .now) (a .n) (a .p) (a .out .now) _
+    (d .before .mark-next .ensures) (d .if1 .left) _ _ (b .before .union .ensures) _ (c .before .before .before .r .given .1) _
+    (c .before .mark-next2 .ensures) _ _ (c .if3 .left) refl (omega arith) (omega arith)
+
+factor-returns-5 : (t : ℕ) → factor-lts.Need-returns-5 (factor-calls t) (factor-at t) factor.Post
+factor-returns-5 t c =
+    let b = c .before .before .before .before in
+    let d = b .before .before .before .before in
+    let a = d .before .args in
+    inner-wrong (roundBracket (a .depth) (b .if2 .left)) (a .s .now) (a .names .now) (a .n) (a .p) (a .out .now) _
+    (b .before .before .mark-next .ensures) (b .before .if1 .left) _ _ (c .before .before .union .ensures) (c .enum-told .given .1)
+
+factor-returns-6 : (t : ℕ) → factor-lts.Need-returns-6 (factor-calls t) (factor-at t) factor.Post
+factor-returns-6 t c =
+    let b = c .before .before .before .before in
+    let d = b .before .before .before .before in
+    let a = d .before .args in
+    inner-deep (roundBracket (a .depth) (b .if2 .left)) (a .s .now) (a .names .now) (a .n) (a .p) (a .out .now) _
+    (b .before .before .mark-next .ensures) (b .before .if1 .left) _ _ (c .before .before .union .ensures) (c .enum-told2 .given .1)
+
+postfix-factor-requires : (t : ℕ) → postfix-lts.Need-factor-requires (postfix-calls t) (postfix-at t) postfix.Post
+postfix-factor-requires t c κs = (omega (arith, c .before .before .before .pre .0), c .before .before .before .pre .1)
+
+postfix-enum-known-r : (t : ℕ) → postfix-lts.Need-enum-known-r (postfix-calls t) (postfix-at t) postfix.Post
+postfix-enum-known-r t c = search needs
+
+postfix-postfixes-requires : (t : ℕ) → postfix-lts.Need-postfixes-requires (postfix-calls t) (postfix-at t) postfix.Post
+postfix-postfixes-requires t c κs =
+    let b = c .before .before .before .before in
+    let d = b .before .before .before .before in
+    let a = d .args in
+    postfix-room (a .depth) (a .s .now) (a .names .now) (a .n) (a .p) (a .out .now) _ _ (b .factor .ensures) _
+    (c .before .before .r .given .1) (d .pre .1 .1)
+
+postfix-enum-told : (t : ℕ) → postfix-lts.Need-enum-told (postfix-calls t) (postfix-at t) postfix.Post
+postfix-enum-told t c = search needs
+
+postfix-enum-told-2 : (t : ℕ) → postfix-lts.Need-enum-told-2 (postfix-calls t) (postfix-at t) postfix.Post
+postfix-enum-told-2 t c = search needs
+
+postfix-returns : (t : ℕ) → postfix-lts.Need-returns (postfix-calls t) (postfix-at t) postfix.Post
+postfix-returns t c =
+    let b = c .before .before .before .before in
+    let d = b .before .before .before .before in
+    let a = d .before .args in
+    postfix-got (a .depth) (a .s .now) (a .names .now) (a .n) (a .p) (a .out .now) _ _ (b .before .factor .ensures) _
+    (c .before .before .before .r .given .1) _ _ (c .postfixes .ensures)
+
+postfix-returns-2 : (t : ℕ) → postfix-lts.Need-returns-2 (postfix-calls t) (postfix-at t) postfix.Post
+postfix-returns-2 t c =
+    let b = c .before .before .before .before in
+    let a = b .before .before .args in
+    postfix-wrong (a .depth) (a .s .now) (a .names .now) (a .n) (a .p) (a .out .now) _ _ (c .before .before .factor .ensures)
+    (c .enum-told .given .1)
+
+postfix-returns-3 : (t : ℕ) → postfix-lts.Need-returns-3 (postfix-calls t) (postfix-at t) postfix.Post
+postfix-returns-3 t c =
+    let b = c .before .before .before .before in
+    let a = b .before .before .args in
+    postfix-deep (a .depth) (a .s .now) (a .names .now) (a .n) (a .p) (a .out .now) _ _ (c .before .before .factor .ensures)
+    (c .enum-told2 .given .1)
+
+abbrev sequence-Inv-loop : sequence-lts.InvT-loop
+sequence-Inv-loop s names n depth out₀ place₀ more₀ out place more = Waiting (sequenceChain depth) 2 s names n place₀ out₀ place more out
+
+abbrev sequence-μ-loop : sequence-lts.MeasureT-loop
+sequence-μ-loop s names n depth out₀ place₀ more₀ out place more = length s - place .at
+
+sequence-loop-holds : (t : ℕ) → sequence-lts.Need-loop-holds (sequence-calls t) (sequence-at t) sequence.Post sequence-Inv-loop sequence-μ-loop
+sequence-loop-holds t c = chain-start _ _ _ _ _ _ _
+
+sequence-postfix-requires : (t : ℕ) → sequence-lts.Need-postfix-requires (sequence-calls t) (sequence-at t) sequence.Post sequence-Inv-loop sequence-μ-loop
+sequence-postfix-requires t c κs =
+    let w = c .before .loop .inv in
+    (omega (arith, c .before .before .before .before .pre .0, w .onward), (c .before .before .before .before .pre .1 .0, omega (arith, c .before .before .before .before .pre .1 .1, w .room)))
+
+sequence-enum-known-r : (t : ℕ) → sequence-lts.Need-enum-known-r (sequence-calls t) (sequence-at t) sequence.Post sequence-Inv-loop sequence-μ-loop
+sequence-enum-known-r t c = search needs
+
+sequence-write-requires : (t : ℕ) → sequence-lts.Need-write-requires (sequence-calls t) (sequence-at t) sequence.Post sequence-Inv-loop sequence-μ-loop
+sequence-write-requires t c κs =
+    let b = c .before .before .before .before in
+    let d = b .before .before .before .before in
+    loop-room (b .before .before .loop .inv) _ _ (b .postfix .ensures) _ (c .before .before .r .given .1) (d .before .pre .1 .1)
+
+sequence-mark-next-requires : (t : ℕ) → sequence-lts.Need-mark-next-requires (sequence-calls t) (sequence-at t) sequence.Post sequence-Inv-loop sequence-μ-loop
+sequence-mark-next-requires t c κs = search needs
+
+sequence-returns : (t : ℕ) → sequence-lts.Need-returns (sequence-calls t) (sequence-at t) sequence.Post sequence-Inv-loop sequence-μ-loop
+sequence-returns t c =
+    let b = c .before .before .before .before in
+    let d = b .before .before .before .before in
+    loop-got (d .before .loop .inv) _ _ (b .before .before .before .postfix .ensures) _ (b .before .r .given .1) _ _
+    (c .before .before .write .ensures .0) (c .before .before .write .ensures .1) _ (c .before .mark-next .ensures) (c .if1 .taken)
+
+sequence-loop-less : (t : ℕ) → sequence-lts.Need-loop-less (sequence-calls t) (sequence-at t) sequence.Post sequence-Inv-loop sequence-μ-loop
+sequence-loop-less t c =
+    let b = c .before .before .before .before in
+    let d = b .before .before .before .before in
+    loop-onward (d .before .loop .inv) _ _ (b .before .before .before .postfix .ensures) _ (b .before .r .given .1) _ _
+    (c .before .mark-next .ensures) (c .if1 .left)
+
+sequence-loop-again : (t : ℕ) → sequence-lts.Need-loop-again (sequence-calls t) (sequence-at t) sequence.Post sequence-Inv-loop sequence-μ-loop
+sequence-loop-again t c =
+    let b = c .before .before .before .before in
+    let d = b .before .before .before .before in
+    loop-turn (d .before .loop .inv) _ _ (b .before .before .before .postfix .ensures) _ (b .before .r .given .1) _ _
+    (c .before .before .write .ensures .0) (c .before .before .write .ensures .1) _ (c .before .mark-next .ensures) (c .if1 .left)
+
+sequence-enum-told : (t : ℕ) → sequence-lts.Need-enum-told (sequence-calls t) (sequence-at t) sequence.Post sequence-Inv-loop sequence-μ-loop
+sequence-enum-told t c = search needs
+
+sequence-returns-2 : (t : ℕ) → sequence-lts.Need-returns-2 (sequence-calls t) (sequence-at t) sequence.Post sequence-Inv-loop sequence-μ-loop
+sequence-returns-2 t c =
+    loop-wrong (c .before .before .before .before .loop .inv) _ _ (c .before .before .postfix .ensures) (c .enum-told .given .1)
+
+sequence-enum-told-2 : (t : ℕ) → sequence-lts.Need-enum-told-2 (sequence-calls t) (sequence-at t) sequence.Post sequence-Inv-loop sequence-μ-loop
+sequence-enum-told-2 t c = search needs
+
+sequence-returns-3 : (t : ℕ) → sequence-lts.Need-returns-3 (sequence-calls t) (sequence-at t) sequence.Post sequence-Inv-loop sequence-μ-loop
+sequence-returns-3 t c =
+    loop-deep (c .before .before .before .before .loop .inv) _ _ (c .before .before .postfix .ensures) (c .enum-told2 .given .1)
+
+abbrev union-Inv-loop : union-lts.InvT-loop
+union-Inv-loop s names n depth out₀ place₀ more₀ out place more = Waiting (unionChain depth) 3 s names n place₀ out₀ place more out
+
+abbrev union-μ-loop : union-lts.MeasureT-loop
+union-μ-loop s names n depth out₀ place₀ more₀ out place more = length s - place .at
+
+union-loop-holds : (t : ℕ) → union-lts.Need-loop-holds (union-calls t) (union-at t) union.Post union-Inv-loop union-μ-loop
+union-loop-holds t c = chain-start _ _ _ _ _ _ _
+
+union-sequence-requires : (t : ℕ) → union-lts.Need-sequence-requires (union-calls t) (union-at t) union.Post union-Inv-loop union-μ-loop
+union-sequence-requires t c κs =
+    let w = c .before .loop .inv in
+    (omega (arith, c .before .before .before .before .pre .0, w .onward), (c .before .before .before .before .pre .1 .0, omega (arith, c .before .before .before .before .pre .1 .1, w .room)))
+
+union-enum-known-r : (t : ℕ) → union-lts.Need-enum-known-r (union-calls t) (union-at t) union.Post union-Inv-loop union-μ-loop
+union-enum-known-r t c = search needs
+
+union-write-requires : (t : ℕ) → union-lts.Need-write-requires (union-calls t) (union-at t) union.Post union-Inv-loop union-μ-loop
+union-write-requires t c κs =
+    let b = c .before .before .before .before in
+    let d = b .before .before .before .before in
+    loop-room (b .before .before .loop .inv) _ _ (b .sequence .ensures) _ (c .before .before .r .given .1) (d .before .pre .1 .1)
+
+union-mark-next-requires : (t : ℕ) → union-lts.Need-mark-next-requires (union-calls t) (union-at t) union.Post union-Inv-loop union-μ-loop
+union-mark-next-requires t c κs = search needs
+
+union-returns : (t : ℕ) → union-lts.Need-returns (union-calls t) (union-at t) union.Post union-Inv-loop union-μ-loop
+union-returns t c =
+    let b = c .before .before .before .before in
+    let d = b .before .before .before .before in
+    loop-got (d .before .loop .inv) _ _ (b .before .before .before .sequence .ensures) _ (b .before .r .given .1) _ _
+    (c .before .before .write .ensures .0) (c .before .before .write .ensures .1) _ (c .before .mark-next .ensures) (c .if1 .taken)
+
+union-loop-less : (t : ℕ) → union-lts.Need-loop-less (union-calls t) (union-at t) union.Post union-Inv-loop union-μ-loop
+union-loop-less t c =
+    let b = c .before .before .before .before in
+    let d = b .before .before .before .before in
+    loop-onward (d .before .loop .inv) _ _ (b .before .before .before .sequence .ensures) _ (b .before .r .given .1) _ _
+    (c .before .mark-next .ensures) (c .if1 .left)
+
+union-loop-again : (t : ℕ) → union-lts.Need-loop-again (union-calls t) (union-at t) union.Post union-Inv-loop union-μ-loop
+union-loop-again t c =
+    let b = c .before .before .before .before in
+    let d = b .before .before .before .before in
+    loop-turn (d .before .loop .inv) _ _ (b .before .before .before .sequence .ensures) _ (b .before .r .given .1) _ _
+    (c .before .before .write .ensures .0) (c .before .before .write .ensures .1) _ (c .before .mark-next .ensures) (c .if1 .left)
+
+union-enum-told : (t : ℕ) → union-lts.Need-enum-told (union-calls t) (union-at t) union.Post union-Inv-loop union-μ-loop
+union-enum-told t c = search needs
+
+union-returns-2 : (t : ℕ) → union-lts.Need-returns-2 (union-calls t) (union-at t) union.Post union-Inv-loop union-μ-loop
+union-returns-2 t c =
+    loop-wrong (c .before .before .before .before .loop .inv) _ _ (c .before .before .sequence .ensures) (c .enum-told .given .1)
+
+union-enum-told-2 : (t : ℕ) → union-lts.Need-enum-told-2 (union-calls t) (union-at t) union.Post union-Inv-loop union-μ-loop
+union-enum-told-2 t c = search needs
+
+union-returns-3 : (t : ℕ) → union-lts.Need-returns-3 (union-calls t) (union-at t) union.Post union-Inv-loop union-μ-loop
+union-returns-3 t c =
+    loop-deep (c .before .before .before .before .loop .inv) _ _ (c .before .before .sequence .ensures) (c .enum-told2 .given .1)
+
+pub +factor+postfix+sequence+union-spec : {M : Type 1} → statement M
++factor+postfix+sequence+union-spec =
+    close μ-factor μ-postfix μ-sequence μ-union (λ t. factor-lts.spec (factor-calls t) (factor-at t)
+    factor.Post
+    (factor-mark-next-requires t)
+    (factor-leaf-requires t)
+    (factor-returns t)
+    (factor-returns-2 t)
+    (factor-add-union t)
+    (factor-union-requires t)
+    (factor-enum-known-r t)
+    (factor-mark-next-requires-2 t)
+    (factor-returns-3 t)
+    (factor-enum-told t)
+    (factor-enum-told-2 t)
+    (factor-returns-4 t)
+    (factor-returns-5 t)
+    (factor-returns-6 t))
+    (λ t. postfix-lts.spec (postfix-calls t) (postfix-at t)
+    postfix.Post
+    (postfix-factor-requires t)
+    (postfix-enum-known-r t)
+    (postfix-postfixes-requires t)
+    (postfix-enum-told t)
+    (postfix-enum-told-2 t)
+    (postfix-returns t)
+    (postfix-returns-2 t)
+    (postfix-returns-3 t))
+    (λ t. sequence-lts.spec (sequence-calls t) (sequence-at t)
+    sequence.Post
+    sequence-Inv-loop
+    sequence-μ-loop
+    (sequence-loop-holds t)
+    (sequence-postfix-requires t)
+    (sequence-enum-known-r t)
+    (sequence-write-requires t)
+    (sequence-mark-next-requires t)
+    (sequence-returns t)
+    (sequence-loop-less t)
+    (sequence-loop-again t)
+    (sequence-enum-told t)
+    (sequence-returns-2 t)
+    (sequence-enum-told-2 t)
+    (sequence-returns-3 t))
+    λ t. union-lts.spec (union-calls t) (union-at t)
+    union.Post
+    union-Inv-loop
+    union-μ-loop
+    (union-loop-holds t)
+    (union-sequence-requires t)
+    (union-enum-known-r t)
+    (union-write-requires t)
+    (union-mark-next-requires t)
+    (union-returns t)
+    (union-loop-less t)
+    (union-loop-again t)
+    (union-enum-told t)
+    (union-returns-2 t)
+    (union-enum-told-2 t)
+    (union-returns-3 t)

@@ -1,0 +1,4 @@
+-- Postfixes.
+pub mod PostfixRuns
+-- The readers of E.
+pub mod Trees

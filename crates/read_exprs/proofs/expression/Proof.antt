@@ -1,0 +1,18 @@
+-- `syntax::expression` meets its contract: the depth of calls that the line gives is enough.
+-- Assumes nothing.
+use Rattle.read_exprs.proofs.Trees.{expression-read}
+use borrow.Author.Needs.{needs}
+use Rattle.read_exprs.proofs.expression.Statement.{statement}
+use Rattle.read_exprs.proofs.expression.Tie as tie
+
+union-requires : tie.Need-union-requires
+union-requires c κs = search needs
+
+returns : tie.Need-returns
+returns c =
+    let a = c .before .before .before .before .args in
+    expression-read (a .s .now) (a .names .now) (a .n) (a .p) (a .out .now) (c .union .last .1 .1 .1 .1 .1 .0) (c .union .result)
+    (c .union .ensures)
+
+pub expression-spec : {M : Type 1} → statement M
+expression-spec = tie.close (tie.spec union-requires returns)

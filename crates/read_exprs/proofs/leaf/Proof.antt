@@ -1,0 +1,107 @@
+-- `syntax::expr::leaf` meets its contract: the laws of square brackets and of names.
+-- Assumes nothing.
+use native.Mathlib.Omega.{arith}
+use Rattle.read_tests.proofs.Next.{mark-stands}
+use Rattle.read_tests.proofs.Bracketed.{inner-wrong, inner-deep, inner-open, inner-closed, inner-room}
+use Rattle.read_exprs.proofs.Trees.{squareBracket, factor-named}
+use borrow.Author.Needs.{needs}
+use Rattle.read_exprs.proofs.leaf.Statement.{statement}
+use Rattle.read_exprs.proofs.leaf.Tie as tie
+
+mark-next-requires : tie.Need-mark-next-requires
+mark-next-requires c κs = search needs
+
+named-requires : tie.Need-named-requires
+named-requires c κs =
+    let b = c .before .before .before .before in
+    b .before .pre .0 .1
+
+returns : tie.Need-returns
+returns c =
+    let b = c .before .before .before .before in
+    let a = b .before .before .args in
+    factor-named (a .depth) (a .s .now) (a .names .now) (a .n) (a .p) (a .out .now) (c .named .last .1 .1 .1 .1 .0) _
+    (b .before .before .pre .1) (c .before .before .before .mark-next .ensures) (c .before .before .if1 .taken) (c .named .result)
+    (c .named .ensures)
+
+union-requires : tie.Need-union-requires
+union-requires c κs =
+    let b = c .before .before .before .before in
+    let m = mark-stands _ _ _ _ (c .before .before .mark-next .ensures) (c .before .if1 .left) in
+    (b .before .pre .0 .0, omega (arith, b .before .pre .0 .1, m .after, m .within))
+
+enum-known-r : tie.Need-enum-known-r
+enum-known-r c = search needs
+
+mark-next-requires-2 : tie.Need-mark-next-requires-2
+mark-next-requires-2 c κs = search needs
+
+returns-2 : tie.Need-returns-2
+returns-2 c =
+    let b = c .before .before .before .before in
+    let d = b .before .before .before .before in
+    let a = d .before .before .before .args in
+    inner-open (squareBracket (a .depth)) (a .s .now) (a .names .now) (a .n) (a .p) (a .out .now) _ (d .mark-next .ensures)
+    (b .before .before .before .if1 .left) _ _ (b .before .union .ensures) _ (c .before .before .before .r .given .1) _
+    (c .before .mark-next2 .ensures) (c .if2 .taken)
+
+write-requires : tie.Need-write-requires
+write-requires c κs =
+    let b = c .before .before .before .before in
+    let d = b .before .before .before .before in
+    let e = d .before .before .before .before in
+    let a = e .args in
+    inner-room (squareBracket (a .depth)) (a .s .now) (a .names .now) (a .n) (a .p) (a .out .now) _ (d .before .mark-next .ensures)
+    (d .if1 .left) _ _ (b .before .before .union .ensures) _ (b .r .given .1) _ (c .before .before .mark-next2 .ensures)
+    (c .before .if2 .left) (e .pre .0 .1)
+
+enum-told : tie.Need-enum-told
+enum-told c = search needs
+
+enum-told-2 : tie.Need-enum-told-2
+enum-told-2 c = search needs
+
+returns-3 : tie.Need-returns-3
+returns-3 c =
+    let b = c .before .before .before .before in
+    let d = b .before .before .before .before in
+    let e = d .before .before .before .before in
+    let a = e .before .args in
+    inner-closed (squareBracket (a .depth)) (a .s .now) (a .names .now) (a .n) (a .p) (a .out .now) _
+    (d .before .before .mark-next .ensures) (d .before .if1 .left) _ _ (b .before .before .before .union .ensures) _
+    (b .before .r .given .1) _ (c .before .before .before .mark-next2 .ensures) _ _ (c .before .before .if2 .left) (c .write .ensures .1)
+    (c .write .ensures .0) (omega arith)
+
+returns-4 : tie.Need-returns-4
+returns-4 c =
+    let b = c .before .before .before .before in
+    let d = b .before .before .before .before in
+    let a = d .args in
+    inner-wrong (squareBracket (a .depth)) (a .s .now) (a .names .now) (a .n) (a .p) (a .out .now) _ (b .before .mark-next .ensures)
+    (b .if1 .left) _ _ (c .before .before .union .ensures) (c .enum-told .given .1)
+
+returns-5 : tie.Need-returns-5
+returns-5 c =
+    let b = c .before .before .before .before in
+    let d = b .before .before .before .before in
+    let a = d .args in
+    inner-deep (squareBracket (a .depth)) (a .s .now) (a .names .now) (a .n) (a .p) (a .out .now) _ (b .before .mark-next .ensures)
+    (b .if1 .left) _ _ (c .before .before .union .ensures) (c .enum-told2 .given .1)
+
+pub leaf-spec : {M : Type 1} → statement M
+leaf-spec =
+    tie.close
+    (tie.spec
+    mark-next-requires
+    named-requires
+    returns
+    union-requires
+    enum-known-r
+    mark-next-requires-2
+    returns-2
+    write-requires
+    enum-told
+    enum-told-2
+    returns-3
+    returns-4
+    returns-5)

@@ -1,0 +1,273 @@
+// Readers of E over the bytes of a line: a union `|` of sequences `;` of factors with any number of postfix `*`, `+`, `?`. (Document 01, "The
+// query".) They call each other for what stands in round brackets, and the readers of T for what stands in square ones. Operators and
+// postfixes are read by loops, so that only brackets take the machine's stack.
+use read_tests::Parsed;
+use read_tests::Place;
+use read_tokens::Token;
+ghost use mathlib.Core.Path.{_≡_};
+ghost use Prim.Native.Nat.{_≤_};
+ghost use Rattle.claims.specs.Lines.{expression};
+ghost use Rattle.read_tests.specs.Next.{markNext};
+ghost use Rattle.read_tests.specs.Places.{Room, TreeOutcome, Is, Finds};
+ghost use Rattle.claims.specs.Grammar.{unionOf, sequenceOf, postfixOf, factorOf, nameNext};
+ghost use Rattle.claims.specs.Tree.{name};
+ghost use Rattle.read_exprs.specs.Postfix.{SignNext, PostfixesNext};
+
+// A postfix: its code, 0 for none, and the position behind it.
+struct Sign {
+    at: usize,
+    code: u64,
+}
+
+// E.
+pub fn union(
+    s: &[u8],
+    names: &[u64],
+    n: usize,
+    depth: usize,
+    p: Place,
+    out: &mut [u64; 4096],
+) -> Parsed
+    requires { ⌜ (depth ≤ 32) × Room (now s) p ⌝ }
+    ensures { λ r. ⌜ TreeOutcome (Finds unionOf depth 4) (now (s .entry)) (now (names .entry)) n p (now (out .entry)) (now (out .exit)) r ⌝ }
+{
+    let mut place = p;
+    let mut more = 0;
+    loop {
+        let r = sequence(s, names, n, depth, place, out);
+        match r {
+            Parsed::Got(got) => {
+                let at = got.at;
+                let used = read_tests::write(out, got.used, more, 7);
+                let next = read_tests::mark_next(s, at, b'|');
+                if next == 0 {
+                    return Parsed::Got(Place {
+                        at,
+                        used,
+                        slip: got.slip,
+                    });
+                }
+                place = Place {
+                    at: next,
+                    used,
+                    slip: got.slip,
+                };
+                more = 1;
+            }
+            Parsed::Wrong => return Parsed::Wrong,
+            Parsed::Deep => return Parsed::Deep,
+        }
+    }
+}
+
+// E without a `|` outside brackets.
+fn sequence(
+    s: &[u8],
+    names: &[u64],
+    n: usize,
+    depth: usize,
+    p: Place,
+    out: &mut [u64; 4096],
+) -> Parsed
+    requires { ⌜ (depth ≤ 32) × Room (now s) p ⌝ }
+    ensures { λ r. ⌜ TreeOutcome (Finds sequenceOf depth 3) (now (s .entry)) (now (names .entry)) n p (now (out .entry)) (now (out .exit)) r ⌝ }
+{
+    let mut place = p;
+    let mut more = 0;
+    loop {
+        let r = postfix(s, names, n, depth, place, out);
+        match r {
+            Parsed::Got(got) => {
+                let at = got.at;
+                let used = read_tests::write(out, got.used, more, 8);
+                let next = read_tests::mark_next(s, at, b';');
+                if next == 0 {
+                    return Parsed::Got(Place {
+                        at,
+                        used,
+                        slip: got.slip,
+                    });
+                }
+                place = Place {
+                    at: next,
+                    used,
+                    slip: got.slip,
+                };
+                more = 1;
+            }
+            Parsed::Wrong => return Parsed::Wrong,
+            Parsed::Deep => return Parsed::Deep,
+        }
+    }
+}
+
+// A factor with its postfixes.
+fn postfix(
+    s: &[u8],
+    names: &[u64],
+    n: usize,
+    depth: usize,
+    p: Place,
+    out: &mut [u64; 4096],
+) -> Parsed
+    requires { ⌜ (depth ≤ 32) × Room (now s) p ⌝ }
+    ensures { λ r. ⌜ TreeOutcome (Finds postfixOf depth 2) (now (s .entry)) (now (names .entry)) n p (now (out .entry)) (now (out .exit)) r ⌝ }
+{
+    let r = factor(s, names, n, depth, p, out);
+    match r {
+        Parsed::Got(got) => Parsed::Got(postfixes(s, got, out)),
+        Parsed::Wrong => Parsed::Wrong,
+        Parsed::Deep => Parsed::Deep,
+    }
+}
+
+// A name, a T in square brackets, or an E in round ones.
+fn factor(
+    s: &[u8],
+    names: &[u64],
+    n: usize,
+    depth: usize,
+    p: Place,
+    out: &mut [u64; 4096],
+) -> Parsed
+    requires { ⌜ (depth ≤ 32) × Room (now s) p ⌝ }
+    ensures { λ r. ⌜ TreeOutcome (Finds factorOf depth 1) (now (s .entry)) (now (names .entry)) n p (now (out .entry)) (now (out .exit)) r ⌝ }
+{
+    let next = read_tests::mark_next(s, p.at, b'(');
+    if next == 0 {
+        return leaf(s, names, n, depth, p, out);
+    }
+    if depth == 32 {
+        return Parsed::Deep;
+    }
+    let inner = Place {
+        at: next,
+        used: p.used,
+        slip: p.slip,
+    };
+    let r = union(s, names, n, depth + 1, inner, out);
+    match r {
+        Parsed::Got(got) => {
+            let end = read_tests::mark_next(s, got.at, b')');
+            if end == 0 {
+                return Parsed::Wrong;
+            }
+            Parsed::Got(Place {
+                at: end,
+                used: got.used,
+                slip: got.slip,
+            })
+        }
+        Parsed::Wrong => Parsed::Wrong,
+        Parsed::Deep => Parsed::Deep,
+    }
+}
+
+// A factor that no round bracket begins: a name, or a T in square brackets.
+fn leaf(s: &[u8], names: &[u64], n: usize, depth: usize, p: Place, out: &mut [u64; 4096]) -> Parsed
+    requires { ⌜ (depth ≤ 32) × Room (now s) p ⌝ }
+    requires { ⌜ markNext (now s) (p .at) 40 ≡ 0 ⌝ }
+    ensures { λ r. ⌜ TreeOutcome (Finds factorOf depth 1) (now (s .entry)) (now (names .entry)) n p (now (out .entry)) (now (out .exit)) r ⌝ }
+{
+    let next = read_tests::mark_next(s, p.at, b'[');
+    if next == 0 {
+        return named(s, names, n, p, out);
+    }
+    let inner = Place {
+        at: next,
+        used: p.used,
+        slip: p.slip,
+    };
+    let r = read_tests::union(s, names, n, depth, inner, out);
+    match r {
+        Parsed::Got(got) => {
+            let end = read_tests::mark_next(s, got.at, b']');
+            if end == 0 {
+                return Parsed::Wrong;
+            }
+            let used = read_tests::write(out, got.used, 1, 6);
+            Parsed::Got(Place {
+                at: end,
+                used,
+                slip: got.slip,
+            })
+        }
+        Parsed::Wrong => Parsed::Wrong,
+        Parsed::Deep => Parsed::Deep,
+    }
+}
+
+// The name of a relation or a let.
+fn named(s: &[u8], names: &[u64], n: usize, p: Place, out: &mut [u64; 4096]) -> Parsed
+    requires { ⌜ Room (now s) p ⌝ }
+    ensures { λ r. ⌜ TreeOutcome (Is (nameNext name)) (now (s .entry)) (now (names .entry)) n p (now (out .entry)) (now (out .exit)) r ⌝ }
+{
+    let used = p.used;
+    let t = read_tokens::token_at(s, p.at);
+    match t {
+        Token::Word(k, next) => {
+            if read_names::reserved(k) {
+                return Parsed::Wrong;
+            }
+            let code = read_names::find(names, n, k);
+            out[used] = code;
+            Parsed::Got(Place {
+                at: next,
+                used: used + 1,
+                slip: read_names::first_slip(p.slip, read_names::slip_of(code, 32, 128)),
+            })
+        }
+        Token::Mark(_, _) => Parsed::Wrong,
+        Token::Bad => Parsed::Wrong,
+        Token::End => Parsed::Wrong,
+    }
+}
+
+// The postfix that stands next.
+fn sign_next(s: &[u8], at: usize) -> Sign
+    ensures { λ r. ⌜ SignNext (now (s .entry)) at r ⌝ }
+{
+    let star = read_tests::mark_next(s, at, b'*');
+    if star != 0 {
+        return Sign { at: star, code: 9 };
+    }
+    let plus = read_tests::mark_next(s, at, b'+');
+    if plus != 0 {
+        return Sign { at: plus, code: 10 };
+    }
+    let opt = read_tests::mark_next(s, at, b'?');
+    if opt != 0 {
+        return Sign { at: opt, code: 11 };
+    }
+    Sign { at, code: 0 }
+}
+
+// All postfixes that stand next.
+fn postfixes(s: &[u8], p: Place, out: &mut [u64; 4096]) -> Place
+    requires { ⌜ Room (now s) p ⌝ }
+    ensures { λ r. ⌜ PostfixesNext (now (s .entry)) p (now (out .entry)) (now (out .exit)) r ⌝ }
+{
+    let mut at = p.at;
+    let mut used = p.used;
+    loop {
+        let next = sign_next(s, at);
+        if next.code == 0 {
+            return Place {
+                at,
+                used,
+                slip: p.slip,
+            };
+        }
+        out[used] = next.code;
+        at = next.at;
+        used += 1;
+    }
+}
+
+// An E from the place p on, with no open bracket, and the same room.
+pub fn expression(s: &[u8], names: &[u64], n: usize, p: Place, out: &mut [u64; 4096]) -> Parsed
+    requires { ⌜ Room (now s) p ⌝ }
+    ensures { λ r. ⌜ TreeOutcome (Is expression) (now (s .entry)) (now (names .entry)) n p (now (out .entry)) (now (out .exit)) r ⌝ }
+{
+    union(s, names, n, 0, p, out)
+}

@@ -1,0 +1,52 @@
+-- A line's end and its slips, by what the code asks.
+-- Assumes nothing.
+use Prim.Native.Nat.{ℕ}
+use mathlib.Core.Path.{_≡_, sym, ap, _∙_}
+use mathlib.Core.Bool.{Bool, true, false, not, _&&_}
+use mathlib.Core.List.{List}
+use lib.ListN.{drop}
+use borrow.Author.Tests.{eq-eqb, ne-eqb, not-true, not-false}
+use Rattle.claims.specs.Tokens.{tokens}
+use Rattle.claims.specs.Lines.{atEnd}
+use Rattle.read_tokens.specs.declared.Token.{Token}
+use Rattle.read_tokens.specs.declared.Token.the-variants.{Word, Mark, Bad, End}
+use Rattle.read_tokens.specs.Scan.{tokenAt}
+use Rattle.read_tokens.proofs.Tokens.{Scanned, tokens-scanned}
+use Rattle.read_tests.specs.declared.Place.{Place}
+use Rattle.read_tests.specs.declared.Parsed.{Parsed}
+use Rattle.read_tests.specs.declared.Parsed.the-variants.{Got}
+use Rattle.refusals.specs.declared.Reason.{Reason}
+use Rattle.refusals.specs.declared.Reason.the-variants.{Notation}
+use Rattle.read_lines.specs.declared.Checked.the-variants.{Fine, Faulty}
+use Rattle.read_lines.specs.Kinds.{slipReason, checked}
+
+-- the line's end, by the token that is found
+abbrev pub endOf : Bool → Token → Bool
+endOf ended (Word k e) = false
+endOf ended (Mark b e) = false
+endOf ended Bad = false
+endOf ended End = ended
+
+scanned-end : (s : List ℕ) (at : ℕ) (ended : Bool) (t : Token) → Scanned s at t → endOf ended t ≡ (atEnd (tokens (drop at s)) && ended)
+scanned-end s at ended (Word k e) h = ap (λ ts. atEnd ts && ended) (sym (h .read))
+scanned-end s at ended (Mark b e) h = ap (λ ts. atEnd ts && ended) (sym (h .read))
+scanned-end s at ended Bad h = ap (λ ts. atEnd ts && ended) (sym (h .1))
+scanned-end s at ended End h = ap (λ ts. atEnd ts && ended) (sym h)
+
+pub ends-of : (s : List ℕ) (at : ℕ) (ended : Bool) (t x : Token) → t ≡ tokenAt s at → t ≡ x
+    → endOf ended x ≡ (atEnd (tokens (drop at s)) && ended)
+ends-of s at ended t x e f = ap (endOf ended) (sym f ∙ e) ∙ scanned-end s at ended (tokenAt s at) (tokens-scanned s at)
+
+-- the check of a line that was read up to p
+module _ (s : List ℕ) (ended : Bool) (r : Parsed) (p : Place) (got : r ≡ Got p) (b : Bool) (e : b ≡ (atEnd (tokens (drop (p .at) s)) && ended)) where
+  pub checked-unended : not b ≡ true → Faulty Notation ≡ checked s ended r
+  unfolding checked
+  checked-unended h = rw (got, ← e, not-true b h)
+
+  pub checked-fine : not b ≡ false → p .slip ≡ 0 → Fine (p .used) ≡ checked s ended r
+  unfolding checked
+  checked-fine h z = rw (got, ← e, not-false b h, eq-eqb _ _ z)
+
+  pub checked-slip : not b ≡ false → (p .slip ≡ 0 → ⊥) → (w : Reason) → w ≡ slipReason (p .slip) → Faulty w ≡ checked s ended r
+  unfolding checked
+  checked-slip h z w f = rw (got, ← e, not-false b h, ne-eqb _ _ z, f)

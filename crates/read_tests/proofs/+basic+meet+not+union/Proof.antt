@@ -1,0 +1,400 @@
+-- The proof of the readers of T, which call each other: what is left of the line falls, and then which reader it is. Laws are cited.
+-- Assumes nothing.
+use mathlib.Core.Path.{refl}
+use Prim.Native.Nat.{ℕ, _+_, _-_, _*_, _<_}
+use native.Mathlib.Omega.{arith}
+use lib.ListN.{length}
+use Rattle.read_tests.proofs.Next.{mark-stands}
+use Rattle.read_tests.proofs.Loops.{loop-wrong, loop-deep, loop-room, loop-onward, loop-got, loop-turn}
+use Rattle.read_tests.proofs.Chains.{Waiting, chain-start}
+use Rattle.read_tests.proofs.Bracketed.{inner-wrong, inner-deep, inner-open, inner-closed}
+use Rattle.read_tests.proofs.Tests.{unionChain, meetChain, roundBracket, basic-deep, basic-named, nots-wrong, nots-deep, nots-room, nots-got}
+use borrow.Author.Needs.{needs}
+use borrow.Fn.Kinds.{In}
+use borrow.Fn.PlainCycle.{Measures, is, falls, and}
+use Rattle.read_tests.proofs.basic.Reads as basic
+use Rattle.read_tests.proofs.basic.Kinds as basic-kinds
+use Rattle.read_tests.proofs.+basic+meet+not+union.Lts-basic as basic-lts
+use Rattle.read_tests.proofs.meet.Reads as meet
+use Rattle.read_tests.proofs.meet.Kinds as meet-kinds
+use Rattle.read_tests.proofs.+basic+meet+not+union.Lts-meet as meet-lts
+use Rattle.read_tests.proofs.not.Reads as not
+use Rattle.read_tests.proofs.not.Kinds as not-kinds
+use Rattle.read_tests.proofs.+basic+meet+not+union.Lts-not as not-lts
+use Rattle.read_tests.proofs.union.Reads as union
+use Rattle.read_tests.proofs.union.Kinds as union-kinds
+use Rattle.read_tests.proofs.+basic+meet+not+union.Lts-union as union-lts
+use Rattle.read_tests.proofs.mark_next.Reads as mark-next-reads
+use Rattle.read_tests.proofs.marks_next.Reads as marks-next-reads
+use Rattle.read_tests.proofs.word.Reads as word-reads
+use Rattle.read_tests.proofs.write.Reads as write-reads
+use Rattle.read_tests.proofs.+basic+meet+not+union.{statement}
+use Rattle.read_tests.proofs.+basic+meet+not+union.Tie.{close}
+
+abbrev μ-basic : Measures 3 basic-kinds.ps ℕ
+μ-basic κs a = (length (a .0 .now) - a .1 .1 .1 .1 .0 .at) * 8 + 1
+
+abbrev μ-meet : Measures 3 meet-kinds.ps ℕ
+μ-meet κs a = (length (a .0 .now) - a .1 .1 .1 .1 .0 .at) * 8 + 3
+
+abbrev μ-not : Measures 3 not-kinds.ps ℕ
+μ-not κs a = (length (a .0 .now) - a .1 .1 .1 .1 .0 .at) * 8 + 2
+
+abbrev μ-union : Measures 3 union-kinds.ps ℕ
+μ-union κs a = (length (a .0 .now) - a .1 .1 .1 .1 .0 .at) * 8 + 4
+
+abbrev basic-at : ℕ → In 3 basic-kinds.ps
+basic-at t = and 3 basic-kinds.ps (is 3 basic-kinds.ps μ-basic t) basic.Pre
+
+abbrev basic-below : ℕ → In 3 basic-kinds.ps
+basic-below t = and 3 basic-kinds.ps (falls 3 basic-kinds.ps _<_ μ-basic t) basic.Pre
+
+abbrev meet-at : ℕ → In 3 meet-kinds.ps
+meet-at t = and 3 meet-kinds.ps (is 3 meet-kinds.ps μ-meet t) meet.Pre
+
+abbrev meet-below : ℕ → In 3 meet-kinds.ps
+meet-below t = and 3 meet-kinds.ps (falls 3 meet-kinds.ps _<_ μ-meet t) meet.Pre
+
+abbrev not-at : ℕ → In 3 not-kinds.ps
+not-at t = and 3 not-kinds.ps (is 3 not-kinds.ps μ-not t) not.Pre
+
+abbrev not-below : ℕ → In 3 not-kinds.ps
+not-below t = and 3 not-kinds.ps (falls 3 not-kinds.ps _<_ μ-not t) not.Pre
+
+abbrev union-at : ℕ → In 3 union-kinds.ps
+union-at t = and 3 union-kinds.ps (is 3 union-kinds.ps μ-union t) union.Pre
+
+abbrev union-below : ℕ → In 3 union-kinds.ps
+union-below t = and 3 union-kinds.ps (falls 3 union-kinds.ps _<_ μ-union t) union.Pre
+
+-- what `basic` knows of the functions that it calls
+abbrev basic-calls : ℕ → basic-lts.Claims
+basic-calls t = (mark-next-reads.Asked, mark-next-reads.Learnt, word-reads.Asked, word-reads.Learnt, union-below t, union.Post)
+
+-- what `meet` knows of the functions that it calls
+abbrev meet-calls : ℕ → meet-lts.Claims
+meet-calls t = (not-below t, not.Post, write-reads.Asked, write-reads.Learnt, mark-next-reads.Asked, mark-next-reads.Learnt)
+
+-- what `not` knows of the functions that it calls
+abbrev not-calls : ℕ → not-lts.Claims
+not-calls t = (marks-next-reads.Asked, marks-next-reads.Learnt, basic-below t, basic.Post, write-reads.Asked, write-reads.Learnt)
+
+-- what `union` knows of the functions that it calls
+abbrev union-calls : ℕ → union-lts.Claims
+union-calls t = (meet-below t, meet.Post, write-reads.Asked, write-reads.Learnt, mark-next-reads.Asked, mark-next-reads.Learnt)
+
+basic-mark-next-requires : (t : ℕ) → basic-lts.Need-mark-next-requires (basic-calls t) (basic-at t) basic.Post
+basic-mark-next-requires t c κs = search needs
+
+basic-word-requires : (t : ℕ) → basic-lts.Need-word-requires (basic-calls t) (basic-at t) basic.Post
+basic-word-requires t c κs =
+    let b = c .before .before .before .before in
+    b .before .pre .1 .1
+
+basic-returns : (t : ℕ) → basic-lts.Need-returns (basic-calls t) (basic-at t) basic.Post
+basic-returns t c =
+    let b = c .before .before .before .before in
+    let a = b .before .before .args in
+    basic-named (a .depth) (a .s .now) (a .names .now) (a .n) (a .p) (a .out .now) (c .word .last .1 .1 .1 .1 .0) _
+    (c .before .before .before .mark-next .ensures) (c .before .before .if1 .taken) (c .word .result) (c .word .ensures)
+
+basic-returns-2 : (t : ℕ) → basic-lts.Need-returns-2 (basic-calls t) (basic-at t) basic.Post
+basic-returns-2 t c =
+    let b = c .before .before .before .before in
+    let a = b .before .args in
+    basic-deep (a .depth) (a .s .now) (a .names .now) (a .n) (a .p) (a .out .now) (a .out .now) _ (c .before .before .mark-next .ensures)
+    (c .before .if1 .left) (c .if2 .taken)
+
+basic-add-union : (t : ℕ) → basic-lts.Need-add-union (basic-calls t) (basic-at t) basic.Post
+basic-add-union t c =
+    let b = c .before .before .before .before in
+    omega (arith, b .before .pre .1 .0)
+
+basic-union-requires : (t : ℕ) → basic-lts.Need-union-requires (basic-calls t) (basic-at t) basic.Post
+basic-union-requires t c κs =
+    let b = c .before .before .before .before in
+    let m = mark-stands _ _ _ _ (c .before .before .before .mark-next .ensures) (c .before .before .if1 .left) in (
+      omega (arith, b .before .before .pre .0, m .after, m .within),
+      (
+        omega (arith, b .before .before .pre .1 .0, c .before .if2 .left),
+        omega (arith, b .before .before .pre .1 .1, m .after, m .within),
+      ),
+    )
+
+basic-enum-known-r : (t : ℕ) → basic-lts.Need-enum-known-r (basic-calls t) (basic-at t) basic.Post
+basic-enum-known-r t c = search needs
+
+basic-mark-next-requires-2 : (t : ℕ) → basic-lts.Need-mark-next-requires-2 (basic-calls t) (basic-at t) basic.Post
+basic-mark-next-requires-2 t c κs = search needs
+
+basic-returns-3 : (t : ℕ) → basic-lts.Need-returns-3 (basic-calls t) (basic-at t) basic.Post
+basic-returns-3 t c =
+    let b = c .before .before .before .before in
+    let d = b .before .before .before .before in
+    let e = d .before .before .before .before in
+    let a = e .args in
+    inner-open (roundBracket (a .depth) (b .before .before .before .if2 .left)) (a .s .now) (a .names .now) (a .n) (a .p) (a .out .now) _
+    (d .before .mark-next .ensures) (d .if1 .left) _ _ (b .before .union .ensures) _ (c .before .before .before .r .given .1) _
+    (c .before .mark-next2 .ensures) (c .if3 .taken)
+
+basic-enum-told : (t : ℕ) → basic-lts.Need-enum-told (basic-calls t) (basic-at t) basic.Post
+basic-enum-told t c = search needs
+
+basic-enum-told-2 : (t : ℕ) → basic-lts.Need-enum-told-2 (basic-calls t) (basic-at t) basic.Post
+basic-enum-told-2 t c = search needs
+
+basic-returns-4 : (t : ℕ) → basic-lts.Need-returns-4 (basic-calls t) (basic-at t) basic.Post
+basic-returns-4 t c =
+    let b = c .before .before .before .before in
+    let d = b .before .before .before .before in
+    let e = d .before .before .before .before in
+    let a = e .args in
+    inner-closed (roundBracket (a .depth) (b .before .before .before .if2 .left)) (a .s .now) (a .names .now) (a .n) (a .p) (a .out .now) _
+    (d .before .mark-next .ensures) (d .if1 .left) _ _ (b .before .union .ensures) _ (c .before .before .before .r .given .1) _
+    (c .before .mark-next2 .ensures) _ _ (c .if3 .left) refl (omega arith) (omega arith)
+
+basic-returns-5 : (t : ℕ) → basic-lts.Need-returns-5 (basic-calls t) (basic-at t) basic.Post
+basic-returns-5 t c =
+    let b = c .before .before .before .before in
+    let d = b .before .before .before .before in
+    let a = d .before .args in
+    inner-wrong (roundBracket (a .depth) (b .if2 .left)) (a .s .now) (a .names .now) (a .n) (a .p) (a .out .now) _
+    (b .before .before .mark-next .ensures) (b .before .if1 .left) _ _ (c .before .before .union .ensures) (c .enum-told .given .1)
+
+basic-returns-6 : (t : ℕ) → basic-lts.Need-returns-6 (basic-calls t) (basic-at t) basic.Post
+basic-returns-6 t c =
+    let b = c .before .before .before .before in
+    let d = b .before .before .before .before in
+    let a = d .before .args in
+    inner-deep (roundBracket (a .depth) (b .if2 .left)) (a .s .now) (a .names .now) (a .n) (a .p) (a .out .now) _
+    (b .before .before .mark-next .ensures) (b .before .if1 .left) _ _ (c .before .before .union .ensures) (c .enum-told2 .given .1)
+
+abbrev meet-Inv-loop : meet-lts.InvT-loop
+meet-Inv-loop s names n depth out₀ place₀ more₀ out place more = Waiting (meetChain depth) 2 s names n place₀ out₀ place more out
+
+abbrev meet-μ-loop : meet-lts.MeasureT-loop
+meet-μ-loop s names n depth out₀ place₀ more₀ out place more = length s - place .at
+
+meet-loop-holds : (t : ℕ) → meet-lts.Need-loop-holds (meet-calls t) (meet-at t) meet.Post meet-Inv-loop meet-μ-loop
+meet-loop-holds t c = chain-start _ _ _ _ _ _ _
+
+meet-not-requires : (t : ℕ) → meet-lts.Need-not-requires (meet-calls t) (meet-at t) meet.Post meet-Inv-loop meet-μ-loop
+meet-not-requires t c κs =
+    let w = c .before .loop .inv in
+    (omega (arith, c .before .before .before .before .pre .0, w .onward), (c .before .before .before .before .pre .1 .0, omega (arith, c .before .before .before .before .pre .1 .1, w .room)))
+
+meet-enum-known-r : (t : ℕ) → meet-lts.Need-enum-known-r (meet-calls t) (meet-at t) meet.Post meet-Inv-loop meet-μ-loop
+meet-enum-known-r t c = search needs
+
+meet-write-requires : (t : ℕ) → meet-lts.Need-write-requires (meet-calls t) (meet-at t) meet.Post meet-Inv-loop meet-μ-loop
+meet-write-requires t c κs =
+    let b = c .before .before .before .before in
+    let d = b .before .before .before .before in
+    loop-room (b .before .before .loop .inv) _ _ (b .not .ensures) _ (c .before .before .r .given .1) (d .before .pre .1 .1)
+
+meet-mark-next-requires : (t : ℕ) → meet-lts.Need-mark-next-requires (meet-calls t) (meet-at t) meet.Post meet-Inv-loop meet-μ-loop
+meet-mark-next-requires t c κs = search needs
+
+meet-returns : (t : ℕ) → meet-lts.Need-returns (meet-calls t) (meet-at t) meet.Post meet-Inv-loop meet-μ-loop
+meet-returns t c =
+    let b = c .before .before .before .before in
+    let d = b .before .before .before .before in
+    loop-got (d .before .loop .inv) _ _ (b .before .before .before .not .ensures) _ (b .before .r .given .1) _ _
+    (c .before .before .write .ensures .0) (c .before .before .write .ensures .1) _ (c .before .mark-next .ensures) (c .if1 .taken)
+
+meet-loop-less : (t : ℕ) → meet-lts.Need-loop-less (meet-calls t) (meet-at t) meet.Post meet-Inv-loop meet-μ-loop
+meet-loop-less t c =
+    let b = c .before .before .before .before in
+    let d = b .before .before .before .before in
+    loop-onward (d .before .loop .inv) _ _ (b .before .before .before .not .ensures) _ (b .before .r .given .1) _ _
+    (c .before .mark-next .ensures) (c .if1 .left)
+
+meet-loop-again : (t : ℕ) → meet-lts.Need-loop-again (meet-calls t) (meet-at t) meet.Post meet-Inv-loop meet-μ-loop
+meet-loop-again t c =
+    let b = c .before .before .before .before in
+    let d = b .before .before .before .before in
+    loop-turn (d .before .loop .inv) _ _ (b .before .before .before .not .ensures) _ (b .before .r .given .1) _ _
+    (c .before .before .write .ensures .0) (c .before .before .write .ensures .1) _ (c .before .mark-next .ensures) (c .if1 .left)
+
+meet-enum-told : (t : ℕ) → meet-lts.Need-enum-told (meet-calls t) (meet-at t) meet.Post meet-Inv-loop meet-μ-loop
+meet-enum-told t c = search needs
+
+meet-returns-2 : (t : ℕ) → meet-lts.Need-returns-2 (meet-calls t) (meet-at t) meet.Post meet-Inv-loop meet-μ-loop
+meet-returns-2 t c =
+    loop-wrong (c .before .before .before .before .loop .inv) _ _ (c .before .before .not .ensures) (c .enum-told .given .1)
+
+meet-enum-told-2 : (t : ℕ) → meet-lts.Need-enum-told-2 (meet-calls t) (meet-at t) meet.Post meet-Inv-loop meet-μ-loop
+meet-enum-told-2 t c = search needs
+
+meet-returns-3 : (t : ℕ) → meet-lts.Need-returns-3 (meet-calls t) (meet-at t) meet.Post meet-Inv-loop meet-μ-loop
+meet-returns-3 t c =
+    loop-deep (c .before .before .before .before .loop .inv) _ _ (c .before .before .not .ensures) (c .enum-told2 .given .1)
+
+not-marks-next-requires : (t : ℕ) → not-lts.Need-marks-next-requires (not-calls t) (not-at t) not.Post
+not-marks-next-requires t c κs = search needs
+
+not-basic-requires : (t : ℕ) → not-lts.Need-basic-requires (not-calls t) (not-at t) not.Post
+not-basic-requires t c κs =
+    let m = c .before .marks-next .ensures in
+    (omega (arith, c .before .before .before .before .pre .0, m .onward), (c .before .before .before .before .pre .1 .0, omega (arith, c .before .before .before .before .pre .1 .1, m .room)))
+
+not-enum-known-r : (t : ℕ) → not-lts.Need-enum-known-r (not-calls t) (not-at t) not.Post
+not-enum-known-r t c = search needs
+
+not-write-requires : (t : ℕ) → not-lts.Need-write-requires (not-calls t) (not-at t) not.Post
+not-write-requires t c κs =
+    let b = c .before .before .before .before in
+    let d = b .before .before .before .before in
+    let a = d .before .args in
+    nots-room (a .depth) (a .s .now) (a .names .now) (a .n) (a .p) (a .out .now) _ (b .before .before .marks-next .ensures) _ _
+    (b .basic .ensures) _ (c .before .before .r .given .1) (d .before .pre .1 .1)
+
+not-enum-told : (t : ℕ) → not-lts.Need-enum-told (not-calls t) (not-at t) not.Post
+not-enum-told t c = search needs
+
+not-enum-told-2 : (t : ℕ) → not-lts.Need-enum-told-2 (not-calls t) (not-at t) not.Post
+not-enum-told-2 t c = search needs
+
+not-returns : (t : ℕ) → not-lts.Need-returns (not-calls t) (not-at t) not.Post
+not-returns t c =
+    let b = c .before .before .before .before in
+    let d = b .before .before .before .before in
+    let a = d .before .before .args in
+    nots-got (a .depth) (a .s .now) (a .names .now) (a .n) (a .p) (a .out .now) _ (b .before .before .before .marks-next .ensures) _ _
+    (b .before .basic .ensures) _ (c .before .before .before .r .given .1) _ _ (c .write .ensures .0) (c .write .ensures .1)
+
+not-returns-2 : (t : ℕ) → not-lts.Need-returns-2 (not-calls t) (not-at t) not.Post
+not-returns-2 t c =
+    let b = c .before .before .before .before in
+    let a = b .before .before .before .args in
+    nots-wrong (a .depth) (a .s .now) (a .names .now) (a .n) (a .p) (a .out .now) _ (b .marks-next .ensures) _ _
+    (c .before .before .basic .ensures) (c .enum-told .given .1)
+
+not-returns-3 : (t : ℕ) → not-lts.Need-returns-3 (not-calls t) (not-at t) not.Post
+not-returns-3 t c =
+    let b = c .before .before .before .before in
+    let a = b .before .before .before .args in
+    nots-deep (a .depth) (a .s .now) (a .names .now) (a .n) (a .p) (a .out .now) _ (b .marks-next .ensures) _ _
+    (c .before .before .basic .ensures) (c .enum-told2 .given .1)
+
+abbrev union-Inv-loop : union-lts.InvT-loop
+union-Inv-loop s names n depth out₀ place₀ more₀ out place more = Waiting (unionChain depth) 3 s names n place₀ out₀ place more out
+
+abbrev union-μ-loop : union-lts.MeasureT-loop
+union-μ-loop s names n depth out₀ place₀ more₀ out place more = length s - place .at
+
+union-loop-holds : (t : ℕ) → union-lts.Need-loop-holds (union-calls t) (union-at t) union.Post union-Inv-loop union-μ-loop
+union-loop-holds t c = chain-start _ _ _ _ _ _ _
+
+union-meet-requires : (t : ℕ) → union-lts.Need-meet-requires (union-calls t) (union-at t) union.Post union-Inv-loop union-μ-loop
+union-meet-requires t c κs =
+    let w = c .before .loop .inv in
+    (omega (arith, c .before .before .before .before .pre .0, w .onward), (c .before .before .before .before .pre .1 .0, omega (arith, c .before .before .before .before .pre .1 .1, w .room)))
+
+union-enum-known-r : (t : ℕ) → union-lts.Need-enum-known-r (union-calls t) (union-at t) union.Post union-Inv-loop union-μ-loop
+union-enum-known-r t c = search needs
+
+union-write-requires : (t : ℕ) → union-lts.Need-write-requires (union-calls t) (union-at t) union.Post union-Inv-loop union-μ-loop
+union-write-requires t c κs =
+    let b = c .before .before .before .before in
+    let d = b .before .before .before .before in
+    loop-room (b .before .before .loop .inv) _ _ (b .meet .ensures) _ (c .before .before .r .given .1) (d .before .pre .1 .1)
+
+union-mark-next-requires : (t : ℕ) → union-lts.Need-mark-next-requires (union-calls t) (union-at t) union.Post union-Inv-loop union-μ-loop
+union-mark-next-requires t c κs = search needs
+
+union-returns : (t : ℕ) → union-lts.Need-returns (union-calls t) (union-at t) union.Post union-Inv-loop union-μ-loop
+union-returns t c =
+    let b = c .before .before .before .before in
+    let d = b .before .before .before .before in
+    loop-got (d .before .loop .inv) _ _ (b .before .before .before .meet .ensures) _ (b .before .r .given .1) _ _
+    (c .before .before .write .ensures .0) (c .before .before .write .ensures .1) _ (c .before .mark-next .ensures) (c .if1 .taken)
+
+union-loop-less : (t : ℕ) → union-lts.Need-loop-less (union-calls t) (union-at t) union.Post union-Inv-loop union-μ-loop
+union-loop-less t c =
+    let b = c .before .before .before .before in
+    let d = b .before .before .before .before in
+    loop-onward (d .before .loop .inv) _ _ (b .before .before .before .meet .ensures) _ (b .before .r .given .1) _ _
+    (c .before .mark-next .ensures) (c .if1 .left)
+
+union-loop-again : (t : ℕ) → union-lts.Need-loop-again (union-calls t) (union-at t) union.Post union-Inv-loop union-μ-loop
+union-loop-again t c =
+    let b = c .before .before .before .before in
+    let d = b .before .before .before .before in
+    loop-turn (d .before .loop .inv) _ _ (b .before .before .before .meet .ensures) _ (b .before .r .given .1) _ _
+    (c .before .before .write .ensures .0) (c .before .before .write .ensures .1) _ (c .before .mark-next .ensures) (c .if1 .left)
+
+union-enum-told : (t : ℕ) → union-lts.Need-enum-told (union-calls t) (union-at t) union.Post union-Inv-loop union-μ-loop
+union-enum-told t c = search needs
+
+union-returns-2 : (t : ℕ) → union-lts.Need-returns-2 (union-calls t) (union-at t) union.Post union-Inv-loop union-μ-loop
+union-returns-2 t c =
+    loop-wrong (c .before .before .before .before .loop .inv) _ _ (c .before .before .meet .ensures) (c .enum-told .given .1)
+
+union-enum-told-2 : (t : ℕ) → union-lts.Need-enum-told-2 (union-calls t) (union-at t) union.Post union-Inv-loop union-μ-loop
+union-enum-told-2 t c = search needs
+
+union-returns-3 : (t : ℕ) → union-lts.Need-returns-3 (union-calls t) (union-at t) union.Post union-Inv-loop union-μ-loop
+union-returns-3 t c =
+    loop-deep (c .before .before .before .before .loop .inv) _ _ (c .before .before .meet .ensures) (c .enum-told2 .given .1)
+
+pub +basic+meet+not+union-spec : {M : Type 1} → statement M
++basic+meet+not+union-spec = close μ-basic μ-meet μ-not μ-union (λ t. basic-lts.spec (basic-calls t) (basic-at t)
+    basic.Post
+    (basic-mark-next-requires t)
+    (basic-word-requires t)
+    (basic-returns t)
+    (basic-returns-2 t)
+    (basic-add-union t)
+    (basic-union-requires t)
+    (basic-enum-known-r t)
+    (basic-mark-next-requires-2 t)
+    (basic-returns-3 t)
+    (basic-enum-told t)
+    (basic-enum-told-2 t)
+    (basic-returns-4 t)
+    (basic-returns-5 t)
+    (basic-returns-6 t))
+    (λ t. meet-lts.spec (meet-calls t) (meet-at t)
+    meet.Post
+    meet-Inv-loop
+    meet-μ-loop
+    (meet-loop-holds t)
+    (meet-not-requires t)
+    (meet-enum-known-r t)
+    (meet-write-requires t)
+    (meet-mark-next-requires t)
+    (meet-returns t)
+    (meet-loop-less t)
+    (meet-loop-again t)
+    (meet-enum-told t)
+    (meet-returns-2 t)
+    (meet-enum-told-2 t)
+    (meet-returns-3 t))
+    (λ t. not-lts.spec (not-calls t) (not-at t)
+    not.Post
+    (not-marks-next-requires t)
+    (not-basic-requires t)
+    (not-enum-known-r t)
+    (not-write-requires t)
+    (not-enum-told t)
+    (not-enum-told-2 t)
+    (not-returns t)
+    (not-returns-2 t)
+    (not-returns-3 t))
+    λ t. union-lts.spec (union-calls t) (union-at t)
+    union.Post
+    union-Inv-loop
+    union-μ-loop
+    (union-loop-holds t)
+    (union-meet-requires t)
+    (union-enum-known-r t)
+    (union-write-requires t)
+    (union-mark-next-requires t)
+    (union-returns t)
+    (union-loop-less t)
+    (union-loop-again t)
+    (union-enum-told t)
+    (union-returns-2 t)
+    (union-enum-told-2 t)
+    (union-returns-3 t)

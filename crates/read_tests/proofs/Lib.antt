@@ -1,0 +1,13 @@
+-- What stands next, and codes written.
+pub mod Next
+pub mod Stores
+-- What was told between two places, and one name or word.
+pub mod Told
+pub mod Outcomes
+pub mod Words
+-- Chains of one operator, the loop that reads them, and brackets.
+pub mod Chains
+pub mod Loops
+pub mod Bracketed
+-- The readers of T.
+pub mod Tests

@@ -1,0 +1,4 @@
+-- What stands next.
+pub mod Next
+-- What a reader leaves behind.
+pub mod Places

@@ -1,0 +1,2 @@
+-- What the reader answers, up to refusal 7.
+pub mod Reading

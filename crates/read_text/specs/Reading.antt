@@ -1,0 +1,61 @@
+-- What the reader answers and what it leaves in the lent array, for every list of bytes. (Document 01, "Refusals with an example each".)
+-- This is the reading up to refusal 7: `read` of document 01 is this and then the limits (refusal 8).
+-- Assumes nothing.
+use Prim.Native.Nat.{ℕ, _-_}
+use mathlib.Core.Path.{_≡_}
+use mathlib.Core.Bool.{Bool, true, false, not}
+use mathlib.Core.List.{List, [], _++_}
+use mathlib.Core.Option.{Option, some, none}
+use lib.Dec.{eqb, leb}
+use lib.ListN.{length, drop}
+use Rattle.claims.specs.Bytes.{rawLines}
+use Rattle.claims.specs.Query.{Query}
+use Rattle.claims.specs.Reading.{badLine, claimOf, readLines}
+use Rattle.claims.specs.Refusals.{tooLong, badByte, noClaim, Result, ok, refused, refuse, onward}
+use Rattle.codes.specs.Codes.{queryCodes}
+use Rattle.refusals.specs.Causes.{causeOf}
+use Rattle.read_text.specs.declared.Reading.{Reading}
+use Rattle.read_text.specs.declared.Reading.the-variants.{Accepted, Refused}
+use Rattle.words.specs.Memory.{zeros}
+
+-- a byte that ends no line
+unfoldable pub inLine : ℕ → Bool
+inLine b = not (eqb b 10)
+
+-- a line's number, 0 for none
+unfoldable pub orZero : Option ℕ → ℕ
+orZero none = 0
+orZero (some n) = n
+
+-- a query must have a claim
+unfoldable pub claimed : Query → Result Query
+claimed q = elim (claimOf q) [ none ↦ refuse noClaim 0 | some c ↦ ok q ]
+
+-- the lines from the top, and the claim that there must be: refusals 3 to 7
+unfoldable pub inLines : List ℕ → Result Query
+inLines bs = onward (readLines [] 1 (rawLines bs)) claimed
+
+-- the query that the bytes are, or the first refusal of 1 to 7
+unfoldable pub readable : List ℕ → Result Query
+readable bs =
+    elim (leb (length bs) 4096) [
+      | false ↦ refuse tooLong 0
+      | true ↦ elim (badLine 1 bs) [ some n ↦ refuse badByte n | none ↦ inLines bs ]
+    ]
+
+-- the answer says what was read: how many codes the query has, or the cause and the place
+abbrev pub Says : Result Query → Reading → Type 0
+Says (ok q) (Accepted n) = n ≡ length (queryCodes q)
+Says (ok q) (Refused c p) = ⊥
+Says (refused r) (Accepted n) = ⊥
+Says (refused r) (Refused c p) = (causeOf c ≡ r .cause) × (p ≡ r .place)
+
+-- the lent array: the codes of the query, and zeros behind; all zeros after a refusal
+unfoldable pub leftCodes : Result Query → List ℕ
+leftCodes (ok q) = queryCodes q ++ zeros (4096 - length (queryCodes q))
+leftCodes (refused r) = zeros 4096
+
+-- the array after the lines were read over it: the codes of the query, and behind them what stood there; after a refusal nothing is said
+abbrev pub Written : Result Query → List ℕ → List ℕ → Type 0
+Written (ok q) before out = out ≡ queryCodes q ++ drop (length (queryCodes q)) before
+Written (refused r) before out = Unit {0}

@@ -1,0 +1,2 @@
+-- Where the tokens of a line stand.
+pub mod Scan

@@ -1,0 +1,2 @@
+-- One cause, one reason.
+pub mod Causes

@@ -1,0 +1,2 @@
+-- The cause of each reason.
+pub mod Causes

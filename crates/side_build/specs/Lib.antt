@@ -1,0 +1,2 @@
+-- What is built of a query.
+pub mod Built

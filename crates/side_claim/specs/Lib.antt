@@ -1,0 +1,2 @@
+-- The two sides of a claim.
+pub mod Sides

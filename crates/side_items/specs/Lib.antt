@@ -1,0 +1,2 @@
+-- Codes with what they need.
+pub mod Items

@@ -1,0 +1,5 @@
+-- What a machine makes of the items of a line.
+pub mod Performing
+-- Where to go on.
+pub mod Jumps
+pub mod Leaps

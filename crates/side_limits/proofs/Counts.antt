@@ -1,0 +1,158 @@
+-- What a walk over the codes of a query counts, where no code of an expression counts: each line counts what the codes that end it or
+-- divide it count. So the codes have as many ends of lines as the query has lines, and a code for each test and each relation.
+-- Assumes nothing.
+use Prim.Native.Nat.{ℕ, suc, _+_, _≤_, _<_}
+use native.Mathlib.Omega.{arith}
+use mathlib.Core.Path.{_≡_, refl, _∙_, ap, ap₂}
+use mathlib.Core.Bool.{Bool, true, false, cond}
+use mathlib.Core.List.{List, [], _∷_, _++_, append-assoc}
+use mathlib.Core.Option.{none}
+use lib.Dec.{eqb}
+use lib.ListN.{length, length-append}
+use borrow.Author.Tests.{ne-eqb, lt-ltb, le-ltb}
+use Rattle.claims.specs.Tree.{Claim, includes, empty, irreflexive, Line, testLine, relLine, letLine, neverLine, withinLine, closedLine, assumeEmpty, assumeIrreflexive, claimLine}
+use Rattle.claims.specs.Names.{uses, firstSlip}
+use Rattle.claims.specs.Query.{Query, each, indexOf, testNames, relationNames, tests, relations}
+use Rattle.claims.proofs.Limits.{Declared}
+use Rattle.codes.specs.Codes.{testCodes, treeCodes, claimCodes, lineCodes, linesCodes, queryCodes}
+use Rattle.side_limits.specs.Tally.{howMany, times, endsLine, lineCount}
+use Rattle.side_limits.proofs.Walk.{how-many-append}
+use Rattle.codes.proofs.Orderly.{Orderly, Settled, settled-none, settled-more}
+use Rattle.codes.proofs.Below.{Below, test-below, bracket-below, tree-below}
+
+-- the codes from 128 on of a claim, and of a line after the lines of p
+abbrev claimEnds : Claim → List ℕ
+claimEnds (includes e f) = 135 ∷ 136 ∷ []
+claimEnds (empty e) = 137 ∷ []
+claimEnds (irreflexive e) = 138 ∷ []
+
+abbrev pub lineEnds : Query → Line → List ℕ
+lineEnds p (testLine n) = 128 ∷ []
+lineEnds p (relLine n) = 129 ∷ []
+lineEnds p (letLine n e) = 130 ∷ []
+lineEnds p (neverLine t) = 131 ∷ []
+lineEnds p (withinLine n t u) = (144 + indexOf n (relations p)) ∷ []
+lineEnds p (closedLine n) = (160 + indexOf n (relations p)) ∷ []
+lineEnds p (assumeEmpty e) = 133 ∷ []
+lineEnds p (assumeIrreflexive e) = 134 ∷ []
+lineEnds p (claimLine c) = claimEnds c
+
+module _ (test : ℕ → Bool) (outside : (k : ℕ) → k < 128 → test k ≡ false) where
+  -- the codes of an expression, and what stands after them
+  after-below : (ks ms : List ℕ) → Below 128 ks → howMany test (ks ++ ms) ≡ howMany test ms
+  after-below [] ms b = refl
+  after-below (k ∷ ks) ms (h, b) = ap₂ (λ x n. cond x 1 0 + n) (outside k h) (after-below ks ms b) ∙ omega arith
+
+  line-ends : (p : Query) → Declared p → (l : Line) → howMany test (lineCodes p l) ≡ howMany test (lineEnds p l)
+  unfolding lineCodes claimCodes
+  line-ends p d (testLine n) = refl
+  line-ends p d (relLine n) = refl
+  line-ends p d (letLine n e) = after-below (treeCodes p e) (130 ∷ []) (tree-below p d e)
+  line-ends p d (neverLine t) = after-below (testCodes p t) (131 ∷ []) (test-below p d t)
+  line-ends p d (withinLine n t u) =
+      after-below (testCodes p t ++ (6 ∷ [])) _ (bracket-below p d t) ∙ after-below (testCodes p u ++ (6 ∷ [])) _ (bracket-below p d u)
+  line-ends p d (closedLine n) = refl
+  line-ends p d (assumeEmpty e) = after-below (treeCodes p e) (133 ∷ []) (tree-below p d e)
+  line-ends p d (assumeIrreflexive e) = after-below (treeCodes p e) (134 ∷ []) (tree-below p d e)
+  line-ends p d (claimLine (includes e f)) =
+      ap (howMany test) (append-assoc (treeCodes p e) (135 ∷ treeCodes p f) (136 ∷ []))
+      ∙ after-below (treeCodes p e) (135 ∷ (treeCodes p f ++ (136 ∷ []))) (tree-below p d e)
+      ∙ ap (λ n. cond (test 135) 1 0 + n) (after-below (treeCodes p f) (136 ∷ []) (tree-below p d f))
+  line-ends p d (claimLine (empty e)) = after-below (treeCodes p e) (137 ∷ []) (tree-below p d e)
+  line-ends p d (claimLine (irreflexive e)) = after-below (treeCodes p e) (138 ∷ []) (tree-below p d e)
+
+  -- where the end of each line counts what g makes of the line, the codes count what g makes of the query
+  module _ {A : Type 0} (g : Line → List A) (q : Query)
+      (each-line : (p r : Query) (l : Line) → p ++ (l ∷ r) ≡ q → firstSlip p (uses l) ≡ none → Settled p
+      → howMany test (lineEnds p l) ≡ length (g l)) where
+    lines-counted : (p r : Query) → p ++ r ≡ q → Orderly p r → Settled p → howMany test (linesCodes p r) ≡ length (each g r)
+    unfolding linesCodes
+    lines-counted p [] z o s = refl
+    lines-counted p (l ∷ r) z (e, c, o) s =
+        omega (
+          arith,
+          how-many-append test (lineCodes p l) (linesCodes (p ++ (l ∷ [])) r),
+          line-ends p (s .room) l,
+          each-line p r l z e s,
+          lines-counted (p ++ (l ∷ [])) r (append-assoc p (l ∷ []) r ∙ z) o (settled-more p l e c s),
+          length-append (g l) (each g r),
+        )
+
+    pub query-counted : Orderly [] q → howMany test (queryCodes q) ≡ length (each g q)
+    unfolding queryCodes
+    query-counted o = lines-counted [] q refl o settled-none
+
+-- a code of an expression is none from 128 on
+pub below-differs : (m : ℕ) → 128 ≤ m → (k : ℕ) → k < 128 → eqb k m ≡ false
+below-differs m h k l = ne-eqb k m (λ e. omega arith)
+
+test-end : (p : Query) (l : Line) → howMany (λ x. eqb x 128) (lineEnds p l) ≡ length (testNames l)
+unfolding testNames
+test-end p (testLine n) = refl
+test-end p (relLine n) = refl
+test-end p (letLine n e) = refl
+test-end p (neverLine t) = refl
+test-end p (withinLine n t u) = ap (λ b. cond b 1 0 + 0) (ne-eqb (144 + indexOf n (relations p)) 128 (λ e. omega arith))
+test-end p (closedLine n) = ap (λ b. cond b 1 0 + 0) (ne-eqb (160 + indexOf n (relations p)) 128 (λ e. omega arith))
+test-end p (assumeEmpty e) = refl
+test-end p (assumeIrreflexive e) = refl
+test-end p (claimLine (includes e f)) = refl
+test-end p (claimLine (empty e)) = refl
+test-end p (claimLine (irreflexive e)) = refl
+
+-- as many tests as lines that declare one
+pub tests-counted : (q : Query) → Orderly [] q → times 128 (queryCodes q) ≡ length (tests q)
+unfolding times tests
+tests-counted q o = query-counted (λ x. eqb x 128) (below-differs 128 (omega arith)) testNames q (λ p r l z e s. test-end p l) o
+
+relation-end : (p : Query) (l : Line) → howMany (λ x. eqb x 129) (lineEnds p l) ≡ length (relationNames l)
+unfolding relationNames
+relation-end p (testLine n) = refl
+relation-end p (relLine n) = refl
+relation-end p (letLine n e) = refl
+relation-end p (neverLine t) = refl
+relation-end p (withinLine n t u) = ap (λ b. cond b 1 0 + 0) (ne-eqb (144 + indexOf n (relations p)) 129 (λ e. omega arith))
+relation-end p (closedLine n) = ap (λ b. cond b 1 0 + 0) (ne-eqb (160 + indexOf n (relations p)) 129 (λ e. omega arith))
+relation-end p (assumeEmpty e) = refl
+relation-end p (assumeIrreflexive e) = refl
+relation-end p (claimLine (includes e f)) = refl
+relation-end p (claimLine (empty e)) = refl
+relation-end p (claimLine (irreflexive e)) = refl
+
+-- as many relations as lines that declare one
+pub relations-counted : (q : Query) → Orderly [] q → times 129 (queryCodes q) ≡ length (relations q)
+unfolding times relations
+relations-counted q o =
+    query-counted (λ x. eqb x 129) (below-differs 129 (omega arith)) relationNames q (λ p r l z e s. relation-end p l) o
+
+inside-line : (k : ℕ) → k < 128 → endsLine k ≡ false
+unfolding endsLine
+inside-line k h = rw (endsLine, lt-ltb k 128 h)
+
+past-claims : (k : ℕ) → 139 ≤ k → endsLine k ≡ true
+unfolding endsLine
+past-claims k h = rw (endsLine, le-ltb k 128 (omega arith), ne-eqb k 135 (λ e. omega arith))
+
+-- a line ends once
+one-end : (p : Query) (l : Line) → howMany endsLine (lineEnds p l) ≡ 1
+unfolding endsLine
+one-end p (testLine n) = refl
+one-end p (relLine n) = refl
+one-end p (letLine n e) = refl
+one-end p (neverLine t) = refl
+one-end p (withinLine n t u) = ap (λ b. cond b 1 0 + 0) (past-claims (144 + indexOf n (relations p)) (omega arith))
+one-end p (closedLine n) = ap (λ b. cond b 1 0 + 0) (past-claims (160 + indexOf n (relations p)) (omega arith))
+one-end p (assumeEmpty e) = refl
+one-end p (assumeIrreflexive e) = refl
+one-end p (claimLine (includes e f)) = refl
+one-end p (claimLine (empty e)) = refl
+one-end p (claimLine (irreflexive e)) = refl
+
+each-itself : (q : Query) → length (each (λ (l : Line). l ∷ []) q) ≡ length q
+each-itself [] = refl
+each-itself (l ∷ q) = ap suc (each-itself q)
+
+-- as many ends of lines as lines
+pub line-count : (q : Query) → Orderly [] q → lineCount (queryCodes q) ≡ length q
+unfolding lineCount
+line-count q o = query-counted endsLine inside-line (λ (l : Line). l ∷ []) q (λ p r l z e s. one-end p l) o ∙ each-itself q

@@ -1,0 +1,38 @@
+-- `limits::right_side` meets its contract: the sums that `add` gives, in their order.
+-- Assumes nothing.
+use borrow.Author.Needs.{needs}
+use Rattle.side_limits.proofs.right_side.Statement.{statement}
+use Rattle.side_limits.proofs.right_side.Tie as tie
+
+add-requires : tie.Need-add-requires
+add-requires c κs = search needs
+
+add-requires-2 : tie.Need-add-requires-2
+add-requires-2 c κs = search needs
+
+add-requires-3 : tie.Need-add-requires-3
+add-requires-3 c κs = search needs
+
+add-requires-4 : tie.Need-add-requires-4
+add-requires-4 c κs = search needs
+
+add-requires-5 : tie.Need-add-requires-5
+add-requires-5 c κs = search needs
+
+returns : tie.Need-returns
+returns c = rw (c .add2 .ensures, c .before .add .ensures, c .before .before .if1 .taken)
+
+returns-2 : tie.Need-returns-2
+returns-2 c = rw (c .add5 .ensures, c .before .add4 .ensures, c .before .before .add3 .ensures, c .before .before .before .if1 .left)
+
+pub right-side-spec : {M : Type 1} → statement M
+right-side-spec =
+    tie.close
+    (tie.spec
+    add-requires
+    add-requires-2
+    add-requires-3
+    add-requires-4
+    add-requires-5
+    returns
+    returns-2)

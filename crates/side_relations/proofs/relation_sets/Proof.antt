@@ -1,0 +1,38 @@
+-- `program::relations::relation_sets` meets its contract: all relations start unlimited, and the memory is as long as its type says.
+-- Assumes nothing.
+use native.Mathlib.Omega.{arith}
+use mathlib.Core.Path.{_∙_}
+use lib.ListN.{length}
+use Rattle.side_relations.proofs.Narrowed.{relation-words}
+use borrow.Author.Needs.{needs}
+use Rattle.side_relations.proofs.relation_sets.Statement.{statement}
+use Rattle.side_relations.proofs.relation_sets.Tie as tie
+
+slice-aggregate-narrow-all : tie.Need-slice-aggregate-narrow-all
+slice-aggregate-narrow-all c = search needs
+
+narrow-all-requires : tie.Need-narrow-all-requires
+narrow-all-requires c κs = search needs
+
+slice-aggregate-relation-words : tie.Need-slice-aggregate-relation-words
+slice-aggregate-relation-words c = search needs
+
+relation-words-requires : tie.Need-relation-words-requires
+relation-words-requires c κs = search needs
+
+returns : tie.Need-returns
+returns c =
+    let t = c .before .before .before .before .narrow-all in
+    let s = c .before .before .before .before .before .before .before .before in
+    let a = s .args in
+    c .relation-words .ensures ∙ relation-words (a .codes .now) (a .args .now) _ (length (a .rels .now)) (omega arith) (s .pre) (t .ensures)
+
+pub relation-sets-spec : {M : Type 1} → statement M
+relation-sets-spec =
+    tie.close
+    (tie.spec
+    slice-aggregate-narrow-all
+    narrow-all-requires
+    slice-aggregate-relation-words
+    relation-words-requires
+    returns)

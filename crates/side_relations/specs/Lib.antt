@@ -1,0 +1,2 @@
+-- What the lines say of relations and atoms.
+pub mod Relations

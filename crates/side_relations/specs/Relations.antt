@@ -1,0 +1,54 @@
+-- What the lines of a query say of its relations and atoms, from its codes: where the step of each relation may start and stop, by its
+-- `within` lines, wherever they stand; at which atoms it may follow itself, by its `closed` lines; and which atoms a `never` removes.
+-- (Document 01, "The query" and "Words"; the codes are those of the crate `codes`.)
+-- Assumes nothing.
+use Prim.Native.Nat.{ℕ, _+_, _-_, _^_}
+use mathlib.Core.Bool.{Bool, cond, not, _&&_}
+use mathlib.Core.List.{List, [], _∷_}
+use lib.Bits.{bitAnd, bitOr}
+use lib.Dec.{eqb, leb, ltb}
+use lib.ListN.{getD, set}
+use Rattle.kat.specs.Lists.{some}
+use Rattle.claims.specs.Query.{bit}
+use Rattle.side_atoms.specs.Atoms.{atomsOf, allAtoms}
+use Rattle.words.specs.Memory.{words}
+use Rattle.side_items.specs.Items.{Item}
+
+-- a `within` line of relation r, 144 + r, keeps of the sets at r and at 16 + r only what is in x and in y
+unfoldable pub narrowed : ℕ → ℕ → ℕ → List ℕ → List ℕ
+narrowed k x y ws =
+    cond (leb 144 k && ltb k 160)
+    (set (set ws (k - 144) (bitAnd (getD ws (k - 144) 0) x)) (k - 128) (bitAnd (getD ws (k - 128) 0) y))
+    ws
+
+-- all lines, where x and y are the sets of the last two bracketed tests
+unfoldable pub limitsFrom : ℕ → ℕ → List Item → List ℕ → List ℕ
+limitsFrom x y [] ws = ws
+limitsFrom x y (i ∷ is) ws =
+    limitsFrom (cond (eqb (i .code) 6) y x) (cond (eqb (i .code) 6) (i .arg) y) is (narrowed (i .code) x y ws)
+
+-- 32 sets: at r where relation r may start, at 16 + r where it may stop
+unfoldable pub limitSets : List Item → List ℕ
+limitSets is = limitsFrom 0 0 is (words 32 (λ i. allAtoms))
+
+-- relation r is closed: 160 + r stands among the codes
+unfoldable pub closedIn : List Item → ℕ → Bool
+closedIn is r = some (λ (i : Item). eqb (i .code) (160 + r)) is
+
+-- what stands at place i of the 48 sets: at r where relation r may start, at 16 + r where it may stop, at 32 + r where it may follow itself,
+-- by a test which relations are closed and the 32 sets of limits
+unfoldable pub relationAt : (ℕ → Bool) → List ℕ → ℕ → ℕ
+relationAt isClosed ws i =
+    cond (ltb i 32) (getD ws i 0) (cond (isClosed (i - 32)) (bitAnd (getD ws (i - 32) 0) (getD ws (i - 16) 0)) 0)
+
+unfoldable pub relationSets : List Item → List ℕ
+relationSets is = words 48 (relationAt (closedIn is) (limitSets is))
+
+-- the atoms that the `never` lines, 131, remove
+unfoldable pub removedSet : List Item → ℕ
+removedSet [] = 0
+removedSet (i ∷ is) = bitOr (cond (eqb (i .code) 131) (i .arg) 0) (removedSet is)
+
+-- of the atoms of t tests those that are left
+unfoldable pub liveSet : ℕ → ℕ → ℕ
+liveSet t removed = atomsOf (λ a. ltb a (2 ^ t) && not (bit a removed))

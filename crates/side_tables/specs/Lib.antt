@@ -1,0 +1,2 @@
+-- The occurrence tables in memory.
+pub mod Occurrences

@@ -1,0 +1,3 @@
+-- The table of an expression, and how it is made from the tables in memory.
+pub mod SideTable
+pub mod Turned

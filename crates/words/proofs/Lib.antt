@@ -1,0 +1,3 @@
+-- A memory by what stands at each place; and cleared.
+pub mod Words
+pub mod Zeros

@@ -1,0 +1,2 @@
+-- Memory of words.
+pub mod Memory
