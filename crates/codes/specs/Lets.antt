@@ -5,7 +5,8 @@ use mathlib.Core.Bool.{cond}
 use mathlib.Core.List.{List}
 use lib.Dec.{eqb, ltb}
 use lib.ListN.{set}
+use Rattle.codes.specs.Codes.{LET-LINE, MOST-LETS}
 
--- the memory of the lets' sums, let n being the next: a let line (130) puts what its expression counted there, and there is room for 32
+-- a number for each let, let n being the next: a let line puts x there
 unfoldable pub kept : List ℕ → ℕ → ℕ → ℕ → List ℕ
-kept ls k n x = cond (eqb k 130) (cond (ltb n 32) (set ls n x) ls) ls
+kept ls k n x = cond (eqb k LET-LINE) (cond (ltb n MOST-LETS) (set ls n x) ls) ls

@@ -5,6 +5,7 @@ use mathlib.Core.Path.{_≡_}
 use mathlib.Core.Bool.{Bool, true, false}
 use mathlib.Core.List.{List}
 use lib.ListN.{take}
+use Rattle.codes.specs.Codes.{TEST-LINE, REL-LINE}
 use Rattle.words.specs.Memory.{zeros}
 use Rattle.refusals.specs.declared.Reason.the-variants.{OverLimit}
 use Rattle.side_limits.specs.Tally.{times, lineCount}
@@ -23,9 +24,9 @@ factsFrom n ring ks =
       ring = ring;
       left = b .left;
       right = b .right;
-      atoms = min (2 ^ times 128 ks) 64;
+      atoms = min (2 ^ times TEST-LINE ks) 64;
       live = b .live;
-      relations = times 129 ks;
+      relations = times REL-LINE ks;
     }
 
 -- the tables of the two sides

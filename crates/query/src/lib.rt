@@ -61,8 +61,8 @@ fn tabled(
     ensures { λ r. ⌜ (r ≡ factsFrom n ring (take n (now (codes .entry)))) × LeavesTables (take n (now (codes .entry))) (now (left .exit)) (now (right .exit)) ⌝ }
 {
     let part = &codes[..n];
-    let tests = side_limits::times(part, 128);
-    let relations = side_limits::times(part, 129);
+    let tests = side_limits::times(part, codes::TEST_LINE);
+    let relations = side_limits::times(part, codes::REL_LINE);
     let b = side_build::build(part, left, right);
     Facts {
         codes: n,

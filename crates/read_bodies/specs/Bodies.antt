@@ -14,7 +14,7 @@ use Rattle.claims.specs.Bytes.{text}
 use Rattle.claims.specs.Lines.{Choice, mapped, expression, condition, bracketed}
 use Rattle.claims.specs.Names.{Use, declares, uses, testUses, treeUses, firstSlip}
 use Rattle.claims.specs.Query.{Query, Limit}
-use Rattle.codes.specs.Codes.{testCodes, treeCodes, lineCodes}
+use Rattle.codes.specs.Codes.{testCodes, treeCodes, lineCodes, TESTED}
 use Rattle.read_tokens.specs.declared.Key.{Key}
 use Rattle.read_tokens.specs.declared.Token.{Token}
 use Rattle.read_tokens.specs.declared.Token.the-variants.{Word, Mark, Bad, End}
@@ -66,22 +66,22 @@ TestThen code s names n p before after r =
     Ends s (p .at) (p .used) 1 r
     × ((q : Query) → Found-in names n q → Answers (Is condition) (λ t. testCodes q t ++ (code ∷ [])) testUses q s p before after r)
 
--- a T in square brackets, with 6 behind it
+-- a T in square brackets
 abbrev pub Bracketed : List ℕ → List ℕ → ℕ → Place → List ℕ → List ℕ → Parsed → Type 0
 Bracketed s names n p before after r =
     Ends s (p .at) (p .used) 0 r
-    × ((q : Query) → Found-in names n q → Answers (Is bracketed) (λ t. testCodes q t ++ (6 ∷ [])) testUses q s p before after r)
+    × ((q : Query) → Found-in names n q → Answers (Is bracketed) (λ t. testCodes q t ++ (TESTED ∷ [])) testUses q s p before after r)
 
 -- `[T] [U]`
 unfoldable pub limitsReader : List Piece → Found Limit
 limitsReader ts = andThen (bracketed ts) (λ t us. mapped (λ u. record { from = t; to = u }) (bracketed us))
 
--- both of them with 6 behind each, and then a code
+-- both of them, and then a code
 abbrev pub LimitsThen : ℕ → List ℕ → List ℕ → ℕ → Place → List ℕ → List ℕ → Parsed → Type 0
 LimitsThen code s names n p before after r =
     Ends s (p .at) (p .used) 1 r
     × ((q : Query) → Found-in names n q
-    → Answers (Is limitsReader) (λ l. (testCodes q (l .from) ++ (6 ∷ [])) ++ ((testCodes q (l .to) ++ (6 ∷ [])) ++ (code ∷ [])))
+    → Answers (Is limitsReader) (λ l. (testCodes q (l .from) ++ (TESTED ∷ [])) ++ ((testCodes q (l .to) ++ (TESTED ∷ [])) ++ (code ∷ [])))
     (λ l. testUses (l .from) ++ testUses (l .to)) q s p before after r)
 
 -- The reader D found a line of the sort in the tokens from `at` on, and the place r stands behind it. The codes are those of the line

@@ -113,7 +113,7 @@ pub fn bracketed(s: &[u8], names: &[u64], n: usize, p: Place, out: &mut [u64; 40
             used: p.used,
             slip: p.slip,
         },
-        6,
+        codes::TESTED,
         out,
     );
     match r {
@@ -162,7 +162,7 @@ pub fn let_body(
                     used,
                     slip,
                 },
-                130,
+                codes::LET_LINE,
                 out,
             )
         }
@@ -228,9 +228,16 @@ pub fn within_body(
             let p = Place {
                 at: next,
                 used,
-                slip: read_names::slip_of(c, 32, 64),
+                slip: read_names::slip_of(c, codes::A_RELATION, codes::A_LET),
             };
-            limits(s, names, n, p, 144 + read_names::relation_number(c), out)
+            limits(
+                s,
+                names,
+                n,
+                p,
+                codes::WITHIN_LINE + read_names::relation_number(c),
+                out,
+            )
         }
         Token::Mark(_, _) => Parsed::Wrong,
         Token::Bad => Parsed::Wrong,
@@ -257,11 +264,16 @@ pub fn closed_body(
                 return Parsed::Wrong;
             }
             let c = read_names::find(names, n, k);
-            let end = read_tests::write(out, used, 1, 160 + read_names::relation_number(c));
+            let end = read_tests::write(
+                out,
+                used,
+                1,
+                codes::CLOSED_LINE + read_names::relation_number(c),
+            );
             Parsed::Got(Place {
                 at: next,
                 used: end,
-                slip: read_names::slip_of(c, 32, 64),
+                slip: read_names::slip_of(c, codes::A_RELATION, codes::A_LET),
             })
         }
         Token::Mark(_, _) => Parsed::Wrong,
@@ -329,7 +341,14 @@ pub fn two_sides(
     requires { ⌜ used + (length (now s) - at) + 1 ≤ 4096 ⌝ }
     ensures { λ r. ⌜ BodyOutcome includeReader (Bare true) (now (s .entry)) (now (names .entry)) n at used (now (out .entry)) (now (out .exit)) r ⌝ }
 {
-    let r = expression_then(s, names, n, Place { at, used, slip: 0 }, 135, out);
+    let r = expression_then(
+        s,
+        names,
+        n,
+        Place { at, used, slip: 0 },
+        codes::INCLUDED,
+        out,
+    );
     match r {
         Parsed::Got(g) => {
             let next = read_tests::word_next(s, g.at, read_names::word_key(read_names::IN));
@@ -345,7 +364,7 @@ pub fn two_sides(
                     used: g.used,
                     slip: g.slip,
                 },
-                136,
+                codes::CLAIM_INCLUDE,
                 out,
             )
         }
@@ -370,5 +389,14 @@ pub fn claim_body(
     if i != 0 {
         return two_sides(s, i, names, n, used, out);
     }
-    one_side(s, at, names, n, used, 137, 138, out)
+    one_side(
+        s,
+        at,
+        names,
+        n,
+        used,
+        codes::CLAIM_EMPTY,
+        codes::CLAIM_IRREFLEXIVE,
+        out,
+    )
 }

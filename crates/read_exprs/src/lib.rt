@@ -38,7 +38,7 @@ pub fn union(
         match r {
             Parsed::Got(got) => {
                 let at = got.at;
-                let used = read_tests::write(out, got.used, more, 7);
+                let used = read_tests::write(out, got.used, more, codes::UNION);
                 let next = read_tests::mark_next(s, at, b'|');
                 if next == 0 {
                     return Parsed::Got(Place {
@@ -79,7 +79,7 @@ fn sequence(
         match r {
             Parsed::Got(got) => {
                 let at = got.at;
-                let used = read_tests::write(out, got.used, more, 8);
+                let used = read_tests::write(out, got.used, more, codes::SEQUENCE);
                 let next = read_tests::mark_next(s, at, b';');
                 if next == 0 {
                     return Parsed::Got(Place {
@@ -185,7 +185,7 @@ fn leaf(s: &[u8], names: &[u64], n: usize, depth: usize, p: Place, out: &mut [u6
             if end == 0 {
                 return Parsed::Wrong;
             }
-            let used = read_tests::write(out, got.used, 1, 6);
+            let used = read_tests::write(out, got.used, 1, codes::TESTED);
             Parsed::Got(Place {
                 at: end,
                 used,
@@ -214,7 +214,10 @@ fn named(s: &[u8], names: &[u64], n: usize, p: Place, out: &mut [u64; 4096]) -> 
             Parsed::Got(Place {
                 at: next,
                 used: used + 1,
-                slip: read_names::first_slip(p.slip, read_names::slip_of(code, 32, 128)),
+                slip: read_names::first_slip(
+                    p.slip,
+                    read_names::slip_of(code, codes::A_RELATION, codes::LINE),
+                ),
             })
         }
         Token::Mark(_, _) => Parsed::Wrong,
@@ -229,15 +232,24 @@ fn sign_next(s: &[u8], at: usize) -> Sign
 {
     let star = read_tests::mark_next(s, at, b'*');
     if star != 0 {
-        return Sign { at: star, code: 9 };
+        return Sign {
+            at: star,
+            code: codes::STAR,
+        };
     }
     let plus = read_tests::mark_next(s, at, b'+');
     if plus != 0 {
-        return Sign { at: plus, code: 10 };
+        return Sign {
+            at: plus,
+            code: codes::PLUS,
+        };
     }
     let opt = read_tests::mark_next(s, at, b'?');
     if opt != 0 {
-        return Sign { at: opt, code: 11 };
+        return Sign {
+            at: opt,
+            code: codes::OPTIONAL,
+        };
     }
     Sign { at, code: 0 }
 }

@@ -16,7 +16,7 @@ use Rattle.claims.specs.Query.{Query, each, tests, relations, lets}
 use Rattle.claims.specs.Lines.{line}
 use Rattle.claims.specs.Refusals.{afterClaim, Result, ok, refuse}
 use Rattle.claims.specs.Reading.{claimOf, readLine}
-use Rattle.codes.specs.Codes.{codeOf, queryCodes}
+use Rattle.codes.specs.Codes.{codeOf, queryCodes, MOST-TESTS, MOST-RELATIONS, MOST-LETS}
 use Rattle.read_tokens.specs.Scan.{wordByte, keyOf}
 use Rattle.read_names.specs.Keys.{findIn}
 use Rattle.read_lines.specs.declared.State.{State}
@@ -44,9 +44,9 @@ pub record After (q : Query) (st : State) (before out : List ℕ) : Type 0 where
 
 -- no more is declared than may be
 pub record Small (st : State) : Type 0 where
-  pub tests : st .tests ≤ 6
-  pub relations : st .relations ≤ 16
-  pub lets : st .lets ≤ 32
+  pub tests : st .tests ≤ MOST-TESTS
+  pub relations : st .relations ≤ MOST-RELATIONS
+  pub lets : st .lets ≤ MOST-LETS
   pub names : st .names ≤ 54
 
 -- n whole entries, each with a code that is not 0

@@ -130,14 +130,19 @@ fn test_line(
     requires { ⌜ Small st × (st .used + (length (now s) - at) + 1 ≤ 4096) ⌝ }
     ensures { λ r. ⌜ KindOutcome (λ ts. mapped testLine (declared ts)) (now (s .entry)) at ended st (now (names .entry)) (now (out .entry)) r (now (names .exit)) (now (out .exit)) ⌝ }
 {
-    let r = read_bodies::declaration(s, at, names, st.names, st.used, 128, out);
+    let r = read_bodies::declaration(s, at, names, st.names, st.used, codes::TEST_LINE, out);
     let c = check(s, r, ended);
     match c {
         Checked::Fine(used) => {
-            if 6 <= st.tests {
+            if codes::MOST_TESTS <= st.tests {
                 return LineRead::Refused(Reason::TooMany);
             }
-            read_names::enter(names, st.names, word_at(s, at), 16 + (st.tests as u64));
+            read_names::enter(
+                names,
+                st.names,
+                word_at(s, at),
+                codes::A_TEST + (st.tests as u64),
+            );
             LineRead::Taken(State {
                 used,
                 names: st.names + 1,
@@ -163,14 +168,19 @@ fn rel_line(
     requires { ⌜ Small st × (st .used + (length (now s) - at) + 1 ≤ 4096) ⌝ }
     ensures { λ r. ⌜ KindOutcome (λ ts. mapped relLine (declared ts)) (now (s .entry)) at ended st (now (names .entry)) (now (out .entry)) r (now (names .exit)) (now (out .exit)) ⌝ }
 {
-    let r = read_bodies::declaration(s, at, names, st.names, st.used, 129, out);
+    let r = read_bodies::declaration(s, at, names, st.names, st.used, codes::REL_LINE, out);
     let c = check(s, r, ended);
     match c {
         Checked::Fine(used) => {
-            if 16 <= st.relations {
+            if codes::MOST_RELATIONS <= st.relations {
                 return LineRead::Refused(Reason::TooMany);
             }
-            read_names::enter(names, st.names, word_at(s, at), 32 + (st.relations as u64));
+            read_names::enter(
+                names,
+                st.names,
+                word_at(s, at),
+                codes::A_RELATION + (st.relations as u64),
+            );
             LineRead::Taken(State {
                 used,
                 names: st.names + 1,
@@ -200,10 +210,15 @@ fn let_line(
     let c = check(s, r, ended);
     match c {
         Checked::Fine(used) => {
-            if 32 <= st.lets {
+            if codes::MOST_LETS <= st.lets {
                 return LineRead::Refused(Reason::TooMany);
             }
-            read_names::enter(names, st.names, word_at(s, at), 64 + (st.lets as u64));
+            read_names::enter(
+                names,
+                st.names,
+                word_at(s, at),
+                codes::A_LET + (st.lets as u64),
+            );
             LineRead::Taken(State {
                 used,
                 names: st.names + 1,
@@ -238,7 +253,7 @@ fn never_line(
             used: st.used,
             slip: 0,
         },
-        131,
+        codes::NEVER_LINE,
         out,
     );
     plain(s, r, ended, st, st.claimed)
@@ -288,7 +303,16 @@ fn assume_line(
     requires { ⌜ Small st × (st .used + (length (now s) - at) + 1 ≤ 4096) ⌝ }
     ensures { λ r. ⌜ KindOutcome (choose assumptions) (now (s .entry)) at ended st (now (names .entry)) (now (out .entry)) r (now (names .exit)) (now (out .exit)) ⌝ }
 {
-    let r = read_bodies::one_side(s, at, names, st.names, st.used, 133, 134, out);
+    let r = read_bodies::one_side(
+        s,
+        at,
+        names,
+        st.names,
+        st.used,
+        codes::ASSUME_EMPTY,
+        codes::ASSUME_IRREFLEXIVE,
+        out,
+    );
     plain(s, r, ended, st, st.claimed)
 }
 

@@ -11,7 +11,7 @@ use Rattle.claims.specs.Tokens.{reservedWords}
 use Rattle.claims.specs.Query.{Query, tests, relations}
 use Rattle.read_tokens.specs.declared.Key.{Key}
 use Rattle.read_tokens.specs.Scan.{keyOf, Spelled}
-use Rattle.codes.specs.Codes.{codeOf, letNames}
+use Rattle.codes.specs.Codes.{codeOf, letNames, MOST-TESTS, MOST-RELATIONS, MOST-LETS}
 
 unfoldable pub sameKey : Key → Key → Bool
 sameKey a b = eqb (a .high) (b .high) && eqb (a .low) (b .low)
@@ -40,6 +40,6 @@ entered names n k c = set (set (set names (n * 3) (k .high)) (n * 3 + 1) (k .low
 -- the table of names holds the names that the lines of q declare, of which there are no more than a query may have
 pub record Knows (names : List ℕ) (n : ℕ) (q : Query) : Type 0 where
   pub codes : (w : List ℕ) → Spelled w → findIn n names (keyOf w) ≡ codeOf q w
-  pub fewTests : length (tests q) ≤ 6
-  pub fewRelations : length (relations q) ≤ 16
-  pub fewLets : length (letNames q) ≤ 32
+  pub fewTests : length (tests q) ≤ MOST-TESTS
+  pub fewRelations : length (relations q) ≤ MOST-RELATIONS
+  pub fewLets : length (letNames q) ≤ MOST-LETS

@@ -7,6 +7,7 @@ use mathlib.Core.List.{List}
 use mathlib.Core.Option.{Option, some, none}
 use lib.Dec.{eqb, ltb}
 use Rattle.claims.specs.Refusals.{Cause, tooLong, badByte, notation, tooDeep, unknownName, wrongKind, declaredTwice, reservedName, tooMany, noClaim, afterClaim, overLimit, badAllowance, shortMemory, spentAllowance, shortBuffer, graphField, sheetField, doesNotPass}
+use Rattle.codes.specs.Codes.{A-RELATION, A-LET}
 use Rattle.read_tokens.specs.declared.Key.{Key}
 use Rattle.read_names.specs.Keys.{reservedKey, findIn}
 
@@ -16,7 +17,7 @@ declaredSlip n names k = cond (reservedKey k) 4 (cond (eqb (findIn n names k) 0)
 
 -- the number of a relation, by its code
 unfoldable pub relationNumber : ℕ → ℕ
-relationNumber c = cond (ltb c 32) 0 (cond (ltb c 64) (c - 32) 0)
+relationNumber c = cond (ltb c A-RELATION) 0 (cond (ltb c A-LET) (c - A-RELATION) 0)
 
 -- the causes that a name can have, in this order; no name has another
 abbrev pub causeIndex : Cause → ℕ

@@ -194,11 +194,11 @@ pub fn declaration_slip(k: Key, names: &[u64], n: usize) -> u64
 pub fn relation_number(code: u64) -> u64
     ensures { λ r. ⌜ (r ≡ relationNumber code) × (r < 32) ⌝ }
 {
-    if code < 32 {
+    if code < codes::A_RELATION {
         return 0;
     }
-    if code < 64 {
-        return code - 32;
+    if code < codes::A_LET {
+        return code - codes::A_RELATION;
     }
     0
 }

@@ -108,7 +108,7 @@ pub fn union(
         match r {
             Parsed::Got(got) => {
                 let at = got.at;
-                let used = write(out, got.used, more, 3);
+                let used = write(out, got.used, more, codes::OR);
                 let next = mark_next(s, at, b'|');
                 if next == 0 {
                     return Parsed::Got(Place {
@@ -142,7 +142,7 @@ fn meet(s: &[u8], names: &[u64], n: usize, depth: usize, p: Place, out: &mut [u6
         match r {
             Parsed::Got(got) => {
                 let at = got.at;
-                let used = write(out, got.used, more, 4);
+                let used = write(out, got.used, more, codes::AND);
                 let next = mark_next(s, at, b'&');
                 if next == 0 {
                     return Parsed::Got(Place {
@@ -178,7 +178,7 @@ fn not(s: &[u8], names: &[u64], n: usize, depth: usize, p: Place, out: &mut [u64
     let r = basic(s, names, n, depth, inner, out);
     match r {
         Parsed::Got(got) => {
-            let used = write(out, got.used, run.count, 5);
+            let used = write(out, got.used, run.count, codes::NOT);
             Parsed::Got(Place {
                 at: got.at,
                 used,
@@ -235,7 +235,7 @@ fn word(s: &[u8], names: &[u64], n: usize, p: Place, out: &mut [u64; 4096]) -> P
     match t {
         Token::Word(k, next) => {
             if read_names::same_key(read_names::word_key(read_names::TRUE), k) {
-                out[used] = 1;
+                out[used] = codes::TRUE;
                 return Parsed::Got(Place {
                     at: next,
                     used: used + 1,
@@ -243,7 +243,7 @@ fn word(s: &[u8], names: &[u64], n: usize, p: Place, out: &mut [u64; 4096]) -> P
                 });
             }
             if read_names::same_key(read_names::word_key(read_names::FALSE), k) {
-                out[used] = 2;
+                out[used] = codes::FALSE;
                 return Parsed::Got(Place {
                     at: next,
                     used: used + 1,
@@ -258,7 +258,10 @@ fn word(s: &[u8], names: &[u64], n: usize, p: Place, out: &mut [u64; 4096]) -> P
             Parsed::Got(Place {
                 at: next,
                 used: used + 1,
-                slip: read_names::first_slip(p.slip, read_names::slip_of(code, 16, 32)),
+                slip: read_names::first_slip(
+                    p.slip,
+                    read_names::slip_of(code, codes::A_TEST, codes::A_RELATION),
+                ),
             })
         }
         Token::Mark(_, _) => Parsed::Wrong,

@@ -25,13 +25,13 @@ fn bad_line(text: &[u8]) -> usize
     let mut i = 0;
     while i < text.len() {
         let b = text[i];
-        if b == 10 {
+        if b == b'\n' {
             line += 1;
         } else {
-            if b < 32 {
+            if b < b' ' {
                 return line;
             }
-            if 126 < b {
+            if b'~' < b {
                 return line;
             }
         }
@@ -47,7 +47,7 @@ fn line_end(text: &[u8], at: usize) -> usize
 {
     let mut i = at;
     while i < text.len() {
-        if text[i] == 10 {
+        if text[i] == b'\n' {
             return i;
         }
         i += 1;

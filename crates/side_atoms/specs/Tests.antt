@@ -9,6 +9,7 @@ use lib.Bits.{bitAnd, bitOr}
 use lib.Dec.{eqb, leb, ltb}
 use lib.ListN.{length, getD}
 use Rattle.claims.specs.Query.{bit}
+use Rattle.codes.specs.Codes.{TRUE, FALSE, OR, AND, NOT, A-TEST, LAST-TEST}
 use Rattle.side_atoms.specs.Atoms.{atomsOf, allAtoms}
 
 -- what is on top
@@ -37,12 +38,12 @@ holding i = atomsOf (bit i)
 -- one code: `true`, `false`, `|`, `&`, `!`, or one of the 6 tests, by the numbers of `codes`; the stack has room for n ("The query")
 unfoldable pub testStep : ℕ → ℕ → List ℕ → List ℕ
 testStep n c st =
-    cond (eqb c 1) (push n allAtoms st)
-    (cond (eqb c 2) (push n 0 st)
-    (cond (eqb c 3) (push n (bitOr (top (under st)) (top st)) (under (under st)))
-    (cond (eqb c 4) (push n (bitAnd (top (under st)) (top st)) (under (under st)))
-    (cond (eqb c 5) (push n (allAtoms - top st) (under st))
-    (cond (leb 16 c) (cond (leb c 21) (push n (holding (c - 16)) st) st) st)))))
+    cond (eqb c TRUE) (push n allAtoms st)
+    (cond (eqb c FALSE) (push n 0 st)
+    (cond (eqb c OR) (push n (bitOr (top (under st)) (top st)) (under (under st)))
+    (cond (eqb c AND) (push n (bitAnd (top (under st)) (top st)) (under (under st)))
+    (cond (eqb c NOT) (push n (allAtoms - top st) (under st))
+    (cond (leb A-TEST c) (cond (leb c LAST-TEST) (push n (holding (c - A-TEST)) st) st) st)))))
 
 -- the codes, one after another
 unfoldable pub runTest : ℕ → List ℕ → List ℕ → List ℕ

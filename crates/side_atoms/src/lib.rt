@@ -54,12 +54,12 @@ fn test_step(stack: &mut [u64], n: usize, code: u64) -> usize
     let m = words::less(n);
     let b = peek(stack, m);
     match code {
-        1 => put(stack, n, ALL),
-        2 => put(stack, n, 0),
-        3 => put(stack, words::less(m), b | a),
-        4 => put(stack, words::less(m), b & a),
-        5 => put(stack, m, ALL - a),
-        16..=21 => put(stack, n, holding_atoms(code - 16)),
+        codes::TRUE => put(stack, n, ALL),
+        codes::FALSE => put(stack, n, 0),
+        codes::OR => put(stack, words::less(m), b | a),
+        codes::AND => put(stack, words::less(m), b & a),
+        codes::NOT => put(stack, m, ALL - a),
+        codes::A_TEST..=codes::LAST_TEST => put(stack, n, holding_atoms(code - codes::A_TEST)),
         _ => n,
     }
 }

@@ -4,6 +4,7 @@
 -- Assumes nothing.
 use Prim.Native.Nat.{ℕ}
 use mathlib.Core.List.{List}
+use Rattle.codes.specs.Codes.{TEST-LINE}
 use Rattle.side_limits.specs.Tally.{times}
 use Rattle.side_turned.specs.Turned.{sideWords}
 use Rattle.side_items.specs.Items.{itemsOf}
@@ -34,5 +35,5 @@ builtFrom ks =
     record {
       left = leftMachine (relsOf ks) ks .used;
       right = rightMachine (relsOf ks) ks .used;
-      live = liveSet (times 128 ks) (removedSet (itemsOf ks));
+      live = liveSet (times TEST-LINE ks) (removedSet (itemsOf ks));
     }

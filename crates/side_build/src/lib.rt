@@ -2,6 +2,7 @@
 ghost use Prim.Native.Nat.{_≤_};
 ghost use mathlib.Core.Path.{_≡_};
 ghost use lib.ListN.{length, take};
+ghost use Rattle.codes.specs.Codes.{TEST-LINE};
 ghost use Rattle.side_limits.specs.Tally.{times};
 ghost use Rattle.side_items.specs.Items.{argsOf, itemsOf};
 ghost use Rattle.side_relations.specs.Relations.{removedSet, liveSet};
@@ -24,7 +25,7 @@ fn prepare(
     ops: &mut [u64],
     xs: &mut [u64],
     next: &mut [u64],
-    rels: &mut [u64; 48],
+    rels: &mut [u64; codes::RELATION_SETS],
 )
     requires { ⌜ Places (now codes) (now args) (now ops) (now xs) (now next) × (length (now codes) ≤ 4096) ⌝ }
     ensures { λ r. ⌜ (now (args .exit) ≡ argsOf (now (codes .entry))) × (now (rels .exit) ≡ relsOf (now (codes .entry))) × Onward (now (next .exit))
@@ -42,7 +43,7 @@ fn fill_left(
     ops: &[u64],
     xs: &[u64],
     next: &[u64],
-    rels: &[u64; 48],
+    rels: &[u64; codes::RELATION_SETS],
     table: &mut [u64; 4241],
 ) -> usize
     requires { ⌜ (length (now codes) ≡ length (now next)) × (length (now ops) ≡ length (now next)) × (length (now xs) ≡ length (now next))
@@ -79,7 +80,7 @@ fn fill_right(
     ops: &[u64],
     xs: &[u64],
     next: &[u64],
-    rels: &[u64; 48],
+    rels: &[u64; codes::RELATION_SETS],
     table: &mut [u64; 4241],
 ) -> usize
     requires { ⌜ (length (now codes) ≡ length (now next)) × (length (now ops) ≡ length (now next)) × (length (now xs) ≡ length (now next))
@@ -126,9 +127,9 @@ fn fill_right(
 // The atoms that are left.
 fn live_of(codes: &[u64], args: &[u64]) -> u64
     requires { ⌜ (now args ≡ argsOf (now codes)) × (length (now args) ≡ length (now codes)) ⌝ }
-    ensures { λ r. ⌜ r ≡ liveSet (times 128 (now (codes .entry))) (removedSet (itemsOf (now (codes .entry)))) ⌝ }
+    ensures { λ r. ⌜ r ≡ liveSet (times TEST-LINE (now (codes .entry))) (removedSet (itemsOf (now (codes .entry)))) ⌝ }
 {
-    let tests = side_limits::times(codes, 128);
+    let tests = side_limits::times(codes, codes::TEST_LINE);
     let removed = side_relations::removed_set(codes, args);
     side_relations::live_set(tests, removed)
 }
@@ -147,7 +148,7 @@ fn build_in(
     ensures { λ r. ⌜ (r ≡ builtFrom (now (codes .entry))) × (now (left .exit) ≡ leftTable (now (codes .entry)))
         × (now (right .exit) ≡ rightTable (now (codes .entry))) ⌝ }
 {
-    let mut rels = [0u64; 48];
+    let mut rels = [0u64; codes::RELATION_SETS];
     prepare(codes, args, ops, xs, next, &mut rels);
     let m = fill_left(codes, ops, xs, next, &rels, left);
     let n = fill_right(codes, ops, xs, next, &rels, right);

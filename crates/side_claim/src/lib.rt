@@ -8,6 +8,7 @@ use side_runs::run_union;
 ghost use Prim.Native.Nat.{_≤_};
 ghost use mathlib.Core.Path.{_≡_};
 ghost use lib.ListN.{length};
+ghost use Rattle.codes.specs.Codes.{SEQUENCE};
 ghost use Rattle.side_items.specs.Items.{itemsOf};
 ghost use Rattle.side_parts.specs.Machine.{stepped, nothingBuilt};
 ghost use Rattle.side_claim.specs.Sides.{leftMachine, claimKind, zeroSet, besides, between, anyStar, rightMachine};
@@ -24,13 +25,13 @@ fn claim_kind(codes: &[u64]) -> u64
     codes[codes.len() - 1]
 }
 
-// The left side: the expression that ends with 135, 137 or 138.
+// The left side: the expression of the claim, or what stands before `in`.
 pub fn left_side(
     codes: &[u64],
     ops: &[u64],
     xs: &[u64],
     next: &[u64],
-    rels: &[u64; 48],
+    rels: &[u64; codes::RELATION_SETS],
     first: &mut [u64; 64],
     last: &mut [u64; 64],
     follow: &mut [u64; 4096],
@@ -57,7 +58,7 @@ pub fn left_side(
         follow,
         letters,
         parts,
-        135,
+        codes::INCLUDED,
         none,
     );
     let absent = run_kind(
@@ -71,7 +72,7 @@ pub fn left_side(
         follow,
         letters,
         parts,
-        137,
+        codes::CLAIM_EMPTY,
         included.top,
     );
     let ring = run_kind(
@@ -85,7 +86,7 @@ pub fn left_side(
         follow,
         letters,
         parts,
-        138,
+        codes::CLAIM_IRREFLEXIVE,
         absent.top,
     );
     ring.top
@@ -97,7 +98,7 @@ pub fn zero_set(
     ops: &[u64],
     xs: &[u64],
     next: &[u64],
-    rels: &[u64; 48],
+    rels: &[u64; codes::RELATION_SETS],
     first: &mut [u64; 64],
     last: &mut [u64; 64],
     follow: &mut [u64; 4096],
@@ -123,7 +124,7 @@ pub fn zero_set(
         follow,
         letters,
         parts,
-        134,
+        codes::ASSUME_IRREFLEXIVE,
         none,
     );
     null_at(parts, own.height)
@@ -131,7 +132,7 @@ pub fn zero_set(
 
 // any*
 fn any_star(
-    rels: &[u64; 48],
+    rels: &[u64; codes::RELATION_SETS],
     first: &mut [u64; 64],
     last: &mut [u64; 64],
     follow: &mut [u64; 4096],
@@ -145,8 +146,28 @@ fn any_star(
         ≡ anyStar (now (rels .entry))
         (machineIn (now (first .entry)) (now (last .entry)) (now (follow .entry)) (now (letters .entry)) (now (parts .entry)) top)) ⌝ }
 {
-    let any = step(48, 0, rels, first, last, follow, letters, parts, top);
-    step(9, 0, rels, first, last, follow, letters, parts, any)
+    let any = step(
+        codes::ANY,
+        0,
+        rels,
+        first,
+        last,
+        follow,
+        letters,
+        parts,
+        top,
+    );
+    step(
+        codes::STAR,
+        0,
+        rels,
+        first,
+        last,
+        follow,
+        letters,
+        parts,
+        any,
+    )
 }
 
 // What any*;e;any* is united with: y of an inclusion, `[false]` of an empty claim, a1 of a ring claim.
@@ -155,7 +176,7 @@ fn beside(
     ops: &[u64],
     xs: &[u64],
     next: &[u64],
-    rels: &[u64; 48],
+    rels: &[u64; codes::RELATION_SETS],
     first: &mut [u64; 64],
     last: &mut [u64; 64],
     follow: &mut [u64; 4096],
@@ -173,7 +194,7 @@ fn beside(
         (machineIn (now (first .entry)) (now (last .entry)) (now (follow .entry)) (now (letters .entry)) (now (parts .entry)) top)) ⌝ }
 {
     let kind = claim_kind(codes);
-    if kind == 138 {
+    if kind == codes::CLAIM_IRREFLEXIVE {
         return run_union(
             codes,
             ops,
@@ -185,11 +206,11 @@ fn beside(
             follow,
             letters,
             parts,
-            134,
+            codes::ASSUME_IRREFLEXIVE,
             top,
         );
     }
-    if kind == 136 {
+    if kind == codes::CLAIM_INCLUDE {
         let ran = run_kind(
             codes,
             ops,
@@ -201,12 +222,22 @@ fn beside(
             follow,
             letters,
             parts,
-            136,
+            codes::CLAIM_INCLUDE,
             top,
         );
         return ran.top;
     }
-    step(6, 0, rels, first, last, follow, letters, parts, top)
+    step(
+        codes::TESTED,
+        0,
+        rels,
+        first,
+        last,
+        follow,
+        letters,
+        parts,
+        top,
+    )
 }
 
 // a0, and in a path claim `zero` with it, the set of the atoms that are words of a1.
@@ -215,7 +246,7 @@ fn inside(
     ops: &[u64],
     xs: &[u64],
     next: &[u64],
-    rels: &[u64; 48],
+    rels: &[u64; codes::RELATION_SETS],
     first: &mut [u64; 64],
     last: &mut [u64; 64],
     follow: &mut [u64; 4096],
@@ -244,14 +275,34 @@ fn inside(
         follow,
         letters,
         parts,
-        133,
+        codes::ASSUME_EMPTY,
         top,
     );
-    if claim_kind(codes) == 138 {
+    if claim_kind(codes) == codes::CLAIM_IRREFLEXIVE {
         return empty;
     }
-    let with = step(6, zero, rels, first, last, follow, letters, parts, empty);
-    step(7, 0, rels, first, last, follow, letters, parts, with)
+    let with = step(
+        codes::TESTED,
+        zero,
+        rels,
+        first,
+        last,
+        follow,
+        letters,
+        parts,
+        empty,
+    );
+    step(
+        codes::UNION,
+        0,
+        rels,
+        first,
+        last,
+        follow,
+        letters,
+        parts,
+        with,
+    )
 }
 
 // The right side up to the second any*: what the rest is united with, and any*;e.
@@ -260,7 +311,7 @@ fn opening(
     ops: &[u64],
     xs: &[u64],
     next: &[u64],
-    rels: &[u64; 48],
+    rels: &[u64; codes::RELATION_SETS],
     first: &mut [u64; 64],
     last: &mut [u64; 64],
     follow: &mut [u64; 4096],
@@ -274,7 +325,7 @@ fn opening(
     ensures { λ r. ⌜ Fits (now (first .exit)) (now (last .exit)) (now (follow .exit)) (now (letters .exit)) (now (parts .exit)) r
         × (Jumps (itemsOf (now (codes .entry))) (now (ops .entry)) (now (xs .entry)) (now (next .entry)) → zero ≡ zeroSet (now (rels .entry)) (now (codes .entry))
         → machineIn (now (first .exit)) (now (last .exit)) (now (follow .exit)) (now (letters .exit)) (now (parts .exit)) r
-        ≡ stepped (now (rels .entry)) 8 0 (between (now (rels .entry)) (now (codes .entry))
+        ≡ stepped (now (rels .entry)) SEQUENCE 0 (between (now (rels .entry)) (now (codes .entry))
         (anyStar (now (rels .entry)) (besides (now (rels .entry)) (now (codes .entry)) (nothingBuilt 0))))) ⌝ }
 {
     let none = nothing(0, first, last, follow, letters);
@@ -306,7 +357,17 @@ fn opening(
         zero,
         any,
     );
-    step(8, 0, rels, first, last, follow, letters, parts, both)
+    step(
+        codes::SEQUENCE,
+        0,
+        rels,
+        first,
+        last,
+        follow,
+        letters,
+        parts,
+        both,
+    )
 }
 
 // The right side: y | any*;(a0 | zero);any*, or a1 | any*;a0;any*.
@@ -315,7 +376,7 @@ pub fn right_side(
     ops: &[u64],
     xs: &[u64],
     next: &[u64],
-    rels: &[u64; 48],
+    rels: &[u64; codes::RELATION_SETS],
     first: &mut [u64; 64],
     last: &mut [u64; 64],
     follow: &mut [u64; 4096],
@@ -345,6 +406,26 @@ pub fn right_side(
         zero,
     );
     let any = any_star(rels, first, last, follow, letters, parts, before);
-    let path = step(8, 0, rels, first, last, follow, letters, parts, any);
-    step(7, 0, rels, first, last, follow, letters, parts, path)
+    let path = step(
+        codes::SEQUENCE,
+        0,
+        rels,
+        first,
+        last,
+        follow,
+        letters,
+        parts,
+        any,
+    );
+    step(
+        codes::UNION,
+        0,
+        rels,
+        first,
+        last,
+        follow,
+        letters,
+        parts,
+        path,
+    )
 }

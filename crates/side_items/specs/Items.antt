@@ -6,11 +6,12 @@ use mathlib.Core.Bool.{Bool, cond, _&&_, _||_}
 use mathlib.Core.List.{List, [], _∷_, _++_}
 use lib.Dec.{eqb, leb, ltb}
 use lib.ListN.{getD}
+use Rattle.codes.specs.Codes.{TESTED, A-TEST, A-RELATION, A-LET, LETS-END, LINE, LET-LINE, NEVER-LINE}
 use Rattle.side_atoms.specs.Tests.{testSet}
 
 -- a code of a T
 unfoldable pub ofTest : ℕ → Bool
-ofTest k = ltb k 6 || (leb 16 k && ltb k 32)
+ofTest k = ltb k TESTED || (leb A-TEST k && ltb k A-RELATION)
 
 -- what was met up to a code: its place, where its line starts, the codes of a T just before it, and where the lines of the lets start
 pub record Scan : Type 0 where
@@ -22,16 +23,16 @@ pub record Scan : Type 0 where
 -- what the code k needs
 unfoldable pub argOf : Scan → ℕ → ℕ
 argOf s k =
-    cond (eqb k 6 || eqb k 131) (testSet (s .pending)) (cond (leb 64 k && ltb k 96) (getD (s .starts) (k - 64) 0) 0)
+    cond (eqb k TESTED || eqb k NEVER-LINE) (testSet (s .pending)) (cond (leb A-LET k && ltb k LETS-END) (getD (s .starts) (k - A-LET) 0) 0)
 
--- one code more: from 128 on it ends a line, and 130 that of a let
+-- one code more, which may end a line, and that of a let
 unfoldable pub scanned : Scan → ℕ → Scan
 scanned s k =
     record {
       at = s .at + 1;
-      line = cond (leb 128 k) (s .at + 1) (s .line);
+      line = cond (leb LINE k) (s .at + 1) (s .line);
       pending = cond (ofTest k) (s .pending ++ (k ∷ [])) [];
-      starts = cond (eqb k 130) (s .starts ++ (s .line ∷ [])) (s .starts);
+      starts = cond (eqb k LET-LINE) (s .starts ++ (s .line ∷ [])) (s .starts);
     }
 
 unfoldable pub argsFrom : Scan → List ℕ → List ℕ
@@ -61,11 +62,11 @@ paired (k ∷ ks) (x ∷ xs) = record { code = k; arg = x } ∷ paired ks xs
 unfoldable pub itemsOf : List ℕ → List Item
 itemsOf ks = paired ks (argsOf ks)
 
--- where the expressions start that end with the code k: a line from its start, and the right side of an inclusion behind 135
+-- where the expressions start that end with the code k: a line from its start, and the right side of an inclusion behind `INCLUDED`
 unfoldable pub startsFrom : ℕ → ℕ → ℕ → List ℕ → List ℕ
 startsFrom k at start [] = []
 startsFrom k at start (c ∷ cs) =
-    cond (ltb c 128) (startsFrom k (at + 1) start cs)
+    cond (ltb c LINE) (startsFrom k (at + 1) start cs)
     (cond (eqb c k) (start ∷ startsFrom k (at + 1) (at + 1) cs) (startsFrom k (at + 1) (at + 1) cs))
 
 unfoldable pub startsOf : ℕ → List ℕ → List ℕ

@@ -5,36 +5,37 @@ ghost use mathlib.Core.Bool.{cond};
 ghost use lib.Dec.{leb};
 ghost use lib.ListN.{length, replicate};
 ghost use lib.Seq.{slice};
+ghost use Rattle.codes.specs.Codes.{LINE};
 ghost use Rattle.side_items.specs.Items.{ofTest, argOf, argsOf};
 
 // Whether a code is one of a T.
 pub fn of_test(k: u64) -> bool
     ensures { λ r. ⌜ r ≡ ofTest k ⌝ }
 {
-    if k < 6 {
+    if k < codes::TESTED {
         return true;
     }
-    if k < 16 {
+    if k < codes::A_TEST {
         return false;
     }
-    k < 32
+    k < codes::A_RELATION
 }
 
 // What the code k needs, where the codes of the T before it are those from one place to before another.
 fn arg_of(codes: &[u64], from: usize, to: usize, starts: &[u64; 32], k: u64) -> u64
     ensures { λ r. ⌜ r ≡ argOf (record { at = 0; line = 0; pending = slice from to (now (codes .entry)); starts = now (starts .entry) }) k ⌝ }
 {
-    if k == 6 {
+    if k == codes::TESTED {
         return side_atoms::test_atoms(codes, from, to);
     }
-    if k == 131 {
+    if k == codes::NEVER_LINE {
         return side_atoms::test_atoms(codes, from, to);
     }
-    if k < 64 {
+    if k < codes::A_LET {
         return 0;
     }
-    if k < 96 {
-        return starts[(k - 64) as usize];
+    if k < codes::LETS_END {
+        return starts[(k - codes::A_LET) as usize];
     }
     0
 }
@@ -42,9 +43,9 @@ fn arg_of(codes: &[u64], from: usize, to: usize, starts: &[u64; 32], k: u64) -> 
 // Where the line starts, behind the code k at place i.
 fn line_after(line: usize, i: usize, k: u64) -> usize
     requires { ⌜ i < 4096 ⌝ }
-    ensures { λ r. ⌜ r ≡ cond (leb 128 k) (i + 1) line ⌝ }
+    ensures { λ r. ⌜ r ≡ cond (leb LINE k) (i + 1) line ⌝ }
 {
-    if 128 <= k { i + 1 } else { line }
+    if codes::LINE <= k { i + 1 } else { line }
 }
 
 // Where the codes of a T just before start, behind the code k at place i.

@@ -7,13 +7,14 @@ use mathlib.Core.Bool.{Bool, _&&_}
 use mathlib.Core.List.{List, _∷_}
 use lib.Dec.{leb}
 use lib.ListN.{length, getD, drop}
+use Rattle.codes.specs.Codes.{STAR, OPTIONAL}
 use Rattle.side_parts.specs.Machine.{Machine}
 use Rattle.side_items.specs.Items.{Item}
 use Rattle.side_jumps.specs.Performing.{perform}
 
 -- `*`, `+` or `?`
 unfoldable pub postfix : ℕ → Bool
-postfix k = leb 9 k && leb k 11
+postfix k = leb STAR k && leb k OPTIONAL
 
 -- performing the code k with x, and then the items from place p on, which is further on than i, is performing them from i on
 pub record Leap (is : List Item) (i k x p : ℕ) : Type 0 where

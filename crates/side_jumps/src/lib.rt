@@ -6,6 +6,7 @@ ghost use mathlib.Core.Path.{_≡_};
 ghost use mathlib.Core.Bool.{cond};
 ghost use lib.Dec.{eqb};
 ghost use lib.ListN.{length, set};
+ghost use Rattle.codes.specs.Codes.{STAR};
 ghost use Rattle.side_items.specs.Items.{paired};
 ghost use Rattle.side_jumps.specs.Jumps.{Onward, Jumps};
 ghost use Rattle.side_jumps.specs.Leaps.{postfix, Leaps, Places};
@@ -14,17 +15,17 @@ ghost use Rattle.side_jumps.specs.Leaps.{postfix, Leaps, Places};
 fn is_postfix(k: u64) -> bool
     ensures { λ r. ⌜ r ≡ postfix k ⌝ }
 {
-    if k < 9 {
+    if k < codes::STAR {
         return false;
     }
-    k <= 11
+    k <= codes::OPTIONAL
 }
 
 // The one postfix that two in a row are.
 fn both(j: u64, k: u64) -> u64
-    ensures { λ r. ⌜ r ≡ cond (eqb j k) j 9 ⌝ }
+    ensures { λ r. ⌜ r ≡ cond (eqb j k) j STAR ⌝ }
 {
-    if j == k { j } else { 9 }
+    if j == k { j } else { codes::STAR }
 }
 
 // At place i stand the code k with x, and the place p of the next.

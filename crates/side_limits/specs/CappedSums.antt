@@ -5,6 +5,7 @@ use mathlib.Core.Path.{_≡_}
 use mathlib.Core.Bool.{Bool, cond}
 use lib.Dec.{eqb, ltb}
 use lib.ListN.{length}
+use Rattle.codes.specs.Codes.{LINE, LET-LINE, ASSUME-EMPTY, ASSUME-IRREFLEXIVE}
 use Rattle.side_limits.specs.declared.Sums.{Sums}
 use Rattle.side_limits.specs.Tally.{Tally, capped, endsLeft, rightEnd}
 
@@ -19,10 +20,10 @@ pub record Agrees (d : Tally) (s : Sums) : Type 0 where
 
 -- the machine sums after one code more, which counts w
 pub record Turned (s : Sums) (k t w : ℕ) (r : Sums) : Type 0 where
-  pub now : r .now ≡ cond (ltb k 128) (capped (s .now + w)) 0
-  pub lets : r .lets ≡ s .lets + cond (eqb k 130) 1 0
-  pub empty : r .empty ≡ capped (s .empty + cond (eqb k 133) (s .now) 0)
-  pub irreflexive : r .irreflexive ≡ capped (s .irreflexive + cond (eqb k 134) (s .now) 0)
+  pub now : r .now ≡ cond (ltb k LINE) (capped (s .now + w)) 0
+  pub lets : r .lets ≡ s .lets + cond (eqb k LET-LINE) 1 0
+  pub empty : r .empty ≡ capped (s .empty + cond (eqb k ASSUME-EMPTY) (s .now) 0)
+  pub irreflexive : r .irreflexive ≡ capped (s .irreflexive + cond (eqb k ASSUME-IRREFLEXIVE) (s .now) 0)
   pub left : r .left ≡ capped (s .left + cond (endsLeft k) (s .now) 0)
   pub right : r .right ≡ capped (s .right + rightEnd k t (s .now))
 

@@ -7,6 +7,7 @@ use mathlib.Core.Bool.{Bool, false, cond, not, _||_}
 use mathlib.Core.List.{List, [], _∷_, _++_}
 use lib.Dec.{eqb, ltb}
 use lib.ListN.{length, getD}
+use Rattle.codes.specs.Codes.{TESTED, A-RELATION, ANY, A-LET, LETS-END, LINE, LET-LINE, ASSUME-EMPTY, ASSUME-IRREFLEXIVE, INCLUDED, CLAIM-INCLUDE, CLAIM-EMPTY, CLAIM-IRREFLEXIVE, WITHIN-LINE}
 
 -- 1,000 stands for itself and every number above, and is above every limit
 abbrev pub capped : ℕ → ℕ
@@ -15,8 +16,8 @@ capped n = min n 1000
 -- what a code of an expression counts: `[T]` t, relation r what w gives it, let j what stands at j in ls; every other code nothing
 unfoldable pub weight : ℕ → (ℕ → ℕ) → List ℕ → ℕ → ℕ
 weight t w ls k =
-    cond (ltb k 32) (cond (eqb k 6) t 0)
-    (cond (ltb k 48) (w (k - 32)) (cond (ltb k 64) 0 (cond (ltb k 96) (getD ls (k - 64) 0) 0)))
+    cond (ltb k A-RELATION) (cond (eqb k TESTED) t 0)
+    (cond (ltb k ANY) (w (k - A-RELATION)) (cond (ltb k A-LET) 0 (cond (ltb k LETS-END) (getD ls (k - A-LET) 0) 0)))
 
 -- what was counted up to a code
 pub record Tally : Type 0 where
@@ -27,22 +28,22 @@ pub record Tally : Type 0 where
   pub left : ℕ  -- the left side
   pub right : ℕ  -- y
 
--- the left side ends: 135 in an inclusion, 137 empty, 138 irreflexive
+-- the left side ends
 unfoldable pub endsLeft : ℕ → Bool
-endsLeft k = eqb k 135 || (eqb k 137 || eqb k 138)
+endsLeft k = eqb k INCLUDED || (eqb k CLAIM-EMPTY || eqb k CLAIM-IRREFLEXIVE)
 
--- what the end of a claim adds to y: the expression after `in` (136), and for empty (137) `[false]`, a bracketed test
+-- what the end of a claim adds to y: the expression after `in`, and for empty `[false]`, a bracketed test
 unfoldable pub rightEnd : ℕ → ℕ → ℕ → ℕ
-rightEnd k t now = cond (eqb k 136) now (cond (eqb k 137) t 0)
+rightEnd k t now = cond (eqb k CLAIM-INCLUDE) now (cond (eqb k CLAIM-EMPTY) t 0)
 
--- one code more: a number from 128 on ends a line, and what its expression counted goes where the line's kind says
+-- one code more: where it ends a line, what the line's expression counted goes where the kind says
 unfoldable pub step : ℕ → (ℕ → ℕ) → Tally → ℕ → Tally
 step t w d k =
     record {
-      now = cond (ltb k 128) (d .now + weight t w (d .lets) k) 0;
-      lets = cond (eqb k 130) (d .lets ++ (d .now ∷ [])) (d .lets);
-      empty = d .empty + cond (eqb k 133) (d .now) 0;
-      irreflexive = d .irreflexive + cond (eqb k 134) (d .now) 0;
+      now = cond (ltb k LINE) (d .now + weight t w (d .lets) k) 0;
+      lets = cond (eqb k LET-LINE) (d .lets ++ (d .now ∷ [])) (d .lets);
+      empty = d .empty + cond (eqb k ASSUME-EMPTY) (d .now) 0;
+      irreflexive = d .irreflexive + cond (eqb k ASSUME-IRREFLEXIVE) (d .now) 0;
       left = d .left + cond (endsLeft k) (d .now) 0;
       right = d .right + rightEnd k t (d .now);
     }
@@ -67,9 +68,9 @@ howMany test (k ∷ ks) = cond (test k) 1 0 + howMany test ks
 unfoldable pub times : ℕ → List ℕ → ℕ
 times k ks = howMany (λ x. eqb x k) ks
 
--- a line ends: every line has one code from 128 on, but for 135, which only divides an inclusion
+-- a line ends: every line has one such code, beside the one that divides an inclusion
 unfoldable pub endsLine : ℕ → Bool
-endsLine k = cond (ltb k 128) false (not (eqb k 135))
+endsLine k = cond (ltb k LINE) false (not (eqb k INCLUDED))
 
 -- how many lines the codes of a query have
 unfoldable pub lineCount : List ℕ → ℕ
@@ -77,11 +78,11 @@ lineCount ks = howMany endsLine ks
 
 -- a relation is one leaf, with two tests for each of its `within` lines, wherever they stand
 unfoldable pub relationLeaves : List ℕ → ℕ → ℕ
-relationLeaves ks r = 1 + 2 * times (144 + r) ks
+relationLeaves ks r = 1 + 2 * times (WITHIN-LINE + r) ks
 
 -- the claim is the last line, and irreflexive
 unfoldable pub ring : List ℕ → Bool
-ring ks = eqb (getD ks (length ks - 1) 0) 138
+ring ks = eqb (getD ks (length ks - 1) 0) CLAIM-IRREFLEXIVE
 
 -- the right side, of which any counts 1 and stands there twice: y, a0 and zero of a path claim, zero counting what a bracketed test
 -- counts; a1 and a0 of a ring claim

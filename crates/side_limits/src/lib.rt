@@ -57,17 +57,17 @@ fn chosen(on: bool, x: u64) -> u64
 fn weight(k: u64, test: u64, relations: &[u64; 16], lets: &[u64; 32]) -> u64
     ensures { λ r. ⌜ r ≡ weightOf test (λ n. getD (now (relations .entry)) n 0) (now (lets .entry)) k ⌝ }
 {
-    if k < 32 {
-        return chosen(k == 6, test);
+    if k < codes::A_RELATION {
+        return chosen(k == codes::TESTED, test);
     }
-    if k < 48 {
-        return relations[(k - 32) as usize];
+    if k < codes::ANY {
+        return relations[(k - codes::A_RELATION) as usize];
     }
-    if k < 64 {
+    if k < codes::A_LET {
         return 0;
     }
-    if k < 96 {
-        return lets[(k - 64) as usize];
+    if k < codes::LETS_END {
+        return lets[(k - codes::A_LET) as usize];
     }
     0
 }
@@ -76,23 +76,23 @@ fn weight(k: u64, test: u64, relations: &[u64; 16], lets: &[u64; 32]) -> u64
 fn ends_left(k: u64) -> bool
     ensures { λ r. ⌜ r ≡ endsLeft k ⌝ }
 {
-    if k == 135 {
+    if k == codes::INCLUDED {
         return true;
     }
-    if k == 137 {
+    if k == codes::CLAIM_EMPTY {
         return true;
     }
-    k == 138
+    k == codes::CLAIM_IRREFLEXIVE
 }
 
 // What the end of a claim adds to y: the expression after `in`, and `[false]` for empty.
 fn right_end(k: u64, test: u64, now: u64) -> u64
     ensures { λ r. ⌜ r ≡ rightEnd k test now ⌝ }
 {
-    if k == 136 {
+    if k == codes::CLAIM_INCLUDE {
         return now;
     }
-    chosen(k == 137, test)
+    chosen(k == codes::CLAIM_EMPTY, test)
 }
 
 // One code more, which counts w in an expression and else ends a line.
@@ -101,10 +101,10 @@ fn add_code(s: Sums, k: u64, test: u64, w: u64) -> Sums
     ensures { λ r. ⌜ Turned s k test w r ⌝ }
 {
     Sums {
-        now: chosen(k < 128, add(s.now, w)),
+        now: chosen(k < codes::LINE, add(s.now, w)),
         lets: codes::lets_after(s.lets, k),
-        empty: add(s.empty, chosen(k == 133, s.now)),
-        irreflexive: add(s.irreflexive, chosen(k == 134, s.now)),
+        empty: add(s.empty, chosen(k == codes::ASSUME_EMPTY, s.now)),
+        irreflexive: add(s.irreflexive, chosen(k == codes::ASSUME_IRREFLEXIVE, s.now)),
         left: add(s.left, chosen(ends_left(k), s.now)),
         right: add(s.right, right_end(k, test, s.now)),
     }
@@ -149,14 +149,14 @@ pub fn times(codes: &[u64], k: u64) -> u64
     n
 }
 
-// Whether a line ends here: 135 only divides an inclusion.
+// Whether a line ends here, and not only the left side of an inclusion.
 fn ends_line(k: u64) -> bool
     ensures { λ r. ⌜ r ≡ endsLine k ⌝ }
 {
-    if k < 128 {
+    if k < codes::LINE {
         return false;
     }
-    k != 135
+    k != codes::INCLUDED
 }
 
 // How many lines the codes have.
@@ -181,7 +181,7 @@ fn relation_leaves(codes: &[u64], relations: &mut [u64; 16])
 {
     let mut i: usize = 0;
     while i < 16 {
-        relations[i] = 1 + 2 * times(codes, 144 + (i as u64));
+        relations[i] = 1 + 2 * times(codes, codes::WITHIN_LINE + (i as u64));
         i += 1;
     }
 }
@@ -193,7 +193,7 @@ fn is_ring(codes: &[u64]) -> bool
     if codes.len() == 0 {
         return false;
     }
-    codes[codes.len() - 1] == 138
+    codes[codes.len() - 1] == codes::CLAIM_IRREFLEXIVE
 }
 
 // The right side of a claim: the anys with what stands between them, and what they are united with.

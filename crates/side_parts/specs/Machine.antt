@@ -9,6 +9,7 @@ use mathlib.Core.List.{List, [], _∷_}
 use lib.Bits.{bitAnd, bitOr}
 use lib.Dec.{eqb, leb, ltb}
 use lib.ListN.{length, getD}
+use Rattle.codes.specs.Codes.{TESTED, UNION, SEQUENCE, STAR, PLUS, OPTIONAL, A-RELATION, ANY}
 use Rattle.side_atoms.specs.Atoms.{allAtoms}
 use Rattle.side_tables.specs.Occurrences.{Tables, added, sequenced, iterated}
 use Rattle.words.specs.Memory.{words}
@@ -89,17 +90,17 @@ optional m =
     }
 
 -- One code. `rels` has for relation r at place r the atoms at which its step may start, at 16 + r those at which it may stop, and at 32 + r
--- those at which it may follow itself; x is the set of a bracketed test. 48 is the step of whichever relation.
+-- those at which it may follow itself; x is the set of a bracketed test.
 unfoldable pub stepped : List ℕ → ℕ → ℕ → Machine → Machine
 stepped rels k x m =
-    cond (eqb k 6) (given x m)
-    (cond (eqb k 7) (united m)
-    (cond (eqb k 8) (inOrder m)
-    (cond (eqb k 9) (optional (again m))
-    (cond (eqb k 10) (again m)
-    (cond (eqb k 11) (optional m)
-    (cond (eqb k 48) (fresh allAtoms allAtoms 0 65535 m)
-    (cond (leb 32 k && ltb k 48) (fresh (getD rels (k - 32) 0) (getD rels (k - 16) 0) (getD rels k 0) (2 ^ (k - 32)) m) m)))))))
+    cond (eqb k TESTED) (given x m)
+    (cond (eqb k UNION) (united m)
+    (cond (eqb k SEQUENCE) (inOrder m)
+    (cond (eqb k STAR) (optional (again m))
+    (cond (eqb k PLUS) (again m)
+    (cond (eqb k OPTIONAL) (optional m)
+    (cond (eqb k ANY) (fresh allAtoms allAtoms 0 65535 m)
+    (cond (leb A-RELATION k && ltb k ANY) (fresh (getD rels (k - A-RELATION) 0) (getD rels (k - 16) 0) (getD rels k 0) (2 ^ (k - A-RELATION)) m) m)))))))
 
 -- nothing built yet, with k occurrences before
 unfoldable pub nothingBuilt : ℕ → Machine

@@ -178,7 +178,7 @@ fn repeat(
 // The step of relation r.
 fn add_relation(
     r: usize,
-    rels: &[u64; 48],
+    rels: &[u64; codes::RELATION_SETS],
     first: &mut [u64; 64],
     last: &mut [u64; 64],
     follow: &mut [u64; 4096],
@@ -203,7 +203,7 @@ fn add_relation(
 pub fn step(
     code: u64,
     arg: u64,
-    rels: &[u64; 48],
+    rels: &[u64; codes::RELATION_SETS],
     first: &mut [u64; 64],
     last: &mut [u64; 64],
     follow: &mut [u64; 4096],
@@ -218,21 +218,21 @@ pub fn step(
         (machineIn (now (first .entry)) (now (last .entry)) (now (follow .entry)) (now (letters .entry)) (now (parts .entry)) top)) ⌝ }
 {
     match code {
-        6 => give(parts, top, arg),
-        7 => unite(parts, top),
-        8 => put_in_order(first, last, follow, letters, parts, top),
-        9 => {
+        codes::TESTED => give(parts, top, arg),
+        codes::UNION => unite(parts, top),
+        codes::SEQUENCE => put_in_order(first, last, follow, letters, parts, top),
+        codes::STAR => {
             repeat(first, last, follow, letters, parts, top);
             make_optional(parts, top)
         }
-        10 => {
+        codes::PLUS => {
             repeat(first, last, follow, letters, parts, top);
             top
         }
-        11 => make_optional(parts, top),
-        48 => add_fresh(first, last, follow, letters, parts, top, ALL, ALL, 0, 65535),
-        32..=47 => add_relation(
-            (code - 32) as usize,
+        codes::OPTIONAL => make_optional(parts, top),
+        codes::ANY => add_fresh(first, last, follow, letters, parts, top, ALL, ALL, 0, 65535),
+        codes::A_RELATION..=codes::LAST_RELATION => add_relation(
+            (code - codes::A_RELATION) as usize,
             rels,
             first,
             last,

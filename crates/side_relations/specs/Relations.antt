@@ -10,44 +10,45 @@ use lib.Dec.{eqb, leb, ltb}
 use lib.ListN.{getD, set}
 use Rattle.kat.specs.Lists.{some}
 use Rattle.claims.specs.Query.{bit}
+use Rattle.codes.specs.Codes.{TESTED, NEVER-LINE, WITHIN-LINE, CLOSED-LINE, RELATION-SETS}
 use Rattle.side_atoms.specs.Atoms.{atomsOf, allAtoms}
 use Rattle.words.specs.Memory.{words}
 use Rattle.side_items.specs.Items.{Item}
 
--- a `within` line of relation r, 144 + r, keeps of the sets at r and at 16 + r only what is in x and in y
+-- a `within` line of relation r keeps of the sets at r and at 16 + r only what is in x and in y
 unfoldable pub narrowed : ℕ → ℕ → ℕ → List ℕ → List ℕ
 narrowed k x y ws =
-    cond (leb 144 k && ltb k 160)
-    (set (set ws (k - 144) (bitAnd (getD ws (k - 144) 0) x)) (k - 128) (bitAnd (getD ws (k - 128) 0) y))
+    cond (leb WITHIN-LINE k && ltb k CLOSED-LINE)
+    (set (set ws (k - WITHIN-LINE) (bitAnd (getD ws (k - WITHIN-LINE) 0) x)) (k - (WITHIN-LINE - 16)) (bitAnd (getD ws (k - (WITHIN-LINE - 16)) 0) y))
     ws
 
 -- all lines, where x and y are the sets of the last two bracketed tests
 unfoldable pub limitsFrom : ℕ → ℕ → List Item → List ℕ → List ℕ
 limitsFrom x y [] ws = ws
 limitsFrom x y (i ∷ is) ws =
-    limitsFrom (cond (eqb (i .code) 6) y x) (cond (eqb (i .code) 6) (i .arg) y) is (narrowed (i .code) x y ws)
+    limitsFrom (cond (eqb (i .code) TESTED) y x) (cond (eqb (i .code) TESTED) (i .arg) y) is (narrowed (i .code) x y ws)
 
 -- 32 sets: at r where relation r may start, at 16 + r where it may stop
 unfoldable pub limitSets : List Item → List ℕ
 limitSets is = limitsFrom 0 0 is (words 32 (λ i. allAtoms))
 
--- relation r is closed: 160 + r stands among the codes
+-- relation r is closed
 unfoldable pub closedIn : List Item → ℕ → Bool
-closedIn is r = some (λ (i : Item). eqb (i .code) (160 + r)) is
+closedIn is r = some (λ (i : Item). eqb (i .code) (CLOSED-LINE + r)) is
 
--- what stands at place i of the 48 sets: at r where relation r may start, at 16 + r where it may stop, at 32 + r where it may follow itself,
+-- what stands at place i of the sets: at r where relation r may start, at 16 + r where it may stop, at 32 + r where it may follow itself,
 -- by a test which relations are closed and the 32 sets of limits
 unfoldable pub relationAt : (ℕ → Bool) → List ℕ → ℕ → ℕ
 relationAt isClosed ws i =
     cond (ltb i 32) (getD ws i 0) (cond (isClosed (i - 32)) (bitAnd (getD ws (i - 32) 0) (getD ws (i - 16) 0)) 0)
 
 unfoldable pub relationSets : List Item → List ℕ
-relationSets is = words 48 (relationAt (closedIn is) (limitSets is))
+relationSets is = words RELATION-SETS (relationAt (closedIn is) (limitSets is))
 
--- the atoms that the `never` lines, 131, remove
+-- the atoms that the `never` lines remove
 unfoldable pub removedSet : List Item → ℕ
 removedSet [] = 0
-removedSet (i ∷ is) = bitOr (cond (eqb (i .code) 131) (i .arg) 0) (removedSet is)
+removedSet (i ∷ is) = bitOr (cond (eqb (i .code) NEVER-LINE) (i .arg) 0) (removedSet is)
 
 -- of the atoms of t tests those that are left
 unfoldable pub liveSet : ℕ → ℕ → ℕ

@@ -5,12 +5,16 @@ ghost use mathlib.Core.Path.{_≡_};
 ghost use mathlib.Core.Bool.{cond};
 ghost use lib.Dec.{eqb};
 ghost use lib.ListN.{length};
+ghost use Rattle.codes.specs.Codes.{CLOSED-LINE};
 ghost use Rattle.kat.specs.Lists.{some};
 ghost use Rattle.words.specs.Memory.{words};
 ghost use Rattle.side_items.specs.Items.{paired};
 ghost use Rattle.side_relations.specs.Relations.{narrowed, limitsFrom, relationAt, relationSets, removedSet, liveSet};
 
 const ALL: u64 = 0xffff_ffff_ffff_ffff;
+
+// The line `closed` of the relation whose set stands at place i of the sets is `CLOSED + i`.
+const CLOSED: u64 = codes::CLOSED_LINE - 32;
 
 // How many atoms the tests make, and no more than 64.
 pub fn atom_count(tests: u64) -> usize
@@ -27,18 +31,18 @@ pub fn atom_count(tests: u64) -> usize
     }
 }
 
-// One code: a `within` line of relation r, 144 + r, keeps of the sets at r and at 16 + r only what is in x and in y.
+// One code: a `within` line of relation r keeps of the sets at r and at 16 + r only what is in x and in y.
 fn narrow(limits: &mut [u64], code: u64, x: u64, y: u64)
     requires { ⌜ length (now limits) ≡ 32 ⌝ }
     ensures { λ r. ⌜ now (limits .exit) ≡ narrowed code x y (now (limits .entry)) ⌝ }
 {
-    if code < 144 {
+    if code < codes::WITHIN_LINE {
         return;
     }
-    if 160 <= code {
+    if codes::CLOSED_LINE <= code {
         return;
     }
-    let r = (code - 144) as usize;
+    let r = (code - codes::WITHIN_LINE) as usize;
     limits[r] = limits[r] & x;
     limits[r + 16] = limits[r + 16] & y;
 }
@@ -60,8 +64,8 @@ fn narrow_all(codes: &[u64], args: &[u64], limits: &mut [u64])
     let mut i = 0;
     while i < codes.len() {
         narrow(limits, codes[i], x, y);
-        x = behind(codes[i], 6, y, x);
-        y = behind(codes[i], 6, args[i], y);
+        x = behind(codes[i], codes::TESTED, y, x);
+        y = behind(codes[i], codes::TESTED, args[i], y);
         i += 1;
     }
 }
@@ -83,12 +87,12 @@ fn among(codes: &[u64], k: u64) -> bool
 // What stands at place i of the sets of the relations.
 fn relation_at(codes: &[u64], limits: &[u64], i: usize) -> u64
     requires { ⌜ (i ≤ 47) × (length (now limits) ≡ 32) ⌝ }
-    ensures { λ r. ⌜ r ≡ relationAt (λ k. some (λ c. eqb c (160 + k)) (now (codes .entry))) (now (limits .entry)) i ⌝ }
+    ensures { λ r. ⌜ r ≡ relationAt (λ k. some (λ c. eqb c (CLOSED-LINE + k)) (now (codes .entry))) (now (limits .entry)) i ⌝ }
 {
     if i < 32 {
         return limits[i];
     }
-    let closed = among(codes, 128 + (i as u64));
+    let closed = among(codes, CLOSED + (i as u64));
     if closed {
         return limits[i - 32] & limits[i - 16];
     }
@@ -99,7 +103,7 @@ fn relation_at(codes: &[u64], limits: &[u64], i: usize) -> u64
 fn relation_words(codes: &[u64], limits: &[u64], rels: &mut [u64])
     requires { ⌜ (length (now limits) ≡ 32) × (length (now rels) ≤ 48) ⌝ }
     ensures { λ r. ⌜ now (rels .exit) ≡ words (length (now (rels .entry)))
-        (relationAt (λ k. some (λ c. eqb c (160 + k)) (now (codes .entry))) (now (limits .entry))) ⌝ }
+        (relationAt (λ k. some (λ c. eqb c (CLOSED-LINE + k)) (now (codes .entry))) (now (limits .entry))) ⌝ }
 {
     let mut i = 0;
     while i < rels.len() {
@@ -109,7 +113,7 @@ fn relation_words(codes: &[u64], limits: &[u64], rels: &mut [u64])
 }
 
 // The sets of the relations: at r where the step of relation r may start, at 16 + r where it may stop, at 32 + r where it may follow itself.
-pub fn relation_sets(codes: &[u64], args: &[u64], rels: &mut [u64; 48])
+pub fn relation_sets(codes: &[u64], args: &[u64], rels: &mut [u64; codes::RELATION_SETS])
     requires { ⌜ length (now args) ≡ length (now codes) ⌝ }
     ensures { λ r. ⌜ now (rels .exit) ≡ relationSets (paired (now (codes .entry)) (now (args .entry))) ⌝ }
 {
@@ -118,7 +122,7 @@ pub fn relation_sets(codes: &[u64], args: &[u64], rels: &mut [u64; 48])
     relation_words(codes, &limits, rels);
 }
 
-// The atoms that the `never` lines, 131, remove.
+// The atoms that the `never` lines remove.
 pub fn removed_set(codes: &[u64], args: &[u64]) -> u64
     requires { ⌜ length (now args) ≡ length (now codes) ⌝ }
     ensures { λ r. ⌜ r ≡ removedSet (paired (now (codes .entry)) (now (args .entry))) ⌝ }
@@ -126,7 +130,7 @@ pub fn removed_set(codes: &[u64], args: &[u64]) -> u64
     let mut s: u64 = 0;
     let mut i = 0;
     while i < codes.len() {
-        s = s | behind(codes[i], 131, args[i], 0);
+        s = s | behind(codes[i], codes::NEVER_LINE, args[i], 0);
         i += 1;
     }
     s

@@ -6,6 +6,7 @@ use mathlib.Core.Bool.{cond}
 use mathlib.Core.List.{List, [], _∷_}
 use lib.Dec.{ltb}
 use lib.ListN.{length, drop}
+use Rattle.codes.specs.Codes.{TESTED}
 use Rattle.side_parts.specs.Machine.{Machine, united, stepped}
 use Rattle.side_items.specs.Items.{Item}
 use Rattle.side_jumps.specs.Performing.{perform}
@@ -27,4 +28,4 @@ unitedTimes (suc n) m = unitedTimes n (united m)
 
 -- the union of several expressions, which of none is `[false]`
 unfoldable pub executeUnion : List ℕ → List Item → List ℕ → Machine → Machine
-executeUnion rels is ss m = unitedTimes (length ss) (stepped rels 6 0 (executeAll rels is ss m))
+executeUnion rels is ss m = unitedTimes (length ss) (stepped rels TESTED 0 (executeAll rels is ss m))

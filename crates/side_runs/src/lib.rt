@@ -18,7 +18,7 @@ fn run_from(
     ops: &[u64],
     xs: &[u64],
     next: &[u64],
-    rels: &[u64; 48],
+    rels: &[u64; codes::RELATION_SETS],
     first: &mut [u64; 64],
     last: &mut [u64; 64],
     follow: &mut [u64; 4096],
@@ -38,7 +38,7 @@ fn run_from(
     let mut t = top;
     let mut pc = from;
     while pc < ops.len() {
-        if 128 <= ops[pc] {
+        if codes::LINE <= ops[pc] {
             return t;
         }
         t = run_item(
@@ -65,7 +65,7 @@ fn run_item(
     ops: &[u64],
     xs: &[u64],
     next: &[u64],
-    rels: &[u64; 48],
+    rels: &[u64; codes::RELATION_SETS],
     first: &mut [u64; 64],
     last: &mut [u64; 64],
     follow: &mut [u64; 4096],
@@ -85,10 +85,10 @@ fn run_item(
 {
     let code = ops[pc];
     let arg = xs[pc];
-    if code < 64 {
+    if code < codes::A_LET {
         return step(code, arg, rels, first, last, follow, letters, parts, top);
     }
-    if 96 <= code {
+    if codes::LETS_END <= code {
         return step(code, arg, rels, first, last, follow, letters, parts, top);
     }
     let start = arg as usize;
@@ -122,7 +122,7 @@ pub fn run_kind(
     ops: &[u64],
     xs: &[u64],
     next: &[u64],
-    rels: &[u64; 48],
+    rels: &[u64; codes::RELATION_SETS],
     first: &mut [u64; 64],
     last: &mut [u64; 64],
     follow: &mut [u64; 4096],
@@ -148,7 +148,7 @@ pub fn run_kind(
     while i < codes.len() {
         let code = codes[i];
         i += 1;
-        if code < 128 {
+        if code < codes::LINE {
             continue;
         }
         if code != kind {
@@ -176,7 +176,7 @@ pub fn run_kind(
 
 // The two parts on top united, n times.
 fn unite_times(
-    rels: &[u64; 48],
+    rels: &[u64; codes::RELATION_SETS],
     first: &mut [u64; 64],
     last: &mut [u64; 64],
     follow: &mut [u64; 4096],
@@ -194,7 +194,17 @@ fn unite_times(
     let mut t = top;
     let mut left = n;
     while 0 < left {
-        t = step(7, 0, rels, first, last, follow, letters, parts, t);
+        t = step(
+            codes::UNION,
+            0,
+            rels,
+            first,
+            last,
+            follow,
+            letters,
+            parts,
+            t,
+        );
         left -= 1;
     }
     t
@@ -206,7 +216,7 @@ pub fn run_union(
     ops: &[u64],
     xs: &[u64],
     next: &[u64],
-    rels: &[u64; 48],
+    rels: &[u64; codes::RELATION_SETS],
     first: &mut [u64; 64],
     last: &mut [u64; 64],
     follow: &mut [u64; 4096],
@@ -238,6 +248,16 @@ pub fn run_union(
         kind,
         top,
     );
-    let none = step(6, 0, rels, first, last, follow, letters, parts, ran.top);
+    let none = step(
+        codes::TESTED,
+        0,
+        rels,
+        first,
+        last,
+        follow,
+        letters,
+        parts,
+        ran.top,
+    );
     unite_times(rels, first, last, follow, letters, parts, ran.count, none)
 }
