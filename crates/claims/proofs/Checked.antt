@@ -1,7 +1,7 @@
 -- What it takes to pass. A sheet that passes as proved lists standings that pass, so no word refutes; one that passes as refuted holds a
 -- word in range that refutes by the languages. For path and ring claims alike.
 -- Assumes nothing.
-use Prim.Native.Nat.{ℕ, zero, suc, _<_}
+use Prim.Native.Nat.{ℕ, zero, suc}
 use native.Mathlib.Omega.{arith}
 use mathlib.Core.Path.{_≡_, refl, sym, _∙_, ap, subst}
 use mathlib.Core.Bool.{Bool, true, false, _&&_}
@@ -9,7 +9,7 @@ use mathlib.Core.List.{List, [], _∷_, _++_}
 use mathlib.Core.Option.{Option, some, none}
 use lib.Dec.{eqb, ltb}
 use borrow.Author.Tests.{ltb-true}
-use Rattle.kat.specs.Lists.{In, member, isEmpty}
+use Rattle.kat.specs.Lists.{member, isEmpty}
 use Rattle.kat.specs.Word.{Word, end, at}
 use Rattle.kat.proofs.Bools.{and-left, and-right, true-not-false}
 use Rattle.kat.proofs.Sets.{member-in, in-member}

@@ -12,7 +12,7 @@ use Rattle.claims.specs.Tree.{Claim, includes, empty, irreflexive}
 use Rattle.claims.specs.Query.{Query, atoms, relations}
 use Rattle.claims.specs.Sides.{Decision, decision}
 use Rattle.claims.specs.Reading.{read, claimOf}
-use Rattle.claims.specs.Refusals.{noClaim, Result, ok, refused, refuse, onward}
+use Rattle.claims.specs.Refusals.{noClaim, Result, ok, refuse, onward}
 use Rattle.claims.specs.Meaning.{Execution}
 use Rattle.claims.specs.GraphBytes.{Listed, Ranges, graphIn, finite}
 use Rattle.claims.specs.Judgement.{Judgement, judgement}

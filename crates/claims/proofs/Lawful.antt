@@ -9,7 +9,7 @@ use mathlib.Core.List.{List, [], _∷_}
 use lib.Dec.{eqb}
 use borrow.Author.Tests.{eqb-true, eq-eqb}
 use Rattle.kat.specs.Expr.{Expr}
-use Rattle.kat.specs.Lists.{upto, filter, some, member, isEmpty, In, here}
+use Rattle.kat.specs.Lists.{upto, member, isEmpty, In, here}
 use Rattle.kat.specs.Tables.{occurrences, reads, null, after, ends}
 use Rattle.kat.proofs.Sets.{filter-in, member-in, filter-none}
 use Rattle.kat.proofs.Bools.{and-left, and-right, and-both}

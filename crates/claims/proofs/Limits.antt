@@ -6,7 +6,7 @@ use native.Mathlib.Nat.{pow-le-pow-right}
 use native.Mathlib.Omega.{arith}
 use mathlib.Core.Path.{_≡_, refl, sym, _∙_, ap, subst}
 use mathlib.Core.Bool.{Bool, true, false, _&&_, true≢false}
-use mathlib.Core.List.{List, [], _∷_, _++_, append-assoc, append-nil}
+use mathlib.Core.List.{List, [], _∷_, _++_, append-nil}
 use mathlib.Core.Option.{Option, some, none}
 use lib.Dec.{leb}
 use lib.ListN.{length, length-append}
@@ -22,7 +22,7 @@ use Rattle.claims.specs.Names.{uses, firstSlip}
 use Rattle.claims.specs.Query.{Query, each, testNames, relationNames, lets, tests, relations, atoms, live}
 use Rattle.claims.specs.Counting.{leftSize, rightSize, rightLimit, withinLimits}
 use Rattle.claims.specs.Reading.{badLine, crowded, claimOf, readLine, readLines, limited, read}
-use Rattle.claims.specs.Refusals.{Refusal, Result, ok, refused, onward}
+use Rattle.claims.specs.Refusals.{Refusal, Result, ok, refused}
 use Rattle.claims.specs.Sides.{Decision, decision}
 use Rattle.claims.specs.Calls.{Asked, asked}
 use Rattle.claims.proofs.Results.{refused-not-ok, onward-ok, each-append}
@@ -61,7 +61,7 @@ each-more : {A : Type 0} (f : Line → List A) (q : Query) (x : Line) → length
 each-more f q x =
     ap length (each-append f q (x ∷ []) ∙ ap (λ l. each f q ++ l) (append-nil (f x))) ∙ length-append (each f q) (f x)
 
-nothing-declared : Declared []
+pub nothing-declared : Declared []
 unfolding tests relations
 nothing-declared = record { tests = omega arith; relations = omega arith; lets = omega arith }
 
@@ -81,7 +81,7 @@ line-fits q (assumeEmpty t) e d = (omega arith, omega arith, omega arith)
 line-fits q (assumeIrreflexive t) e d = (omega arith, omega arith, omega arith)
 line-fits q (claimLine c) e d = (omega arith, omega arith, omega arith)
 
-declared-more : (q : Query) (x : Line) → crowded q x ≡ false → Declared q → Declared (q ++ (x ∷ []))
+pub declared-more : (q : Query) (x : Line) → crowded q x ≡ false → Declared q → Declared (q ++ (x ∷ []))
 unfolding tests relations
 declared-more q x e d =
     let (h, k, l) = line-fits q x e d in

@@ -3,22 +3,22 @@
 -- and no right word.
 -- Assumes nothing.
 use Prim.Native.Nat.{ℕ}
-use mathlib.Core.Path.{_≡_, refl, sym, subst}
+use mathlib.Core.Path.{_≡_, sym}
 use mathlib.Core.Logic.{_↔_}
 use mathlib.Core.Bool.{Bool, true, false, not, _&&_}
 use mathlib.Core.List.{List, [], _∷_}
 use Rattle.kat.specs.Expr.{Expr}
-use Rattle.kat.specs.Lists.{In, here, there, filter}
-use Rattle.kat.specs.Word.{Word, end}
+use Rattle.kat.specs.Lists.{In, here}
+use Rattle.kat.specs.Word.{end}
 use Rattle.kat.specs.Language.{Lang}
 use Rattle.kat.specs.Ring.{Prefix, nothing, then, onto}
-use Rattle.kat.specs.Tables.{after, ends, stop}
+use Rattle.kat.specs.Tables.{after, ends}
 use Rattle.kat.specs.Way.{Way}
 use Rattle.kat.proofs.Bools.{and-left, and-right, and-both, not-true-false, false-not-true, false-of-not, true-not-false}
 use Rattle.kat.proofs.Sets.{filter-in, in-filter}
 use Rattle.kat.proofs.Runs.{after-in, ends-in, language-by-ways}
 use Rattle.claims.specs.Sides.{Decision}
-use Rattle.claims.specs.Standings.{Letter, Path, pathSystem, pathStep, pathFinals}
+use Rattle.claims.specs.Standings.{Path, pathSystem, pathStep, pathFinals}
 use Rattle.claims.specs.Verdicts.{StandingOf, begun, grown}
 
 -- the set holds exactly the occurrences on which a way that reads the prefix ends

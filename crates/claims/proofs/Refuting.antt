@@ -1,16 +1,15 @@
 -- The word that a sheet or a search calls refuting is one that refutes by the languages: a left word that is no right word for a path
 -- claim, or not covered for a ring claim. By the word, letter by letter, from what a standing's completion says of its prefix.
 -- Assumes nothing.
-use Prim.Native.Nat.{ℕ, _<_}
-use mathlib.Core.Path.{_≡_, refl, sym, _∙_, ap, subst}
-use mathlib.Core.Logic.{_⊎_, _↔_}
+use Prim.Native.Nat.{ℕ}
+use mathlib.Core.Path.{_≡_, refl, sym, _∙_, subst}
+use mathlib.Core.Logic.{_↔_}
 use mathlib.Core.Bool.{Bool, true, false, not, cond, _&&_}
-use mathlib.Core.List.{List, [], _∷_}
-use Rattle.kat.specs.Expr.{Expr}
-use Rattle.kat.specs.Lists.{In, here, there, member}
+use mathlib.Core.List.{[], _∷_}
+use Rattle.kat.specs.Lists.{In, here, member}
 use Rattle.kat.specs.Word.{Word, end, at, first, last}
 use Rattle.kat.specs.Language.{Lang}
-use Rattle.kat.specs.Ring.{Prefix, nothing, then, onto, body, start, Covered}
+use Rattle.kat.specs.Ring.{Prefix, nothing, then, onto, body, Covered}
 use Rattle.kat.specs.Tables.{null, ends}
 use Rattle.kat.proofs.Bools.{and-left, and-right, and-both, not-true-false, false-not-true, false-of-not, true-not-false}
 use Rattle.kat.proofs.Sets.{filter-in, in-filter, member-in, in-member}

@@ -6,15 +6,13 @@ use Prim.Native.Nat.{ℕ}
 use mathlib.Core.Path.{_≡_, refl, sym, _∙_, ap, subst}
 use mathlib.Core.Logic.{⊎-elim, _↔_}
 use mathlib.Core.Logic._⊎_.{inl, inr}
-use mathlib.Core.Bool.{Bool, true, false, true≢false}
+use mathlib.Core.Bool.{Bool, true, false}
 use mathlib.Core.List.{List, [], _∷_}
-use lib.Dec.{eqb}
 use borrow.Author.Tests.{eqb-true, eq-eqb}
 use Rattle.kat.specs.Expr.{Expr, test, seq, plus as repeated}
 use Rattle.kat.specs.Lists.{In, here, there}
 use Rattle.kat.specs.Graph.{Graph, Rel, Plus, once, more}
-use Rattle.kat.proofs.Bools.{and-left, and-right}
-use Rattle.kat.proofs.Sets.{some-in, in-append}
+use Rattle.kat.proofs.Sets.{some-in}
 use Rattle.claims.specs.Bytes.{same}
 use Rattle.claims.specs.Tree.{Name, TestTree, Tree, Line, withinLine, closedLine}
 use Rattle.claims.specs.Query.{Query, Limit, each, indexOf, tests, relations, limits, closings, closed, holds}

@@ -1,25 +1,23 @@
 -- The completed standing says whether the ring is covered: the closure of M over the pairs of N, the flag Z and the first atom say
 -- exactly that some rotation of the ring word, repeated some number of times, is a right word, for every number of repetitions.
 -- Assumes nothing.
-use Prim.Native.Nat.{ℕ, suc, _≤_, _<_}
+use Prim.Native.Nat.{ℕ, suc, _≤_}
 use native.Mathlib.Omega.{arith}
-use mathlib.Core.Path.{_≡_, refl, sym, _∙_, ap, subst}
-use mathlib.Core.Logic.{_⊎_, ⊎-elim, _↔_}
+use mathlib.Core.Path.{_≡_, sym, subst}
+use mathlib.Core.Logic.{⊎-elim, _↔_}
 use mathlib.Core.Logic._⊎_.{inl, inr}
 use mathlib.Core.Bool.{Bool, true, _&&_, _||_}
-use mathlib.Core.List.{List}
 use lib.Dec.{eqb}
 use borrow.Author.Tests.{eqb-true, eq-eqb}
-use Rattle.kat.specs.Expr.{Expr}
-use Rattle.kat.specs.Lists.{In, upto, some, member}
+use Rattle.kat.specs.Lists.{In, some, member}
 use Rattle.kat.specs.Graph.{Plus, once, more}
 use Rattle.kat.specs.Closure.{Table, entry, closure}
-use Rattle.kat.specs.Ring.{Prefix, start, Covered}
+use Rattle.kat.specs.Ring.{Prefix, Covered}
 use Rattle.kat.specs.Tables.{occurrences, stop}
 use Rattle.kat.proofs.Bools.{or-cases, or-left, or-right, and-left, and-right, and-both}
 use Rattle.kat.proofs.Sets.{some-in, in-some, in-upto, upto-in, member-in, in-member}
 use Rattle.kat.proofs.Closure.{Below, closure-is-plus}
-use Rattle.kat.proofs.Turns.{NonEmpty, Turn, Round, Pair, FromStart, FromInside, covered-by-turns}
+use Rattle.kat.proofs.Turns.{Turn, Round, Pair, FromStart, FromInside, covered-by-turns}
 use Rattle.claims.specs.Sides.{Decision}
 use Rattle.claims.specs.Standings.{Ring, row, states, covered}
 use Rattle.claims.proofs.RingStandings.{RingReads, way-range}

@@ -4,16 +4,16 @@
 -- Assumes nothing.
 use Prim.Native.Nat.{ℕ, suc, _≤_, _<_}
 use native.Mathlib.Omega.{arith}
-use mathlib.Core.Path.{_≡_, refl, sym, _∙_, ap, subst}
+use mathlib.Core.Path.{_≡_, refl, sym, _∙_, subst}
 use mathlib.Core.Logic.{_⊎_, ⊎-elim, _↔_}
 use mathlib.Core.Logic._⊎_.{inl, inr}
-use mathlib.Core.Bool.{Bool, true, false, _&&_, _||_}
+use mathlib.Core.Bool.{Bool, true, _&&_, _||_}
 use mathlib.Core.List.{List, [], _∷_, map}
-use lib.ListN.{length, getD, length-map}
+use lib.ListN.{length, length-map}
 use Rattle.kat.specs.Expr.{Expr}
-use Rattle.kat.specs.Lists.{In, here, there, upto, filter, some, member}
+use Rattle.kat.specs.Lists.{In, here, upto, some, member}
 use Rattle.kat.specs.Ring.{Prefix, nothing, then, start}
-use Rattle.kat.specs.Tables.{occurrences, reads, next, null, after, ends, stop}
+use Rattle.kat.specs.Tables.{occurrences, reads, next, null, after, ends}
 use Rattle.kat.specs.Way.{Way}
 use Rattle.kat.proofs.Bools.{le-or-lt, or-cases, or-left, or-right, and-left, and-right, and-both}
 use Rattle.kat.proofs.Sets.{some-in, in-some, filter-in, in-filter, in-upto, upto-in, member-in, in-member}

@@ -17,7 +17,7 @@ use Rattle.claims.specs.Verdicts.{GuardedWord, ProvedBy}
 use Rattle.claims.proofs.StandingBytes.{pathBytes-length, path-read-back, ringBytes-length, ring-read-back}
 use Rattle.claims.proofs.StandingShapes.{path-standings-shaped, ring-standings-shaped}
 use Rattle.claims.proofs.Pairwise.{Rising}
-use Rattle.claims.proofs.Lawful.{Lawful, path-lawful, ring-lawful}
+use Rattle.claims.proofs.Lawful.{path-lawful, ring-lawful}
 use Rattle.claims.proofs.WordBytes.{guarded-in-range, word-read-back}
 use Rattle.claims.proofs.Verdict.{refuted-is-within}
 use Rattle.claims.proofs.SheetRoundTrip.{ReadBack, distinct-none-repeated, proved-read-back, refuted-read-back}

@@ -12,12 +12,12 @@ use Rattle.kat.specs.Graph.{Graph, graph}
 use Rattle.kat.specs.Word.{Word}
 use Rattle.claims.specs.Sides.{Decision, decision}
 use Rattle.claims.specs.Refusals.{Refusal, Result, ok, refused, onward}
-use Rattle.claims.specs.Calls.{Answer, Given, searched, Asked, asked, Lent, Done, leftBehind, search-call, Passed, passedProved, passedRefuted, checked, check-call}
+use Rattle.claims.specs.Calls.{Answer, Given, searched, Asked, asked, Lent, Done, leftBehind, search-call, passedProved, passedRefuted, checked, check-call}
 use Rattle.claims.specs.Words.{Refutes}
 use Rattle.claims.specs.Drawn.{drawn}
 use Rattle.claims.specs.Meaning.{Execution, MeetsAll, ClaimHolds}
 use Rattle.claims.proofs.Results.{refused-not-ok}
-use Rattle.claims.proofs.SearchOrder.{askedAs, sought, Ready, asked-accepted, search-reads-first, allowance-next, memory-next, spent-next, buffer-last, else-answered}
+use Rattle.claims.proofs.SearchOrder.{askedAs, sought, asked-accepted, search-reads-first, allowance-next, memory-next, spent-next, buffer-last, else-answered}
 use Rattle.claims.proofs.SearchMemory.{Outcome, unread, out, short, exhausted, unwritten, written, search-outcomes}
 use Rattle.claims.proofs.Pairwise.{Rising}
 use Rattle.claims.proofs.Lawful.{decision-rising}

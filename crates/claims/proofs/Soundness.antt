@@ -2,21 +2,20 @@
 -- a walk whose word is a left word; it does not refute, so it is a right word, or its ring is covered; and what the right side says of a
 -- graph that meets the assumptions is the claim. A covered ring gives a walk round some rotation of the first one, some number of times.
 -- Assumes nothing.
-use Prim.Native.Nat.{ℕ, _<_}
+use Prim.Native.Nat.{ℕ}
 use native.Mathlib.Omega.{arith}
 use mathlib.Core.Path.{_≡_, refl, sym, _∙_, ap, subst}
-use mathlib.Core.Logic.{_⊎_, ⊎-elim, _↔_}
+use mathlib.Core.Logic.{⊎-elim, _↔_}
 use mathlib.Core.Logic._⊎_.{inl, inr}
 use mathlib.Core.Bool.{Bool, true, false, not as flip}
 use mathlib.Core.List.{List, [], _∷_}
-use lib.ListN.{length}
 use Rattle.kat.specs.Expr.{Expr, alt, none as nowhere}
-use Rattle.kat.specs.Lists.{In, here, there, member, some, filter, upto}
+use Rattle.kat.specs.Lists.{In, here, there, member, some}
 use Rattle.kat.specs.Graph.{Graph, Rel}
-use Rattle.kat.specs.Word.{Word, end, first, last}
+use Rattle.kat.specs.Word.{Word, end, first}
 use Rattle.kat.specs.Language.{Lang}
 use Rattle.kat.specs.Walk.{Walk, stay, go, wordOf}
-use Rattle.kat.specs.Ring.{Prefix, nothing, then, onto, body, join, times, start, round, Covered}
+use Rattle.kat.specs.Ring.{Prefix, nothing, then, onto, body, join, times, start, Covered}
 use Rattle.kat.specs.Tables.{null}
 use Rattle.kat.proofs.Bools.{false-of-not, false-not-true, true-not-false}
 use Rattle.kat.proofs.Sets.{some-in, in-filter, in-upto, in-member}
@@ -25,11 +24,11 @@ use Rattle.kat.proofs.Words.{atom-is-word}
 use Rattle.kat.proofs.Decided.{language-decided}
 use Rattle.kat.proofs.Turns.{join-nothing, start-join}
 use Rattle.kat.proofs.Traces.{Trace, trace-join, trace-of-walk, walk-of-trace, trace-start, trace-times}
-use Rattle.claims.specs.Tree.{Name, TestTree, Tree, Claim, includes, empty, irreflexive, Line, testLine, relLine, letLine, neverLine, withinLine, closedLine, assumeEmpty, assumeIrreflexive, claimLine}
-use Rattle.claims.specs.Query.{Query, each, tests, relations, holds, atoms, removed, live, nevers, assumedEmpty, assumedIrreflexive}
-use Rattle.claims.specs.Sides.{Decision, side, unionAll, a0, a1, zero, somewhere, decision, decisionOf}
-use Rattle.claims.specs.Words.{Guarded, Uncovered, Refutes}
-use Rattle.claims.specs.Meaning.{Execution, Related, Meets, MeetsAll, ClaimHolds}
+use Rattle.claims.specs.Tree.{TestTree, Tree, Claim, includes, empty, irreflexive, Line, neverLine, withinLine, closedLine, assumeEmpty, assumeIrreflexive}
+use Rattle.claims.specs.Query.{Query, each, tests, holds, atoms, removed, live, nevers, assumedEmpty, assumedIrreflexive}
+use Rattle.claims.specs.Sides.{side, unionAll, a0, a1, zero, somewhere, decision, decisionOf}
+use Rattle.claims.specs.Words.{Guarded, Refutes}
+use Rattle.claims.specs.Meaning.{Execution, Related, MeetsAll, ClaimHolds}
 use Rattle.claims.proofs.Results.{each-in}
 use Rattle.claims.proofs.Replacement.{side-means-the-same}
 

@@ -1,17 +1,17 @@
 -- Every standing of a prefix is well-shaped: a sheet can hold it. Its sets are what passes a test among the occurrences of a side, so
 -- they rise within them. Row 0 of a ring's table N is empty because no occurrence has the number 0.
 -- Assumes nothing.
-use Prim.Native.Nat.{ℕ, zero, suc, _+_, _-_, _≤_, _<_}
+use Prim.Native.Nat.{ℕ, suc, _-_, _<_}
 use native.Mathlib.Omega.{arith}
-use mathlib.Core.Path.{_≡_, refl, sym, _∙_, ap, subst}
-use mathlib.Core.Bool.{Bool, true, false, _&&_, _||_, true≢false}
+use mathlib.Core.Path.{_≡_, sym, _∙_, subst}
+use mathlib.Core.Bool.{true, false, _&&_, _||_}
 use mathlib.Core.List.{List, [], _∷_, map}
 use lib.ListN.{length, length-map, List·getD-map}
 use Rattle.kat.specs.Expr.{Expr}
-use Rattle.kat.specs.Lists.{In, counted, member, filter, some}
+use Rattle.kat.specs.Lists.{In, member, some}
 use Rattle.kat.specs.Tables.{occurrences, reads, next, after, ends}
 use Rattle.kat.specs.Ring.{Prefix}
-use Rattle.kat.proofs.Bools.{and-left, false-of-not}
+use Rattle.kat.proofs.Bools.{false-of-not}
 use Rattle.kat.proofs.Sets.{map-in, some-none, filter-none, upto-length}
 use Rattle.kat.proofs.Ranges.{reads-range}
 use Rattle.claims.specs.Sides.{Decision}

@@ -3,8 +3,7 @@
 -- refutes; refuted with the refuting word that no other precedes; or spent, level by level.
 -- Assumes nothing.
 use Prim.Native.Nat.{ℕ, _≤_, _<_}
-use native.Mathlib.Omega.{arith}
-use mathlib.Core.Path.{_≡_, refl, sym, _∙_, ap, subst}
+use mathlib.Core.Path.{_≡_, refl, sym, subst}
 use mathlib.Core.Logic.{_↔_}
 use mathlib.Core.Bool.{Bool, true, false}
 use mathlib.Core.List.{List}
@@ -17,9 +16,9 @@ use Rattle.claims.specs.Standings.{System, pathSystem, ringSystem}
 use Rattle.claims.specs.Search.{Verdict, proved, refuted, spent, verdict}
 use Rattle.claims.specs.SheetBytes.{sheetBytes, pathBytes, ringBytes}
 use Rattle.claims.specs.Passing.{refuting}
-use Rattle.claims.specs.Refusals.{Refusal, spentAllowance, Result, ok, refused, refuse}
+use Rattle.claims.specs.Refusals.{Refusal, Result, ok, refused}
 use Rattle.claims.specs.Words.{Refutes}
-use Rattle.claims.specs.Verdicts.{GuardedWord, Distinct, NotAfter, Holds, MoreThan, FreshAt, ProvedBy, RefutedBy, SpentAt}
+use Rattle.claims.specs.Verdicts.{GuardedWord, Distinct, NotAfter, Holds, MoreThan, FreshAt, ProvedBy, RefutedBy}
 use Rattle.claims.specs.Calls.{Answer, provedWith, refutedBy, Given, answerOf, searched}
 use Rattle.claims.proofs.Results.{refused-not-ok}
 use Rattle.claims.proofs.Pairwise.{Rising}

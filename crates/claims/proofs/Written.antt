@@ -3,23 +3,23 @@
 -- Assumes nothing.
 use Prim.Native.Nat.{ℕ, _≤_}
 use native.Mathlib.Omega.{arith}
-use mathlib.Core.Path.{_≡_, refl, sym, _∙_, ap, subst}
+use mathlib.Core.Path.{_≡_, refl, _∙_, ap, subst}
 use mathlib.Core.Bool.{Bool, true, false}
 use mathlib.Core.List.{List}
 use lib.ListN.{length}
 use Rattle.kat.specs.Word.{Word}
-use Rattle.claims.specs.Sides.{Decision, decision}
+use Rattle.claims.specs.Sides.{Decision}
 use Rattle.claims.specs.Standings.{System, pathSystem, ringSystem}
 use Rattle.claims.specs.Search.{Verdict, proved, refuted, spent, verdict}
 use Rattle.claims.specs.SheetBytes.{sheetBytes, pathBytes, ringBytes}
 use Rattle.claims.specs.SheetReading.{Said, saysProved, saysRefuted, sheetIn, pathOf, ringOf, wordOf}
 use Rattle.claims.specs.Passing.{passes}
-use Rattle.claims.specs.Refusals.{Refusal, spentAllowance, Result, ok, refused, refuse, onward}
-use Rattle.claims.specs.Calls.{Answer, provedWith, refutedBy, Given, answerOf, searched, Asked, asked, Passed, passedProved, passedRefuted, passedOf, checked, check-call}
+use Rattle.claims.specs.Refusals.{Result, ok, refused, onward}
+use Rattle.claims.specs.Calls.{Answer, provedWith, refutedBy, Given, answerOf, searched, Passed, passedProved, passedRefuted, passedOf, checked}
 use Rattle.claims.proofs.Pairwise.{Rising}
-use Rattle.claims.proofs.Lawful.{path-lawful, ring-lawful, decision-rising}
+use Rattle.claims.proofs.Lawful.{path-lawful, ring-lawful}
 use Rattle.claims.proofs.Verdict.{proved-is-proved, refuted-is-least, search-proved-passes, search-refuted-passes}
-use Rattle.claims.proofs.Limits.{WithinLimits, asked-within-limits, asked-read}
+use Rattle.claims.proofs.Limits.{WithinLimits}
 use Rattle.claims.proofs.SheetReturns.{path-proved-returns, path-refuted-returns, ring-proved-returns, ring-refuted-returns}
 
 -- what the sheet of an answer says

@@ -4,8 +4,8 @@
 -- Assumes nothing.
 use Prim.Native.Nat.{ℕ, _*_}
 use mathlib.Core.Bool.{Bool, true, false, _&&_}
-use mathlib.Core.List.{List, [], _∷_, _++_}
-use mathlib.Core.Option.{Option, some, none}
+use mathlib.Core.List.{List, [], _++_}
+use mathlib.Core.Option.{some, none}
 use lib.Dec.{leb}
 use lib.ListN.{length, drop, replicate}
 use Rattle.kat.specs.Word.{Word}

@@ -2,14 +2,13 @@
 -- with which no line of the notation goes on (`wrong`) or at the 33rd open bracket (`deep`), whichever comes first. The first
 -- argument of a reader bounds the depth of calls; `line` gives more than any line can use. d counts the open round brackets.
 -- Assumes nothing.
-use Prim.Native.Nat.{ℕ, zero, suc, _+_, _*_}
-use mathlib.Core.Bool.{Bool, true, false, not as flip, _&&_}
+use Prim.Native.Nat.{ℕ, zero, suc}
+use mathlib.Core.Bool.{Bool, true, false}
 use mathlib.Core.List.{List, [], _∷_}
 use lib.Dec.{eqb}
-use lib.ListN.{length}
-use Rattle.claims.specs.Bytes.{RawLine, byte, text, same}
-use Rattle.claims.specs.Tokens.{Token, word, mark, bad, tokens, isReserved}
-use Rattle.claims.specs.Tree.{Name, TestTree, testName, always, never, either, both, not, Tree, name, tested, union, sequence, star, plus, opt, Claim, includes, empty, irreflexive, Line, testLine, relLine, letLine, neverLine, withinLine, closedLine, assumeEmpty, assumeIrreflexive, claimLine}
+use Rattle.claims.specs.Bytes.{byte, text, same}
+use Rattle.claims.specs.Tokens.{Token, word, mark, bad, isReserved}
+use Rattle.claims.specs.Tree.{Name, TestTree, testName, always, never, either, both, not, Tree, name, tested, union, sequence, star, plus, opt}
 
 -- what a reader finds: a value and the tokens after it, or the fault met first ("The query")
 pub data Found (A : Type 0) : Type 0 where

@@ -2,7 +2,7 @@
 -- `closed` or `assume` that the graph breaks, or 0; and whether the claim holds, with the lowest breaking event or pair. Here
 -- relations mean the listed edges: a graph is judged by `meant` with single steps, and not by what relations stand for.
 -- Assumes nothing.
-use Prim.Native.Nat.{ℕ, zero, suc}
+use Prim.Native.Nat.{ℕ, suc}
 use mathlib.Core.Bool.{Bool, true, false, not, _&&_, _||_}
 use mathlib.Core.List.{List, [], _∷_}
 use lib.Dec.{eqb}

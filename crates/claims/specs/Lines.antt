@@ -8,7 +8,7 @@ use lib.ListN.{length}
 use Rattle.claims.specs.Bytes.{RawLine, byte, text}
 use Rattle.claims.specs.Tokens.{Token, word, mark, bad, tokens}
 use Rattle.claims.specs.Tree.{Name, TestTree, Tree, includes, empty, irreflexive, Line, testLine, relLine, letLine, neverLine, withinLine, closedLine, assumeEmpty, assumeIrreflexive, claimLine}
-use Rattle.claims.specs.Grammar.{Found, got, wrong, deep, andThen, goesOn, past, closes, saysNext, nameNext, testUnion, unionOf}
+use Rattle.claims.specs.Grammar.{Found, got, wrong, andThen, goesOn, past, closes, saysNext, nameNext, testUnion, unionOf}
 
 -- each token is met by at most 8 calls in a row that read none ("The query")
 unfoldable pub enough : List Token → ℕ

@@ -1,7 +1,6 @@
 -- Names: which a query declares, and the slips of a line's names, met from left to right. (Document 01, "The query", and refusal 5.)
 -- A name is declared before its use; tests, relations and lets share one name space.
 -- Assumes nothing.
-use Prim.Native.Nat.{ℕ}
 use mathlib.Core.Bool.{Bool, true, false}
 use mathlib.Core.List.{List, [], _∷_, _++_}
 use mathlib.Core.Option.{Option, some, none}

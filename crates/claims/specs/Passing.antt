@@ -6,7 +6,7 @@ use mathlib.Core.Bool.{Bool, not, _&&_, _||_}
 use mathlib.Core.List.{List}
 use Rattle.kat.specs.Lists.{some, every, member, isEmpty}
 use Rattle.kat.specs.Word.{Word, end, at}
-use Rattle.claims.specs.Standings.{System, Letter, letters}
+use Rattle.claims.specs.Standings.{System, letters}
 use Rattle.claims.specs.SheetReading.{Said, saysProved, saysRefuted}
 
 module _ (S : System) where

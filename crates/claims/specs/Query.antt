@@ -1,14 +1,14 @@
 -- What an accepted query says: its tests, relations, lets, limits, assumptions and claim. (Document 01, "The query".) A query is the
 -- list of its lines. Tests and relations are numbered from 0 as declared; limits apply to the whole query wherever they stand.
 -- Assumes nothing.
-use Prim.Native.Nat.{ℕ, zero, suc, _/_, _%_, _^_}
+use Prim.Native.Nat.{ℕ, suc, _/_, _%_, _^_}
 use mathlib.Core.Bool.{Bool, true, false, not as flip, _&&_, _||_}
 use mathlib.Core.List.{List, [], _∷_, _++_}
 use lib.Dec.{eqb}
 use lib.ListN.{length}
 use Rattle.kat.specs.Lists.{upto, filter, some}
 use Rattle.claims.specs.Bytes.{same}
-use Rattle.claims.specs.Tree.{Name, TestTree, testName, always, never, either, both, not, Tree, Claim, empty, Line, testLine, relLine, letLine, neverLine, withinLine, closedLine, assumeEmpty, assumeIrreflexive, claimLine}
+use Rattle.claims.specs.Tree.{Name, TestTree, testName, always, never, either, both, not, Tree, Claim, Line, testLine, relLine, letLine, neverLine, withinLine, closedLine, assumeEmpty, assumeIrreflexive, claimLine}
 
 -- a query is the list of its lines ("The query")
 abbrev pub Query : Type 0

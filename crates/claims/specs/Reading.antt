@@ -15,7 +15,7 @@ use Rattle.claims.specs.Lines.{line}
 use Rattle.claims.specs.Names.{uses, firstSlip}
 use Rattle.claims.specs.Query.{Query, each, tests, relations, lets, claimsOf}
 use Rattle.claims.specs.Counting.{withinLimits}
-use Rattle.claims.specs.Refusals.{Cause, tooLong, badByte, notation, tooDeep, tooMany, noClaim, afterClaim, overLimit, Result, ok, refuse, onward}
+use Rattle.claims.specs.Refusals.{tooLong, badByte, notation, tooDeep, tooMany, noClaim, afterClaim, overLimit, Result, ok, refuse, onward}
 
 -- the line of the first byte that is neither printable nor byte 10; n is the line of the first byte ("Refusals with an example each")
 unfoldable pub badLine : ℕ → List ℕ → Option ℕ

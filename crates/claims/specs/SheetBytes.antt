@@ -2,7 +2,7 @@
 -- the 32 rows of M and of N for a ring claim. Sets are 8 bytes, bit k - 1 for occurrence k; a row is 4 bytes, bit k for number k.
 -- Assumes nothing.
 use Prim.Native.Nat.{ℕ, zero, suc}
-use mathlib.Core.Bool.{Bool, true, false, cond}
+use mathlib.Core.Bool.{cond}
 use mathlib.Core.List.{List, [], _∷_, _++_}
 use Rattle.kat.specs.Word.{numbers}
 use Rattle.claims.specs.Standings.{System, Path, Ring, row}

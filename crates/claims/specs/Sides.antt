@@ -4,7 +4,6 @@
 use Prim.Native.Nat.{ℕ}
 use mathlib.Core.Bool.{Bool, true, false}
 use mathlib.Core.List.{List, [], _∷_}
-use mathlib.Core.Option.{Option, some, none}
 use lib.ListN.{length}
 use Rattle.kat.specs.Expr.{Expr, test, alt, seq, rel, any, none as nowhere, opt as optional, star as starred, plus as repeated}
 use Rattle.kat.specs.Tables.{null}

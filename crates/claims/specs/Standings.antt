@@ -6,7 +6,6 @@ use mathlib.Core.Bool.{Bool, true, false, not, cond, _&&_, _||_, Bool·beq}
 use mathlib.Core.List.{List, [], _∷_, _++_, map}
 use lib.Dec.{eqb}
 use lib.ListN.{getD}
-use Rattle.kat.specs.Expr.{Expr}
 use Rattle.kat.specs.Lists.{upto, filter, some, member, isEmpty}
 use Rattle.kat.specs.Tables.{occurrences, reads, null, next, stop, after, ends}
 use Rattle.kat.specs.Closure.{Table, entry, closure}

@@ -1,16 +1,16 @@
 -- What a verdict says, in plain words about words and prefixes. (Document 01, "Standings".) The search of `Search.antt` goes level by
 -- level; these are the statements that its answers are shown to mean, for every kind of standing.
 -- Assumes nothing.
-use Prim.Native.Nat.{ℕ, zero, suc, _+_, _≤_, _<_}
+use Prim.Native.Nat.{ℕ, zero, suc, _≤_, _<_}
 use mathlib.Core.Path.{_≡_}
-use mathlib.Core.Bool.{Bool, true, false}
+use mathlib.Core.Bool.{true, false}
 use mathlib.Core.List.{List, [], _∷_}
 use mathlib.Core.Logic.{_⊎_, _↔_}
 use lib.ListN.{length}
 use Rattle.kat.specs.Lists.{member, In}
 use Rattle.kat.specs.Word.{Word, end, at, size, numbers}
 use Rattle.kat.specs.Ring.{Prefix, nothing, then}
-use Rattle.claims.specs.Standings.{System, Letter}
+use Rattle.claims.specs.Standings.{System}
 use Rattle.claims.specs.Passing.{refuting}
 
 -- how many relations a prefix has ("Standings")

@@ -1,7 +1,7 @@
 -- Refuting words, straight from the languages. (Document 01, "Words".) This is what a verdict is about; the standings and levels
 -- that find it stand in the files below, and the theorems that join them in `proofs/`.
 -- Assumes nothing.
-use Prim.Native.Nat.{ℕ, _<_}
+use Prim.Native.Nat.{_<_}
 use mathlib.Core.Path.{_≡_}
 use mathlib.Core.Bool.{Bool, true, false}
 use Rattle.kat.specs.Expr.{Expr}

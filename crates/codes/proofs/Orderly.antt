@@ -1,24 +1,22 @@
 -- The lines of a query that was read: each is taken after those before it, so its names are declared and of the right kind, and none of
 -- its declarations is one too many. What a name is declared as says in which list of names it stands, and it stands in one only.
 -- Assumes nothing.
-use Prim.Native.Nat.{ℕ, _+_, _≤_}
+use Prim.Native.Nat.{ℕ}
 use native.Mathlib.Omega.{arith}
 use mathlib.Core.Path.{_≡_, refl, sym, _∙_, ap, ap₂, subst}
 use mathlib.Core.Bool.{Bool, true, false, _||_, or-false}
 use mathlib.Core.List.{List, [], _∷_, _++_, map, append-nil, append-assoc, map-append}
 use mathlib.Core.Option.{Option, some, none}
-use lib.ListN.{length, length-append}
-use borrow.Author.Tests.{leb-false}
 use Rattle.claims.specs.Bytes.{RawLine, same}
 use Rattle.claims.specs.Tokens.{isReserved}
 use Rattle.claims.specs.Tree.{Name, Tree, Line, testLine, relLine, letLine, neverLine, withinLine, closedLine, assumeEmpty, assumeIrreflexive, claimLine}
 use Rattle.claims.specs.Names.{Kind, aTest, aRelation, aLet, Use, declares, uses, declares?, kindOf, slip, firstSlip, declarationSlip}
-use Rattle.claims.specs.Query.{Query, Bound, each, testNames, relationNames, lets, tests, relations}
+use Rattle.claims.specs.Query.{Query, Bound, each, relationNames, lets, relations}
 use Rattle.claims.specs.Refusals.{Cause, ok}
 use Rattle.claims.specs.Reading.{crowded, readLines}
 use Rattle.claims.proofs.Results.{same-is-equal, each-append}
 use Rattle.claims.proofs.LineOrder.{Taken, lines-taken}
-use Rattle.claims.proofs.Limits.{Declared}
+use Rattle.claims.proofs.Limits.{Declared, nothing-declared, declared-more}
 use Rattle.codes.specs.Codes.{letNames}
 use Rattle.codes.proofs.Names.{has, same-turned, has-append}
 
@@ -226,40 +224,11 @@ nothing-known : Known []
 unfolding relations letNames kindOf
 nothing-known = record { aRelation = λ n. refl; aLet = λ n. refl }
 
--- declarations within their numbers
-line-room : (p : Query) (l : Line) → crowded p l ≡ false → Declared p
-    → (length (each testNames p) + length (testNames l) ≤ 6)
-    × (length (each relationNames p) + length (relationNames l) ≤ 16)
-    × (length (each lets p) + length (lets l) ≤ 32)
-unfolding crowded testNames relationNames lets tests relations
-line-room p (testLine n) e d = omega (arith, leb-false 6 (length (tests p)) e)
-line-room p (relLine n) e d = omega (arith, leb-false 16 (length (relations p)) e)
-line-room p (letLine n t) e d = omega (arith, leb-false 32 (length (each lets p)) e)
-line-room p (neverLine t) e d = omega arith
-line-room p (withinLine n t u) e d = omega arith
-line-room p (closedLine n) e d = omega arith
-line-room p (assumeEmpty t) e d = omega arith
-line-room p (assumeIrreflexive t) e d = omega arith
-line-room p (claimLine c) e d = omega arith
-
-each-more : {A : Type 0} (f : Line → List A) (p : Query) (l : Line) → length (each f (p ++ (l ∷ []))) ≡ length (each f p) + length (f l)
-each-more f p l =
-    ap length (each-append f p (l ∷ []) ∙ ap (λ x. each f p ++ x) (append-nil (f l))) ∙ length-append (each f p) (f l)
-
-room-more : (p : Query) (l : Line) → crowded p l ≡ false → Declared p → Declared (p ++ (l ∷ []))
-unfolding tests relations
-room-more p l e d =
-    let (a, b, c) = line-room p l e d in
-    record { tests = rw each-more a; relations = rw each-more b; lets = rw each-more c }
-
+-- declarations keep to their numbers
 room-on : (p r : Query) → Orderly p r → Declared p → Declared (p ++ r)
 room-on p [] o d = subst Declared (sym (append-nil p)) d
 room-on p (l ∷ r) (e, c, o) d =
-    subst Declared (append-assoc p (l ∷ []) r) (room-on (p ++ (l ∷ [])) r o (room-more p l c d))
-
-nothing-declared : Declared []
-unfolding tests relations
-nothing-declared = record { tests = omega arith; relations = omega arith; lets = omega arith }
+    subst Declared (append-assoc p (l ∷ []) r) (room-on (p ++ (l ∷ [])) r o (declared-more p l c d))
 
 -- what is known of the names that the lines of p declare
 pub record Settled (p : Query) : Type 0 where
@@ -270,7 +239,7 @@ pub settled-none : Settled []
 settled-none = record { known = nothing-known; room = nothing-declared }
 
 pub settled-more : (p : Query) (l : Line) → firstSlip p (uses l) ≡ none → crowded p l ≡ false → Settled p → Settled (p ++ (l ∷ []))
-settled-more p l e c s = record { known = known-more p l e (s .known); room = room-more p l c (s .room) }
+settled-more p l e c s = record { known = known-more p l e (s .known); room = declared-more p l c (s .room) }
 
 pub settled-on : (p r : Query) → Orderly p r → Settled p → Settled (p ++ r)
 settled-on p r o s = record { known = known-on p r o (s .known); room = room-on p r o (s .room) }

@@ -2,9 +2,10 @@
 -- from. Every operator, postfix and `!` is there as written; brackets are not, lets are not expanded, and a name stands as its kind and
 -- its number. Numbers are small, so that a word holds one. `src/lib.rt` has the same numbers under the same names, with `_` for `-`.
 -- Assumes nothing.
-use Prim.Native.Nat.{ℕ, _+_}
+use Prim.Native.Nat.{ℕ, _+_, _-_}
 use mathlib.Core.List.{List, [], _∷_, _++_, map}
 use mathlib.Core.Option.{Option, some, none}
+use lib.ListN.{length, getD}
 use Rattle.claims.specs.Tree.{Name, TestTree, testName, always, never, either, both, not, Tree, name, tested, union, sequence, star, plus, opt, Claim, includes, empty, irreflexive, Line, testLine, relLine, letLine, neverLine, withinLine, closedLine, assumeEmpty, assumeIrreflexive, claimLine}
 use Rattle.claims.specs.Names.{Kind, aTest, aRelation, aLet, kindOf}
 use Rattle.claims.specs.Query.{Query, Bound, each, indexOf, tests, relations, lets}
@@ -180,3 +181,7 @@ linesCodes q (l ∷ ls) = lineCodes q l ++ linesCodes (q ++ (l ∷ [])) ls
 -- a whole query
 unfoldable pub queryCodes : Query → List ℕ
 queryCodes q = linesCodes [] q
+
+-- the last code, which tells the kind of the claim; 0 where there is none
+unfoldable pub claimKind : List ℕ → ℕ
+claimKind ks = getD ks (length ks - 1) 0

@@ -3,7 +3,7 @@ ghost use mathlib.Core.Path.{_≡_};
 ghost use mathlib.Core.Bool.{cond};
 ghost use Prim.Native.Nat.{_+_, _<_, _^_};
 ghost use lib.Dec.{eqb};
-ghost use Rattle.codes.specs.Codes.{LET-LINE};
+ghost use Rattle.codes.specs.Codes.{LET-LINE, claimKind};
 ghost use Rattle.codes.specs.Lets.{kept};
 
 // T: `true`, `false`, `|`, `&` and `!`.
@@ -102,4 +102,14 @@ pub fn lets_after(n: usize, k: u64) -> usize
     ensures { λ r. ⌜ r ≡ n + cond (eqb k LET-LINE) 1 0 ⌝ }
 {
     if k == LET_LINE { n + 1 } else { n }
+}
+
+// The last code, which tells the kind of the claim; 0 where there is none.
+pub fn claim_kind(codes: &[u64]) -> u64
+    ensures { λ r. ⌜ r ≡ claimKind (now (codes .entry)) ⌝ }
+{
+    if codes.len() == 0 {
+        return 0;
+    }
+    codes[codes.len() - 1]
 }

@@ -3,23 +3,22 @@
 -- x to y, for each z below k (`joins-through`, four cases a step); so the last table is transitive, and it has only what pairs in a row
 -- lead to.
 -- Assumes nothing.
-use Prim.Native.Nat.{ℕ, zero, suc, _+_, _-_, _≤_, _<_}
+use Prim.Native.Nat.{ℕ, zero, suc, _≤_, _<_}
 use native.Mathlib.Nat.{eq-or-lt-of-le}
 use native.Mathlib.Omega.{arith}
-use mathlib.Core.Path.{_≡_, refl, sym, _∙_, ap, subst}
+use mathlib.Core.Path.{_≡_, sym, _∙_, ap, subst}
 use mathlib.Core.Logic.{_⊎_, _↔_, ⊎-elim}
 use mathlib.Core.Logic._⊎_.{inl, inr}
-use mathlib.Core.Bool.{Bool, true, false, _&&_, _||_, true≢false}
-use mathlib.Core.List.{List, [], _∷_, map}
+use mathlib.Core.Bool.{Bool, true, false, _&&_}
+use mathlib.Core.List.{[], map}
 use mathlib.Core.HLevel.{Σ-prop-path}
 use lib.Dec.{T, T-prop, ltb, ltb→lt, lt→ltb}
 use lib.ListN.{getD}
-use borrow.Author.Tests.{ltb-true, ltb-false}
-use Rattle.kat.specs.Lists.{counted, upto}
+use Rattle.kat.specs.Lists.{upto}
 use Rattle.kat.specs.Closure.{Table, table, entry, through, closure}
 use Rattle.kat.specs.Graph.{Plus, once, more}
 use Rattle.kat.proofs.Sets.{at-upto, past-upto}
-use Rattle.kat.proofs.Bools.{lt-or-le, or-cases, or-left, or-right, and-left, and-right, and-both, true-not-false, bool-cases}
+use Rattle.kat.proofs.Bools.{lt-or-le, or-cases, or-left, or-right, and-left, and-right, and-both, true-not-false}
 
 pub entry-table : (n : ℕ) (f : ℕ → ℕ → Bool) (x y : ℕ) → x < n → y < n → entry (table n f) x y ≡ f x y
 unfolding table entry

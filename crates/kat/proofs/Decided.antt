@@ -1,13 +1,13 @@
 -- Whether a word is in the language of an expression is decided by the sets of occurrences that may have just been read.
 -- Assumes nothing.
 use Prim.Native.Nat.{ℕ}
-use mathlib.Core.Path.{_≡_, refl, sym, subst}
+use mathlib.Core.Path.{_≡_, refl, subst}
 use mathlib.Core.Logic.{_⊎_, ⊎-elim, _↔_}
 use mathlib.Core.Logic._⊎_.{inl, inr}
-use mathlib.Core.Bool.{Bool, true, false}
+use mathlib.Core.Bool.{Bool, true}
 use mathlib.Core.List.{List, [], _∷_}
 use Rattle.kat.specs.Expr.{Expr}
-use Rattle.kat.specs.Lists.{In, here, there}
+use Rattle.kat.specs.Lists.{In, here}
 use Rattle.kat.specs.Word.{Word, end, at}
 use Rattle.kat.specs.Language.{Lang}
 use Rattle.kat.specs.Tables.{Reads, after, ends}

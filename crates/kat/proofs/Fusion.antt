@@ -4,14 +4,14 @@
 -- Assumes nothing.
 use Prim.Native.Nat.{ℕ}
 use mathlib.Core.Path.{_≡_, refl, sym, _∙_, ap, subst}
-use mathlib.Core.Logic.{_⊎_, _↔_}
+use mathlib.Core.Logic.{_↔_}
 use mathlib.Core.Logic._⊎_.{inl, inr}
 use mathlib.Core.Bool.{Bool, true}
 use Rattle.kat.specs.Expr.{Expr, step, test, alt, seq, plus}
 use Rattle.kat.specs.Graph.{Rel, Plus, once, more}
 use Rattle.kat.specs.Word.{Word, end, at, first, last}
-use Rattle.kat.specs.Language.{Leads, places, Lang}
-use Rattle.kat.specs.Fusion.{fuse, Product, Power, single, join, Textbook}
+use Rattle.kat.specs.Language.{places, Lang}
+use Rattle.kat.specs.Fusion.{fuse, Power, single, join, Textbook}
 
 last-fuse : (u v : Word) → last (fuse u v) ≡ last v
 last-fuse (end a) v = refl

@@ -5,7 +5,7 @@ use Prim.Native.Nat.{ℕ}
 use mathlib.Core.Path.{_≡_, refl, sym, _∙_, ap, subst}
 use mathlib.Core.Logic.{_⊎_, ⊎-elim, _↔_}
 use mathlib.Core.Logic._⊎_.{inl, inr}
-use mathlib.Core.Bool.{Bool, true}
+use mathlib.Core.Bool.{true}
 use Rattle.kat.specs.Expr.{Expr}
 use Rattle.kat.specs.Ring.{Prefix, nothing, then, join, start}
 use Rattle.kat.specs.Tables.{next, reads, stop, null}

@@ -3,19 +3,19 @@
 -- of an expression an occurrence belongs to.
 -- Assumes nothing.
 use Prim.Native.Nat.{ℕ, suc, _+_}
-use mathlib.Core.Path.{_≡_, refl, sym, _∙_, subst}
-use mathlib.Core.Logic.{_⊎_, ⊎-elim}
+use mathlib.Core.Path.{_≡_, refl, sym, subst}
+use mathlib.Core.Logic.{⊎-elim}
 use mathlib.Core.Logic._⊎_.{inl, inr}
-use mathlib.Core.Bool.{Bool, true, false, _&&_, _||_, true≢false}
+use mathlib.Core.Bool.{Bool, true, _&&_, _||_, true≢false}
 use lib.Dec.{eqb}
 use borrow.Author.Tests.{eqb-true}
 use Rattle.kat.specs.Expr.{Expr, step, test, alt, seq, plus}
-use Rattle.kat.specs.Graph.{Rel, Plus, once, more}
+use Rattle.kat.specs.Graph.{Rel, once, more}
 use Rattle.kat.specs.Word.{Word, at, first}
 use Rattle.kat.specs.Language.{places}
 use Rattle.kat.specs.Tables.{occurrences, reads, null, firsts, lasts, follows}
 use Rattle.kat.proofs.Bools.{or-cases, and-left, and-right}
-use Rattle.kat.proofs.Ranges.{Among, apart, reads-range, firsts-range, lasts-range, follows-range}
+use Rattle.kat.proofs.Ranges.{Among, apart, reads-range, firsts-range, follows-range}
 use Rattle.kat.proofs.Residuals.{Rest, rest-range}
 
 -- a number of the left part is allowed by the left part's table, one of the right part by the right part's

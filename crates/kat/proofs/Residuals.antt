@@ -3,21 +3,20 @@
 -- one letter that `firsts` allows and goes on with a residual; a residual either ends, if `lasts` allows it, or reads one letter that
 -- `follows` allows. Both are shown by the expression alone, and the theorem then by the word; no run is ever cut in two.
 -- Assumes nothing.
-use Prim.Native.Nat.{ℕ, zero, suc, _+_}
+use Prim.Native.Nat.{ℕ, suc, _+_}
 use native.Mathlib.Omega.{arith}
-use mathlib.Core.Path.{_≡_, refl, sym, _∙_, ap, subst}
+use mathlib.Core.Path.{_≡_, refl, sym, _∙_, subst}
 use mathlib.Core.Logic.{_⊎_, ⊎-elim}
 use mathlib.Core.Logic._⊎_.{inl, inr}
-use mathlib.Core.Bool.{Bool, true, false, _&&_, _||_, true≢false}
-use lib.Dec.{eqb}
-use borrow.Author.Tests.{eqb-true, eq-eqb}
+use mathlib.Core.Bool.{Bool, true, false, _&&_, _||_}
+use borrow.Author.Tests.{eq-eqb}
 use Rattle.kat.specs.Expr.{Expr, step, test, alt, seq, plus}
 use Rattle.kat.specs.Graph.{Rel, Plus, once, more}
 use Rattle.kat.specs.Word.{Word, end, at, first}
 use Rattle.kat.specs.Language.{places}
 use Rattle.kat.specs.Tables.{occurrences, reads, null, firsts, lasts, follows}
-use Rattle.kat.proofs.Bools.{or-cases, or-left, or-right, and-left, and-right, and-both}
-use Rattle.kat.proofs.Ranges.{Among, among-left, among-right, apart, reads-range, firsts-range, lasts-range, follows-range}
+use Rattle.kat.proofs.Bools.{or-left, or-right, and-both}
+use Rattle.kat.proofs.Ranges.{Among, among-left, among-right}
 
 -- what e, whose occurrences come after k others, can still read from u to v after its occurrence p
 abbrev pub Rest : Expr → ℕ → ℕ → Word → Word → Type 0

@@ -4,20 +4,20 @@
 -- Assumes nothing.
 use Prim.Native.Nat.{ℕ, zero, suc, _<_}
 use native.Mathlib.Omega.{arith}
-use mathlib.Core.Path.{_≡_, refl, sym, _∙_, ap, subst}
-use mathlib.Core.Logic.{_⊎_, ⊎-elim, _↔_}
+use mathlib.Core.Path.{_≡_, refl, sym, subst}
+use mathlib.Core.Logic.{_⊎_, _↔_}
 use mathlib.Core.Logic._⊎_.{inl, inr}
-use mathlib.Core.Bool.{Bool, true, false, _&&_}
+use mathlib.Core.Bool.{true, _&&_}
 use mathlib.Core.List.{List}
 use Rattle.kat.specs.Expr.{Expr}
-use Rattle.kat.specs.Lists.{In, upto, filter, some}
+use Rattle.kat.specs.Lists.{In, upto, some}
 use Rattle.kat.specs.Word.{Word, end, at, last}
-use Rattle.kat.specs.Language.{places, Lang}
+use Rattle.kat.specs.Language.{Lang}
 use Rattle.kat.specs.Ring.{Prefix, nothing, then, onto}
 use Rattle.kat.specs.Tables.{occurrences, reads, next, stop, firsts, follows, lasts, null, Reads, after, ends}
 use Rattle.kat.specs.Way.{Way}
 use Rattle.kat.proofs.Bools.{and-left, and-right, and-both}
-use Rattle.kat.proofs.Sets.{some-in, in-some, filter-in, in-filter, in-upto, upto-in}
+use Rattle.kat.proofs.Sets.{some-in, in-some, filter-in, in-filter, in-upto}
 use Rattle.kat.proofs.Shapes.{longer-is-no-end}
 use Rattle.kat.proofs.Ranges.{reads-range}
 use Rattle.kat.proofs.Residuals.{Rest, Goes, letter, cut-rel, cut-rest}

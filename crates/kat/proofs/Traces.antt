@@ -5,7 +5,7 @@ use Prim.Native.Nat.{ℕ, zero, suc}
 use mathlib.Core.Path.{_≡_, refl, sym, _∙_, ap, subst}
 use mathlib.Core.Logic.{_↔_}
 use Rattle.kat.specs.Graph.{Graph}
-use Rattle.kat.specs.Word.{Word, end, at}
+use Rattle.kat.specs.Word.{at}
 use Rattle.kat.specs.Walk.{Walk, stay, go, wordOf}
 use Rattle.kat.specs.Ring.{Prefix, nothing, then, onto, body, join, times, start}
 

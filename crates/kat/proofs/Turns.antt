@@ -5,14 +5,13 @@
 -- Assumes nothing.
 use Prim.Native.Nat.{ℕ, zero, suc}
 use mathlib.Core.Path.{_≡_, refl, sym, _∙_, ap, subst}
-use mathlib.Core.Logic.{_⊎_, ⊎-elim, _↔_}
+use mathlib.Core.Logic.{_⊎_, _↔_}
 use mathlib.Core.Logic._⊎_.{inl, inr}
-use mathlib.Core.Bool.{Bool, true}
+use mathlib.Core.Bool.{true}
 use Rattle.kat.specs.Expr.{Expr}
 use Rattle.kat.specs.Graph.{Plus, once, more}
-use Rattle.kat.specs.Word.{end}
 use Rattle.kat.specs.Language.{Lang}
-use Rattle.kat.specs.Ring.{Prefix, nothing, then, onto, join, times, start, round, Covered}
+use Rattle.kat.specs.Ring.{Prefix, nothing, then, join, times, start, round, Covered}
 use Rattle.kat.specs.Tables.{stop, null}
 use Rattle.kat.specs.Way.{Way}
 use Rattle.kat.proofs.Runs.{language-by-ways}

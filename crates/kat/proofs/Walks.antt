@@ -3,14 +3,14 @@
 -- to the end (`along`), and what E relates on the word of a walk, E relates in the graph (`back`).
 -- Assumes nothing.
 use Prim.Native.Nat.{ℕ}
-use mathlib.Core.Path.{_≡_, refl, sym, _∙_, ap, subst}
-use mathlib.Core.Logic.{_⊎_, _↔_}
+use mathlib.Core.Path.{_≡_, refl, sym, subst}
+use mathlib.Core.Logic.{_↔_}
 use mathlib.Core.Logic._⊎_.{inl, inr}
 use mathlib.Core.Bool.{Bool, true}
 use Rattle.kat.specs.Expr.{Expr, step, test, alt, seq, plus}
 use Rattle.kat.specs.Graph.{Graph, Rel, Plus, once, more}
-use Rattle.kat.specs.Word.{Word, end, at, first, last}
-use Rattle.kat.specs.Language.{Leads, places, Lang}
+use Rattle.kat.specs.Word.{Word, end, first, last}
+use Rattle.kat.specs.Language.{places, Lang}
 use Rattle.kat.proofs.Shapes.{longer-is-no-end}
 use Rattle.kat.specs.Walk.{Walk, stay, go, wordOf}
 

@@ -2,9 +2,9 @@
 -- depends on the atom that stands in for the first one where there is no relation.
 -- Assumes nothing.
 use Prim.Native.Nat.{ℕ, zero, suc}
-use mathlib.Core.Path.{_≡_, refl, sym, _∙_, ap, subst}
+use mathlib.Core.Path.{_≡_, refl, sym, _∙_, subst}
 use mathlib.Core.Logic.{_↔_}
-use mathlib.Core.Bool.{Bool, true}
+use mathlib.Core.Bool.{true}
 use Rattle.kat.specs.Expr.{Expr}
 use Rattle.kat.specs.Word.{Word, end, at, first, last}
 use Rattle.kat.specs.Language.{Lang}

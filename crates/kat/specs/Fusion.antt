@@ -5,7 +5,7 @@
 use Prim.Native.Nat.{ℕ}
 use mathlib.Core.Path.{_≡_}
 use mathlib.Core.Logic.{_⊎_}
-use mathlib.Core.Bool.{Bool, true}
+use mathlib.Core.Bool.{true}
 use Rattle.kat.specs.Expr.{Expr, step, test, alt, seq, plus}
 use Rattle.kat.specs.Word.{Word, end, at, first, last}
 

@@ -3,7 +3,7 @@
 -- Assumes nothing.
 use Prim.Native.Nat.{ℕ}
 use mathlib.Core.Path.{_≡_}
-use mathlib.Core.Bool.{Bool, true}
+use mathlib.Core.Bool.{true}
 use Rattle.kat.specs.Expr.{Expr}
 use Rattle.kat.specs.Ring.{Prefix, nothing, then}
 use Rattle.kat.specs.Tables.{next, reads}

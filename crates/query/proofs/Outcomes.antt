@@ -15,18 +15,15 @@ use Rattle.claims.specs.Reading.{read}
 use Rattle.claims.specs.Refusals.{overLimit, Result, ok, refused, refuse}
 use Rattle.codes.specs.Codes.{queryCodes}
 use Rattle.refusals.specs.Causes.{causeOf}
-use Rattle.read_text.specs.Reading.{readable, leftCodes, Says as Says-readable}
+use Rattle.read_text.specs.Reading.{readable, leftCodes, summaryOf, Says as Says-readable}
 use Rattle.words.specs.Memory.{zeros}
 use Rattle.refusals.specs.declared.Reason.{Reason}
 use Rattle.refusals.specs.declared.Reason.the-variants.{OverLimit}
+use Rattle.read_text.specs.declared.Summary.{Summary}
 use Rattle.read_text.specs.declared.Reading.{Reading}
 use Rattle.read_text.specs.declared.Reading.the-variants.{Accepted as Accepted-codes, Refused as Refused-codes}
-use Rattle.side_limits.specs.Tally.{times, lineCount}
-use Rattle.side_limits.specs.Sizes.{sizesOf, withinTest}
 use Rattle.codes.proofs.Orderly.{settled-none, settled-on}
-use Rattle.side_limits.proofs.Counted.{exact-within}
 use Rattle.codes.proofs.Claimed.{Claimed}
-use Rattle.side_limits.proofs.Counts.{line-count, tests-counted, relations-counted}
 use Rattle.side_turned.specs.SideTable.{sideTable}
 use Rattle.side_build.specs.Built.{leftTable, rightTable}
 use Rattle.side_build.proofs.Decided.{Decided, decided}
@@ -34,8 +31,8 @@ use Rattle.side_relations.proofs.Removed.{below-sixty-four}
 use Rattle.query.specs.declared.Answer.{Answer}
 use Rattle.query.specs.declared.Answer.the-variants.{Accepted, Refused}
 use Rattle.query.specs.Answer.{factsOf, Says, claimTable, tableAfter, leftAfter, rightAfter}
-use Rattle.query.specs.Counted.{factsFrom, LeavesTables, Judged, Limited}
-use Rattle.query.proofs.Readings.{Accepts, accepts, taken-claimed, read-within, read-over, read-refused}
+use Rattle.query.specs.Counted.{isRing, factsFrom, LeavesTables, Judged, inLimits, Limited}
+use Rattle.query.proofs.Readings.{Accepts, accepts, taken-claimed, ring-told, read-within, read-over, read-refused}
 
 -- the answer and every lent word are what the reading says
 record Right (x : Result Query) (a : Answer) (codes left right : List ℕ) : Type 0 where
@@ -69,37 +66,24 @@ module _ (q : Query) (c : Claim) (h : Claimed q c) (D : Decided q c) (few : leng
   whole : take 4096 (queryCodes q) ≡ queryCodes q
   whole = take-all 4096 (queryCodes q) few
 
-  atoms-counted : min (2 ^ times 128 (queryCodes q)) 64 ≡ atoms q
+  atoms-counted : min (2 ^ length (tests q)) 64 ≡ atoms q
   unfolding atoms
   atoms-counted =
       let few-tests = below-sixty-four (length (tests q)) (settled-on [] q (h .lines) settled-none .room .tests) in
-      ap (λ n. min (2 ^ n) 64) (tests-counted q (h .lines)) ∙ omega arith
+      omega arith
 
-  facts-right : (n : ℕ) (b : Bool) → b ≡ decision q c .ring → factsFrom n b (queryCodes q) ≡ factsOf n (decision q c)
-  unfolding factsFrom factsOf
-  facts-right n b e =
+  facts-right : (b : Bool) → b ≡ decision q c .ring → factsFrom (summaryOf q) b (queryCodes q) ≡ factsOf (length (queryCodes q)) (decision q c)
+  unfolding factsFrom factsOf summaryOf
+  facts-right b e =
       let (x, y, z) = decision-parts q c in
-      rw (
-        factsFrom,
-        factsOf,
-        whole,
-        D .left-count,
-        D .right-count,
-        D .live-set,
-        atoms-counted,
-        relations-counted q (h .lines),
-        e,
-        x,
-        y,
-        z,
-      ) refl
+      rw (factsFrom, factsOf, whole, D .left-count, D .right-count, D .live-set, atoms-counted, e, x, y, z) refl
 
   tables-right : (l r : List ℕ) → LeavesTables (queryCodes q) l r
       → (l ≡ sideTable (decision q c .left)) × (r ≡ sideTable (decision q c .right))
   tables-right l r (x, y) = (x ∙ ap leftTable whole ∙ D .left-table, y ∙ ap rightTable whole ∙ D .right-table)
 
 -- what the limits say of the codes that were read
-module _ (bs : List ℕ) (n : ℕ) (out : List ℕ) (a : Accepts bs n out) (w : out ≡ leftCodes (readable bs)) where
+module _ (bs : List ℕ) (s : Summary) (out : List ℕ) (a : Accepts bs s out) (w : out ≡ leftCodes (readable bs)) where
   abbrev q : Query
   q = a .query
 
@@ -107,45 +91,47 @@ module _ (bs : List ℕ) (n : ℕ) (out : List ℕ) (a : Accepts bs n out) (w : 
   c = a .taken .claim
 
   few : length (queryCodes q) ≤ 4096
-  few = omega (arith, a .count, a .room)
+  unfolding summaryOf
+  few = omega (arith, ap (λ (k : Summary). k .codes) (a .known), a .room)
 
-  within-right : (x : Answer) (l r : List ℕ) → withinTest (sizesOf (take n out)) ≡ true
-      → x ≡ Accepted (factsFrom n (sizesOf (take n out) .ring) (take n out)) → LeavesTables (take n out) l r → Right (read bs) x out l r
+  last-line : s .lines ≡ length q
+  unfolding summaryOf
+  last-line = ap (λ (k : Summary). k .lines) (a .known)
+
+  within-right : (x : Answer) (l r : List ℕ) → inLimits s out ≡ true → x ≡ Accepted (factsFrom s (isRing s) (take (s .codes) out))
+      → LeavesTables (take (s .codes) out) l r → Right (read bs) x out l r
   unfolding tableAfter claimTable
   within-right x l r t e f =
-      let (isOk, inside) = read-within bs n out a t in
+      let (isOk, inside) = read-within bs s out a t in
       let h = taken-claimed bs q (a .taken) in
       let D = decided q c h inside few in
-      let ring = exact-within q c h (sym (ap (λ ks. withinTest (sizesOf ks)) (a .codes)) ∙ t) .ring in
       let (lt, rt) = tables-right q c h D few l r (subst (λ ks. LeavesTables ks l r) (a .codes) f) in
       subst⁻¹ (λ v. Right v x out l r) isOk
       (record {
-        answer = subst⁻¹ (Says (ok q)) (e ∙ ap (λ ks. Accepted (factsFrom n (sizesOf ks .ring) ks)) (a .codes) ∙ ap Accepted
-            (facts-right q c h D few n (sizesOf (queryCodes q) .ring) ring ∙ ap (λ k. factsOf k (decision q c)) (a .count)))
+        answer = subst⁻¹ (Says (ok q)) (e ∙ ap Accepted (ap (factsFrom s (isRing s)) (a .codes)
+            ∙ ap (λ k. factsFrom k (isRing s) (queryCodes q)) (a .known) ∙ facts-right q c h D few (isRing s) (ring-told bs s out a)))
             (c, a .taken .found, refl);
         codes-left = w ∙ ap leftCodes (a .is-it);
         left-table = lt ∙ sym (ap (claimTable (λ d. d .left) q) (a .taken .found));
         right-table = rt ∙ sym (ap (claimTable (λ d. d .right) q) (a .taken .found));
       })
 
-  over-right : (x : Answer) (out′ l r : List ℕ) → withinTest (sizesOf (take n out)) ≡ false
-      → x ≡ Refused OverLimit (lineCount (take n out)) → out′ ≡ zeros 4096 → l ≡ zeros 4241 → r ≡ zeros 4241 → Right (read bs) x out′ l r
+  over-right : (x : Answer) (out′ l r : List ℕ) → inLimits s out ≡ false → x ≡ Refused OverLimit (s .lines) → out′ ≡ zeros 4096 → l ≡ zeros 4241 → r ≡ zeros 4241 → Right (read bs) x out′ l r
   unfolding tableAfter leftCodes causeOf
   over-right x out′ l r t e z y v =
-      let h = taken-claimed bs q (a .taken) in
-      subst⁻¹ (λ s. Right s x out′ l r) (read-over bs n out a t)
+      subst⁻¹ (λ v. Right v x out′ l r) (read-over bs s out a t)
       (record {
-        answer = subst⁻¹ (Says (refuse overLimit (length q))) (e ∙ ap (Refused OverLimit) (ap lineCount (a .codes) ∙ line-count q (h .lines))) (refl, refl);
+        answer = subst⁻¹ (Says (refuse overLimit (length q))) (e ∙ ap (Refused OverLimit) last-line) (refl, refl);
         codes-left = z;
         left-table = y;
         right-table = v;
       })
 
   limits-right : (l r : List ℕ) → l ≡ zeros 4241 → r ≡ zeros 4241 → (x : Answer) (out′ l′ r′ : List ℕ)
-      → Limited n out l r x out′ l′ r′ → Right (read bs) x out′ l′ r′
-  limits-right l r y v x out′ l′ r′ j = go (withinTest (sizesOf (take n out))) refl j
+      → Limited s out l r x out′ l′ r′ → Right (read bs) x out′ l′ r′
+  limits-right l r y v x out′ l′ r′ j = go (inLimits s out) refl j
     where
-      go : (b : Bool) → withinTest (sizesOf (take n out)) ≡ b → Judged n out l r b x out′ l′ r′ → Right (read bs) x out′ l′ r′
+      go : (b : Bool) → inLimits s out ≡ b → Judged s out l r b x out′ l′ r′ → Right (read bs) x out′ l′ r′
       go true t (e, k, f) = subst⁻¹ (λ o. Right (read bs) x o l′ r′) k (within-right x l′ r′ t e f)
       go false t (e, z, f, g) = over-right x out′ l′ r′ t e z (f ∙ y) (g ∙ v)
 
@@ -164,16 +150,16 @@ module _ (bs : List ℕ) (res : Reading) (out : List ℕ) (said : Says-readable 
       outcome (read bs) (Refused why p) out l r
       (refusal-right bs why p out l r (subst (Says-readable (readable bs)) e said) left-codes (x ∙ ap zeros f) (y ∙ ap zeros g))
 
-  module _ (n : ℕ) (e : res ≡ Accepted-codes n) (size : length out ≡ 4096) where
-    accepted : Accepts bs n out
-    accepted = accepts bs n out size (subst (Says-readable (readable bs)) e said) left-codes
+  module _ (s : Summary) (e : res ≡ Accepted-codes s) (size : length out ≡ 4096) where
+    accepted : Accepts bs s out
+    accepted = accepts bs s out size (subst (Says-readable (readable bs)) e said) left-codes
 
-    pub accepted-room : (n ≤ 4096) × (length out ≡ 4096)
+    pub accepted-room : (s .codes ≤ 4096) × (length out ≡ 4096)
     accepted-room = (accepted .room, size)
 
     -- and the others
     pub accepted-way : (j k : ℕ) (l r : List ℕ) → j ≡ 4241 → l ≡ zeros j → k ≡ 4241 → r ≡ zeros k
-        → (a : Answer) (out′ l′ r′ : List ℕ) → Limited n out l r a out′ l′ r′ → Outcome (read bs) a out′ l′ r′
+        → (a : Answer) (out′ l′ r′ : List ℕ) → Limited s out l r a out′ l′ r′ → Outcome (read bs) a out′ l′ r′
     accepted-way j k l r f x g y a out′ l′ r′ z =
         outcome (read bs) a out′ l′ r′
-        (limits-right bs n out accepted left-codes l r (x ∙ ap zeros f) (y ∙ ap zeros g) a out′ l′ r′ z)
+        (limits-right bs s out accepted left-codes l r (x ∙ ap zeros f) (y ∙ ap zeros g) a out′ l′ r′ z)

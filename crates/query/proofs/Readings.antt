@@ -3,27 +3,30 @@
 -- Assumes nothing.
 use Prim.Native.Nat.{ℕ, _-_, _≤_}
 use native.Mathlib.Omega.{arith}
-use mathlib.Core.Path.{_≡_, refl, sym, _∙_, ap}
+use mathlib.Core.Path.{_≡_, refl, sym, _∙_, ap, ap₂}
 use mathlib.Core.Bool.{Bool, true, false}
 use mathlib.Core.List.{List, []}
 use mathlib.Core.Option.{Option, some, none}
-use lib.Dec.{leb}
+use lib.Dec.{eqb, leb}
 use lib.ListN.{length, take, length-append}
 use lib.Seq.{take-append-seam}
 use Rattle.claims.specs.Bytes.{rawLines}
-use Rattle.claims.specs.Tree.{Claim}
+use Rattle.claims.specs.Tree.{Claim, includes, empty, irreflexive}
 use Rattle.claims.specs.Query.{Query}
+use Rattle.claims.specs.Sides.{decision}
 use Rattle.claims.specs.Counting.{withinLimits}
 use Rattle.claims.specs.Reading.{badLine, claimOf, readLines, limited, read}
 use Rattle.claims.specs.Refusals.{tooLong, badByte, noClaim, overLimit, Refusal, Result, ok, refused, refuse, onward}
 use Rattle.codes.specs.Codes.{queryCodes}
-use Rattle.read_text.specs.Reading.{claimed, inLines, readable, leftCodes, Says}
+use Rattle.read_text.specs.Reading.{claimed, inLines, readable, leftCodes, summaryOf, Says}
 use Rattle.words.specs.Memory.{zeros}
+use Rattle.read_text.specs.declared.Summary.{Summary}
 use Rattle.read_text.specs.declared.Reading.the-variants.{Accepted}
 use Rattle.read_text.proofs.Answers.{readable-then-limits}
 use Rattle.side_limits.specs.Sizes.{sizesOf, withinTest}
 use Rattle.side_limits.proofs.Counted.{within-is-within}
-use Rattle.codes.proofs.Claimed.{Claimed, read-claimed}
+use Rattle.codes.proofs.Claimed.{Claimed, read-claimed, claimEnd, claim-kind}
+use Rattle.query.specs.Counted.{isRing, inLimits}
 
 same-query : (p q : Query) → _≡_ {A = Result Query} (ok p) (ok q) → p ≡ q
 same-query p q e = cc
@@ -69,31 +72,41 @@ readable-taken bs q e = go (leb (length bs) 4096) (badLine 1 bs) e
 pub taken-claimed : (bs : List ℕ) (q : Query) (t : Taken bs q) → Claimed q (t .claim)
 taken-claimed bs q t = read-claimed (rawLines bs) q (t .claim) (t .lines) (t .found)
 
--- an accepted reading is that of a query, whose codes are the first n of the array
-pub record Accepts (bs : List ℕ) (n : ℕ) (out : List ℕ) : Type 0 where
+-- an accepted reading is that of a query, of which s is the summary, and whose codes are the first of the array
+pub record Accepts (bs : List ℕ) (s : Summary) (out : List ℕ) : Type 0 where
   pub query : Query
   pub is-it : readable bs ≡ ok query
   pub taken : Taken bs query
-  pub codes : take n out ≡ queryCodes query
-  pub count : n ≡ length (queryCodes query)
-  pub room : n ≤ 4096
+  pub codes : take (s .codes) out ≡ queryCodes query
+  pub known : s ≡ summaryOf query
+  pub room : s .codes ≤ 4096
 
-pub accepts : (bs : List ℕ) (n : ℕ) (out : List ℕ) → length out ≡ 4096 → Says (readable bs) (Accepted n) → out ≡ leftCodes (readable bs) → Accepts bs n out
-unfolding leftCodes
-accepts bs n out l s w = go (readable bs) refl s w
+pub accepts : (bs : List ℕ) (s : Summary) (out : List ℕ) → length out ≡ 4096 → Says (readable bs) (Accepted s) → out ≡ leftCodes (readable bs) → Accepts bs s out
+unfolding leftCodes summaryOf
+accepts bs s out l said w = go (readable bs) refl said w
   where
-    go : (r : Result Query) → readable bs ≡ r → Says r (Accepted n) → out ≡ leftCodes r → Accepts bs n out
-    go (ok q) e s w =
+    count : (q : Query) → s ≡ summaryOf q → s .codes ≡ length (queryCodes q)
+    count q e = ap (λ (x : Summary). x .codes) e
+
+    go : (r : Result Query) → readable bs ≡ r → Says r (Accepted s) → out ≡ leftCodes r → Accepts bs s out
+    go (ok q) e k w =
         record {
           query = q;
           is-it = e;
           taken = readable-taken bs q e;
-          codes = ap (λ k. take k out) s ∙ ap (take (length (queryCodes q))) w
+          codes = ap (λ n. take n out) (count q k) ∙ ap (take (length (queryCodes q))) w
               ∙ take-append-seam (queryCodes q) (zeros (4096 - length (queryCodes q)));
-          count = s;
-          room = omega (arith, ap length w, length-append (queryCodes q) (zeros (4096 - length (queryCodes q))));
+          known = k;
+          room = omega (arith, ap length w, count q k, length-append (queryCodes q) (zeros (4096 - length (queryCodes q))));
         }
-    go (refused r) e s w = absurd s
+    go (refused r) e k w = absurd k
+
+-- the last code tells whether the claim is one of rings
+ring-end : (q : Query) (c : Claim) → eqb (claimEnd c) 138 ≡ decision q c .ring
+unfolding decision
+ring-end q (includes e f) = refl
+ring-end q (empty e) = refl
+ring-end q (irreflexive e) = refl
 
 -- the limits
 limited-by : (q : Query) (c : Claim) → claimOf q ≡ some c → (b : Bool) → withinLimits q c ≡ b
@@ -101,22 +114,27 @@ limited-by : (q : Query) (c : Claim) → claimOf q ≡ some c → (b : Bool) →
 unfolding limited
 limited-by q c e b f = rw (e, f, limited)
 
-module _ (bs : List ℕ) (n : ℕ) (out : List ℕ) (a : Accepts bs n out) where
-  tested : (b : Bool) → withinTest (sizesOf (take n out)) ≡ b → withinLimits (a .query) (a .taken .claim) ≡ b
+module _ (bs : List ℕ) (s : Summary) (out : List ℕ) (a : Accepts bs s out) where
+  pub ring-told : isRing s ≡ decision (a .query) (a .taken .claim) .ring
+  unfolding isRing summaryOf
+  ring-told =
+      ap isRing (a .known) ∙ ap (λ k. eqb k 138) (claim-kind (a .query) (a .taken .claim) (taken-claimed bs (a .query) (a .taken)))
+      ∙ ring-end (a .query) (a .taken .claim)
+
+  tested : (b : Bool) → inLimits s out ≡ b → withinLimits (a .query) (a .taken .claim) ≡ b
   tested b e =
       sym (within-is-within (a .query) (a .taken .claim) (taken-claimed bs (a .query) (a .taken)))
-      ∙ sym (ap (λ ks. withinTest (sizesOf ks)) (a .codes)) ∙ e
+      ∙ sym (ap₂ (λ r ks. withinTest (sizesOf r ks)) ring-told (a .codes)) ∙ e
 
-  read-is : (b : Bool) → withinTest (sizesOf (take n out)) ≡ b
-      → read bs ≡ elim b [ true ↦ ok (a .query) | false ↦ refuse overLimit (length (a .query)) ]
+  read-is : (b : Bool) → inLimits s out ≡ b → read bs ≡ elim b [ true ↦ ok (a .query) | false ↦ refuse overLimit (length (a .query)) ]
   read-is b e =
       readable-then-limits bs ∙ ap (λ r. onward r limited) (a .is-it)
       ∙ limited-by (a .query) (a .taken .claim) (a .taken .found) b (tested b e)
 
-  pub read-within : withinTest (sizesOf (take n out)) ≡ true → (read bs ≡ ok (a .query)) × (withinLimits (a .query) (a .taken .claim) ≡ true)
+  pub read-within : inLimits s out ≡ true → (read bs ≡ ok (a .query)) × (withinLimits (a .query) (a .taken .claim) ≡ true)
   read-within e = (read-is true e, tested true e)
 
-  pub read-over : withinTest (sizesOf (take n out)) ≡ false → read bs ≡ refuse overLimit (length (a .query))
+  pub read-over : inLimits s out ≡ false → read bs ≡ refuse overLimit (length (a .query))
   read-over e = read-is false e
 
 -- a refusal of the reader is one of document 01's reading

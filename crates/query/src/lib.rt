@@ -1,6 +1,7 @@
 // From the bytes of a query to its decision: what the search, the sheet check and the judge of graphs start from. (Document 01, "The query",
 // "Words", "Standings" and "Refusals with an example each".) Every list of bytes gets an answer, and every lent word is said.
 use read_text::Reading;
+use read_text::Summary;
 use refusals::Reason;
 use side_limits::Sizes;
 ghost use Prim.Native.Nat.{_≤_};
@@ -9,9 +10,8 @@ ghost use lib.ListN.{length, take};
 ghost use Rattle.claims.specs.Reading.{read as reading};
 ghost use Rattle.read_text.specs.Reading.{leftCodes};
 ghost use Rattle.side_limits.specs.Sizes.{sizesOf};
-ghost use Rattle.side_limits.specs.Tally.{lineCount};
 ghost use Rattle.query.specs.Answer.{Says, leftAfter, rightAfter};
-ghost use Rattle.query.specs.Counted.{factsFrom, LeavesTables, Limited};
+ghost use Rattle.query.specs.Counted.{isRing, factsFrom, LeavesTables, Limited};
 
 // What an accepted query leaves: how many codes it has, whether its claim is one of rings, the occurrences of its two sides, the number of
 // its atoms and relations, and the set of the atoms that no `never` removes.
@@ -31,39 +31,38 @@ pub enum Answer {
     Refused(Reason, usize),
 }
 
-// What the first n codes count.
-fn sizes(codes: &[u64], n: usize) -> Sizes
-    requires { ⌜ n ≤ length (now codes) ⌝ }
-    ensures { λ r. ⌜ r ≡ sizesOf (take n (now (codes .entry))) ⌝ }
+// Whether the claim is one of rings.
+fn is_ring(known: Summary) -> bool
+    ensures { λ r. ⌜ r ≡ isRing known ⌝ }
 {
-    let part = &codes[..n];
-    side_limits::sizes_of(part)
+    known.kind == codes::CLAIM_IRREFLEXIVE
 }
 
-// How many lines the first n codes have.
-fn lines(codes: &[u64], n: usize) -> usize
+// What the first n codes count, for a claim of rings or not.
+fn sizes(codes: &[u64], n: usize, ring: bool) -> Sizes
     requires { ⌜ n ≤ length (now codes) ⌝ }
-    ensures { λ r. ⌜ r ≡ lineCount (take n (now (codes .entry))) ⌝ }
+    ensures { λ r. ⌜ r ≡ sizesOf ring (take n (now (codes .entry))) ⌝ }
 {
     let part = &codes[..n];
-    side_limits::lines_of(part)
+    side_limits::sizes_of(part, ring)
 }
 
-// The facts of the first n codes, and the tables of the two sides.
+// The facts of the query, and the tables of the two sides.
 fn tabled(
     codes: &[u64],
-    n: usize,
+    known: Summary,
     ring: bool,
     left: &mut [u64; 4241],
     right: &mut [u64; 4241],
 ) -> Facts
-    requires { ⌜ n ≤ length (now codes) ⌝ }
-    ensures { λ r. ⌜ (r ≡ factsFrom n ring (take n (now (codes .entry)))) × LeavesTables (take n (now (codes .entry))) (now (left .exit)) (now (right .exit)) ⌝ }
+    requires { ⌜ known .codes ≤ length (now codes) ⌝ }
+    ensures { λ r. ⌜ (r ≡ factsFrom known ring (take (known .codes) (now (codes .entry))))
+        × LeavesTables (take (known .codes) (now (codes .entry))) (now (left .exit)) (now (right .exit)) ⌝ }
 {
+    let n = known.codes;
+    let tests = known.tests as u64;
     let part = &codes[..n];
-    let tests = side_limits::times(part, codes::TEST_LINE);
-    let relations = side_limits::times(part, codes::REL_LINE);
-    let b = side_build::build(part, left, right);
+    let b = side_build::build(part, tests, left, right);
     Facts {
         codes: n,
         ring,
@@ -71,22 +70,27 @@ fn tabled(
         right: b.right,
         atoms: side_relations::atom_count(tests),
         live: b.live,
-        relations: relations as usize,
+        relations: known.relations,
     }
 }
 
-// The limits, for a query with n codes: refusal 8 at its last line, or its facts and tables.
-fn limited(codes: &mut [u64], n: usize, left: &mut [u64; 4241], right: &mut [u64; 4241]) -> Answer
-    requires { ⌜ (n ≤ 4096) × (length (now codes) ≡ 4096) ⌝ }
-    ensures { λ r. ⌜ Limited n (now (codes .entry)) (now (left .entry)) (now (right .entry)) r (now (codes .exit)) (now (left .exit)) (now (right .exit)) ⌝ }
+// The limits, for a query that was read: refusal 8 at its last line, or its facts and tables.
+fn limited(
+    codes: &mut [u64],
+    known: Summary,
+    left: &mut [u64; 4241],
+    right: &mut [u64; 4241],
+) -> Answer
+    requires { ⌜ (known .codes ≤ 4096) × (length (now codes) ≡ 4096) ⌝ }
+    ensures { λ r. ⌜ Limited known (now (codes .entry)) (now (left .entry)) (now (right .entry)) r (now (codes .exit)) (now (left .exit)) (now (right .exit)) ⌝ }
 {
-    let s = sizes(codes, n);
+    let ring = is_ring(known);
+    let s = sizes(codes, known.codes, ring);
     if !side_limits::within_limits(s) {
-        let line = lines(codes, n);
         words::clear(codes);
-        return Answer::Refused(Reason::OverLimit, line);
+        return Answer::Refused(Reason::OverLimit, known.lines);
     }
-    let f = tabled(codes, n, s.ring, left, right);
+    let f = tabled(codes, known, ring, left, right);
     Answer::Accepted(f)
 }
 
@@ -108,6 +112,6 @@ pub fn read(
     let r = read_text::read(text, codes);
     match r {
         Reading::Refused(why, line) => Answer::Refused(why, line),
-        Reading::Accepted(n) => limited(codes, n, left, right),
+        Reading::Accepted(known) => limited(codes, known, left, right),
     }
 }

@@ -20,6 +20,7 @@ use Rattle.words.specs.Memory.{zeros}
 use Rattle.refusals.specs.Causes.{causeOf}
 use Rattle.refusals.specs.declared.Reason.{Reason}
 use Rattle.refusals.specs.declared.Reason.the-variants.{TooLong, BadByte}
+use Rattle.read_text.specs.declared.Summary.{Summary}
 use Rattle.read_text.specs.declared.Reading.{Reading}
 use Rattle.read_text.specs.declared.Reading.the-variants.{Accepted, Refused}
 use Rattle.read_text.proofs.TextLines.{bad-line-there, bad-line-none}
@@ -49,7 +50,7 @@ unfolding readable
 readable-lines bs h e = rw (le-leb (length bs) 4096 h, readable, e)
 
 -- the array as the answer leaves it
-left-accepted : (r : Result Query) (n : ℕ) (before out : List ℕ) → before ≡ zeros 4096 → Says r (Accepted n) → Written r before out → out ≡ leftCodes r
+left-accepted : (r : Result Query) (n : Summary) (before out : List ℕ) → before ≡ zeros 4096 → Says r (Accepted n) → Written r before out → out ≡ leftCodes r
 unfolding leftCodes
 left-accepted (ok q) n before out e s w =
     w ∙ ap (λ l. queryCodes q ++ l) (ap (drop (length (queryCodes q))) e ∙ drop-zeros (length (queryCodes q)) 4096)
@@ -90,7 +91,7 @@ module _ (bs out : List ℕ) where
         let t : Says (readable bs) (Refused c p) = subst⁻¹ (λ x. Says x (Refused c p)) read-by-lines (subst (Says (inLines bs)) f s) in
         (t, z ∙ ap zeros m ∙ left-refused (readable bs) c p t)
 
-    pub answer-accepted : (r : Reading) (k n : ℕ) (before : List ℕ) → Says (inLines bs) r → Written (inLines bs) before out → r ≡ Accepted k
+    pub answer-accepted : (r : Reading) (k : Summary) (n : ℕ) (before : List ℕ) → Says (inLines bs) r → Written (inLines bs) before out → r ≡ Accepted k
         → n ≡ 4096 → before ≡ zeros n → Answered bs (Accepted k) out
     answer-accepted r k n before s w f m z =
         let t : Says (inLines bs) (Accepted k) = subst (Says (inLines bs)) f s in (

@@ -10,8 +10,8 @@ use mathlib.Core.Bool.{true, false}
 use mathlib.Core.List.{List, [], _∷_, _++_}
 use mathlib.Core.Option.{Option, some, none}
 use lib.Dec.{ltb}
-use lib.ListN.{length, take, drop, length-take, drop-of-length-le}
-use lib.Seq.{sets, sets-eq}
+use lib.ListN.{length, take, drop, length-take, length-append, drop-of-length-le}
+use lib.Seq.{sets, sets-eq, take-append-seam}
 use Rattle.claims.specs.Bytes.{RawLine, rawLines}
 use Rattle.claims.specs.Tree.{Claim}
 use Rattle.claims.specs.Lines.{line}
@@ -22,11 +22,12 @@ use Rattle.claims.specs.Names.{kindOf}
 use Rattle.codes.specs.Codes.{codeOf, kindCode, queryCodes, linesCodes}
 use Rattle.read_tokens.specs.Scan.{front}
 use Rattle.read_names.specs.Keys.{findIn}
-use Rattle.read_text.specs.Reading.{inLine, claimed, inLines, Says, Written}
+use Rattle.read_text.specs.Reading.{inLine, claimed, inLines, summaryOf, known, Says, Written}
 use Rattle.read_lines.specs.State.{After, Small, Knows, Took, LineSays, ReadsLine, lineFate}
 use Rattle.refusals.specs.Causes.{causeOf}
 use Rattle.refusals.specs.declared.Reason.{Reason}
 use Rattle.refusals.specs.declared.Reason.the-variants.{NoClaim}
+use Rattle.read_text.specs.declared.Summary.{Summary}
 use Rattle.read_text.specs.declared.Reading.the-variants.{Accepted, Refused}
 use Rattle.read_lines.specs.declared.State.{State}
 use Rattle.read_lines.specs.declared.LineRead.{LineRead}
@@ -57,6 +58,7 @@ pub record Going (text before : List ℕ) (st : State) (names out : List ℕ) (n
   pub short : st .used ≤ length text
   pub within : at ≤ length text + 1
   pub counted : n ≤ at + 1
+  pub numbered : n ≡ length query + 1
 
 pub going-start : (text out names : List ℕ) → length names ≡ 192
     → Going text out (record { used = 0; names = 0; tests = 0; relations = 0; lets = 0; claimed = false }) names out 1 0
@@ -72,6 +74,7 @@ going-start text out names a =
       short = omega arith;
       within = omega arith;
       counted = omega arith;
+      numbered = refl;
     }
 
 -- the line from `at` to e
@@ -107,6 +110,7 @@ module _ (text before : List ℕ) (st : State) (names out : List ℕ) (n at e : 
         short = omega (arith, t .short, g .used, length-take (e - at) (drop at text));
         within = omega arith;
         counted = omega (arith, g .counted);
+        numbered = omega (arith, g .numbered, length-append (g .query) (t .line ∷ []));
       }
 
   -- a line that is refused
@@ -145,10 +149,27 @@ module _ (text before : List ℕ) (st : State) (names out : List ℕ) (n at : �
       go none f t = claimed-none (g .query) f
       go (some c) f t = absurd (let z : _≡_ {A = ℕ} 0 1 = cc in omega arith)
 
-  pub over-claimed : length text ≤ length before → st .claimed ≡ true → Says (inLines text) (Accepted (st .used)) × Written (inLines text) before out
-  over-claimed m e =
-      subst⁻¹ (λ x. Says x (Accepted (st .used)) × Written x before out) (all-read ∙ go (claimOf (g .query)) refl (sym (g .after .claimed) ∙ e))
-      (g .after .used, g .after .written ∙ sets-from-start before (queryCodes (g .query)) (omega (arith, g .after .used, g .short)))
+  read-so-far : length text ≤ length before → out ≡ queryCodes (g .query) ++ drop (length (queryCodes (g .query))) before
+  read-so-far m = g .after .written ∙ sets-from-start before (queryCodes (g .query)) (omega (arith, g .after .used, g .short))
+
+  -- the array has room for what was read
+  pub read-within : length text ≤ length before → length out ≡ length before → st .used ≤ length out
+  read-within m s = omega (arith, g .short)
+
+  known-summary : length text ≤ length before → known st (n - 1) (take (st .used) out) ≡ summaryOf (g .query)
+  unfolding known summaryOf
+  known-summary m =
+      let front : take (st .used) out ≡ queryCodes (g .query) =
+      ap (λ k. take k out) (g .after .used) ∙ ap (take (length (queryCodes (g .query)))) (read-so-far m)
+      ∙ take-append-seam (queryCodes (g .query)) (drop (length (queryCodes (g .query))) before) in
+      let lines : n - 1 ≡ length (g .query) = omega (arith, g .numbered) in
+      rw (known, summaryOf, front, lines, g .after .used, g .after .tests, g .after .relations) refl
+
+  pub over-claimed : length text ≤ length before → st .claimed ≡ true → (s : Summary) → s ≡ known st (n - 1) (take (st .used) out)
+      → Says (inLines text) (Accepted s) × Written (inLines text) before out
+  over-claimed m e s i =
+      subst⁻¹ (λ x. Says x (Accepted s) × Written x before out) (all-read ∙ go (claimOf (g .query)) refl (sym (g .after .claimed) ∙ e))
+      (i ∙ known-summary m, read-so-far m)
     where
       go : (o : Option Claim) → claimOf (g .query) ≡ o → elim o [ some c ↦ true | none ↦ false ] ≡ true → claimed (g .query) ≡ ok (g .query)
       go none f t = absurd (let z : _≡_ {A = ℕ} 0 1 = cc in omega arith)

@@ -9,11 +9,13 @@ use mathlib.Core.Option.{Option, some, none}
 use lib.Dec.{eqb, leb}
 use lib.ListN.{length, drop}
 use Rattle.claims.specs.Bytes.{rawLines}
-use Rattle.claims.specs.Query.{Query}
+use Rattle.claims.specs.Query.{Query, tests, relations}
 use Rattle.claims.specs.Reading.{badLine, claimOf, readLines}
 use Rattle.claims.specs.Refusals.{tooLong, badByte, noClaim, Result, ok, refused, refuse, onward}
-use Rattle.codes.specs.Codes.{queryCodes}
+use Rattle.codes.specs.Codes.{queryCodes, claimKind}
+use Rattle.read_lines.specs.declared.State.{State}
 use Rattle.refusals.specs.Causes.{causeOf}
+use Rattle.read_text.specs.declared.Summary.{Summary}
 use Rattle.read_text.specs.declared.Reading.{Reading}
 use Rattle.read_text.specs.declared.Reading.the-variants.{Accepted, Refused}
 use Rattle.words.specs.Memory.{zeros}
@@ -43,11 +45,22 @@ readable bs =
       | true ↦ elim (badLine 1 bs) [ some n ↦ refuse badByte n | none ↦ inLines bs ]
     ]
 
--- the answer says what was read: how many codes the query has, or the cause and the place
+-- what is known of a query: how many codes, lines, tests and relations it has, and its last code, which tells the kind of its claim
+unfoldable pub summaryOf : Query → Summary
+summaryOf q =
+    record {
+      codes = length (queryCodes q);
+      lines = length q;
+      tests = length (tests q);
+      relations = length (relations q);
+      kind = claimKind (queryCodes q);
+    }
+
+-- the answer says what was read: the summary of the query, or the cause and the place
 abbrev pub Says : Result Query → Reading → Type 0
-Says (ok q) (Accepted n) = n ≡ length (queryCodes q)
+Says (ok q) (Accepted s) = s ≡ summaryOf q
 Says (ok q) (Refused c p) = ⊥
-Says (refused r) (Accepted n) = ⊥
+Says (refused r) (Accepted s) = ⊥
 Says (refused r) (Refused c p) = (causeOf c ≡ r .cause) × (p ≡ r .place)
 
 -- the lent array: the codes of the query, and zeros behind; all zeros after a refusal
@@ -59,3 +72,8 @@ leftCodes (refused r) = zeros 4096
 abbrev pub Written : Result Query → List ℕ → List ℕ → Type 0
 Written (ok q) before out = out ≡ queryCodes q ++ drop (length (queryCodes q)) before
 Written (refused r) before out = Unit {0}
+
+-- what the reader's state says after so many lines with these codes
+unfoldable pub known : State → ℕ → List ℕ → Summary
+known st n ks =
+    record { codes = st .used; lines = n; tests = st .tests; relations = st .relations; kind = claimKind ks }

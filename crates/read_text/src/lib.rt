@@ -6,14 +6,24 @@ use refusals::Reason;
 use words::clear;
 ghost use mathlib.Core.Path.{_≡_};
 ghost use Prim.Native.Nat.{_+_, _≤_};
-ghost use lib.ListN.{length, drop};
+ghost use lib.ListN.{length, take, drop};
 ghost use Rattle.claims.specs.Reading.{badLine};
 ghost use Rattle.read_tokens.specs.Scan.{front};
-ghost use Rattle.read_text.specs.Reading.{inLine, orZero, inLines, readable, Says, leftCodes, Written};
+ghost use Rattle.read_text.specs.Reading.{inLine, orZero, inLines, readable, known, Says, leftCodes, Written};
 
-// The number of codes of an accepted query, or the reason and the place of a refusal.
+// What the reader knows of a query that it has read: how many codes, lines, tests and relations it has, and the last code, which tells the
+// kind of its claim.
+pub struct Summary {
+    pub codes: usize,
+    pub lines: usize,
+    pub tests: usize,
+    pub relations: usize,
+    pub kind: u64,
+}
+
+// The summary of an accepted query, or the reason and the place of a refusal.
 pub enum Reading {
-    Accepted(usize),
+    Accepted(Summary),
     Refused(Reason, usize),
 }
 
@@ -55,6 +65,22 @@ fn line_end(text: &[u8], at: usize) -> usize
     i
 }
 
+// What is known after so many lines, whose codes are the first of the array.
+fn known_of(out: &[u64], st: State, lines: usize) -> Summary
+    requires { ⌜ st .used ≤ length (now out) ⌝ }
+    ensures { λ r. ⌜ r ≡ known st lines (take (st .used) (now (out .entry))) ⌝ }
+{
+    let n = st.used;
+    let part = &out[..n];
+    Summary {
+        codes: n,
+        lines,
+        tests: st.tests,
+        relations: st.relations,
+        kind: codes::claim_kind(part),
+    }
+}
+
 // The lines from the top.
 fn every_line(text: &[u8], names: &mut [u64; 192], out: &mut [u64; 4096]) -> Reading
     requires { ⌜ (length (now text) ≤ 4096) × (length (now names) ≡ 192) × (length (now out) ≡ 4096) ⌝ }
@@ -87,7 +113,7 @@ fn every_line(text: &[u8], names: &mut [u64; 192], out: &mut [u64; 4096]) -> Rea
     if !st.claimed {
         return Reading::Refused(Reason::NoClaim, 0);
     }
-    Reading::Accepted(st.used)
+    Reading::Accepted(known_of(out, st, number - 1))
 }
 
 // Refusals 1 and 2, and then the lines. `names` is lent for the table of names.
@@ -109,7 +135,7 @@ fn read_text(text: &[u8], names: &mut [u64; 192], out: &mut [u64; 4096]) -> Read
             clear(out);
             Reading::Refused(why, line)
         }
-        Reading::Accepted(n) => Reading::Accepted(n),
+        Reading::Accepted(s) => Reading::Accepted(s),
     }
 }
 

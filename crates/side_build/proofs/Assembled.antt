@@ -4,7 +4,6 @@
 use Prim.Native.Nat.{ℕ}
 use mathlib.Core.Path.{_≡_, ap, _∙_, subst}
 use mathlib.Core.List.{List}
-use Rattle.side_limits.specs.Tally.{times}
 use Rattle.side_turned.specs.Turned.{sideWords}
 use Rattle.side_items.specs.Items.{argsOf, paired, itemsOf}
 use Rattle.side_relations.specs.Relations.{relationSets, removedSet, liveSet}
@@ -25,11 +24,9 @@ module _ (ks xs : List ℕ) (e : xs ≡ argsOf ks) where
   unfolding itemsOf
   jumps-found ops args next j = subst (λ ys. Jumps (paired ks ys) ops args next) e j
 
-  pub live-found : (n removed live : ℕ) → n ≡ times 128 ks → removed ≡ removedSet (paired ks xs) → live ≡ liveSet n removed
-      → live ≡ liveSet (times 128 ks) (removedSet (itemsOf ks))
+  pub live-found : (n removed live : ℕ) → removed ≡ removedSet (paired ks xs) → live ≡ liveSet n removed → live ≡ liveSet n (removedSet (itemsOf ks))
   unfolding itemsOf
-  live-found n removed live f g h =
-      h ∙ (ap (λ x. liveSet x removed) f ∙ ap (liveSet (times 128 ks)) (g ∙ ap (λ ys. removedSet (paired ks ys)) e))
+  live-found n removed live g h = h ∙ ap (liveSet n) (g ∙ ap (λ ys. removedSet (paired ks ys)) e)
 
 -- the table of a machine that is in memory
 pub side-filled : (m : Machine) (first last follow letters parts : List ℕ) (t : Top) (z : ℕ) (ws : List ℕ)
@@ -40,13 +37,13 @@ side-filled m first last follow letters parts t z ws e f g =
     (ap (λ (n : Machine). n .used) e, g ∙ (ap (sideWords first last follow letters (t .used)) f ∙ ap sideOf e))
 
 -- all of it, by the sets of the relations
-pub all-built : (ks rels : List ℕ) → rels ≡ relsOf ks → (m n live : ℕ) (us ws : List ℕ)
+pub all-built : (ks rels : List ℕ) → rels ≡ relsOf ks → (m n t live : ℕ) (us ws : List ℕ)
     → (m ≡ leftMachine rels ks .used) × (us ≡ sideOf (leftMachine rels ks))
     → (n ≡ rightMachine rels ks .used) × (ws ≡ sideOf (rightMachine rels ks))
-    → live ≡ liveSet (times 128 ks) (removedSet (itemsOf ks))
-    → (record { left = m; right = n; live = live } ≡ builtFrom ks) × (us ≡ leftTable ks) × (ws ≡ rightTable ks)
+    → live ≡ liveSet t (removedSet (itemsOf ks))
+    → (record { left = m; right = n; live = live } ≡ builtFrom t ks) × (us ≡ leftTable ks) × (ws ≡ rightTable ks)
 unfolding builtFrom leftTable rightTable
-all-built ks rels e m n live us ws (f, g) (h, i) j =
+all-built ks rels e m n t live us ws (f, g) (h, i) j =
     let f′ : m ≡ leftMachine (relsOf ks) ks .used = f ∙ ap (λ x. leftMachine x ks .used) e in
     let h′ : n ≡ rightMachine (relsOf ks) ks .used = h ∙ ap (λ x. rightMachine x ks .used) e in
     (cc, g ∙ ap (λ x. sideOf (leftMachine x ks)) e, i ∙ ap (λ x. sideOf (rightMachine x ks)) e)

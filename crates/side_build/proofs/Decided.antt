@@ -8,19 +8,16 @@ use lib.ListN.{length}
 use Rattle.kat.specs.Expr.{Expr}
 use Rattle.kat.specs.Tables.{occurrences}
 use Rattle.claims.specs.Tree.{Claim}
-use Rattle.claims.specs.Query.{Query, live}
+use Rattle.claims.specs.Query.{Query, tests, live}
 use Rattle.claims.specs.Fields.{setNumber}
 use Rattle.claims.specs.Sides.{decision}
 use Rattle.claims.specs.Counting.{withinLimits}
 use Rattle.codes.specs.Codes.{queryCodes}
 use Rattle.codes.proofs.Claimed.{Claimed}
-use Rattle.side_limits.proofs.Counts.{tests-counted}
 use Rattle.side_turned.specs.SideTable.{sideTable}
 use Rattle.side_turned.specs.Turned.{sideWords}
 use Rattle.side_turned.proofs.SideTable.{side-is-table}
 use Rattle.side_parts.specs.Machine.{Machine, topPart, nothingBuilt}
-use Rattle.side_items.specs.Items.{itemsOf}
-use Rattle.side_relations.specs.Relations.{removedSet, liveSet}
 use Rattle.side_build.specs.Built.{relsOf, sideOf, leftTable, rightTable, builtFrom}
 use Rattle.side_parts.proofs.Builds.{Built as BuiltOn}
 use Rattle.side_parts.proofs.BuiltAlone.{built-alone}
@@ -43,9 +40,9 @@ table-built E m b few =
 pub record Decided (q : Query) (c : Claim) : Type 0 where
   pub left-table : leftTable (queryCodes q) ≡ sideTable (decision q c .left)
   pub right-table : rightTable (queryCodes q) ≡ sideTable (decision q c .right)
-  pub left-count : builtFrom (queryCodes q) .left ≡ occurrences (decision q c .left)
-  pub right-count : builtFrom (queryCodes q) .right ≡ occurrences (decision q c .right)
-  pub live-set : builtFrom (queryCodes q) .live ≡ setNumber 0 (live q)
+  pub left-count : builtFrom (length (tests q)) (queryCodes q) .left ≡ occurrences (decision q c .left)
+  pub right-count : builtFrom (length (tests q)) (queryCodes q) .right ≡ occurrences (decision q c .right)
+  pub live-set : builtFrom (length (tests q)) (queryCodes q) .live ≡ setNumber 0 (live q)
 
 pub decided : (q : Query) (c : Claim) → Claimed q c → withinLimits q c ≡ true → length (queryCodes q) ≤ 4096 → Decided q c
 unfolding leftTable rightTable builtFrom relsOf
@@ -59,5 +56,5 @@ decided q c h w few =
       right-table = rt;
       left-count = lc;
       right-count = rc;
-      live-set = ap (λ t. liveSet t (removedSet (itemsOf (queryCodes q)))) (tests-counted q (h .lines)) ∙ live-atoms q (h .lines) few;
+      live-set = live-atoms q (h .lines) few;
     }

@@ -4,8 +4,6 @@
 -- Assumes nothing.
 use Prim.Native.Nat.{ℕ}
 use mathlib.Core.List.{List}
-use Rattle.codes.specs.Codes.{TEST-LINE}
-use Rattle.side_limits.specs.Tally.{times}
 use Rattle.side_turned.specs.Turned.{sideWords}
 use Rattle.side_items.specs.Items.{itemsOf}
 use Rattle.side_relations.specs.Relations.{relationSets, removedSet, liveSet}
@@ -29,11 +27,11 @@ leftTable ks = sideOf (leftMachine (relsOf ks) ks)
 unfoldable pub rightTable : List ℕ → List ℕ
 rightTable ks = sideOf (rightMachine (relsOf ks) ks)
 
--- the occurrences of each, and the atoms that are left
-unfoldable pub builtFrom : List ℕ → Built
-builtFrom ks =
+-- the occurrences of each, and which atoms of so many tests are left
+unfoldable pub builtFrom : ℕ → List ℕ → Built
+builtFrom tests ks =
     record {
       left = leftMachine (relsOf ks) ks .used;
       right = rightMachine (relsOf ks) ks .used;
-      live = liveSet (times TEST-LINE ks) (removedSet (itemsOf ks));
+      live = liveSet tests (removedSet (itemsOf ks));
     }

@@ -2,8 +2,6 @@
 ghost use Prim.Native.Nat.{_≤_};
 ghost use mathlib.Core.Path.{_≡_};
 ghost use lib.ListN.{length, take};
-ghost use Rattle.codes.specs.Codes.{TEST-LINE};
-ghost use Rattle.side_limits.specs.Tally.{times};
 ghost use Rattle.side_items.specs.Items.{argsOf, itemsOf};
 ghost use Rattle.side_relations.specs.Relations.{removedSet, liveSet};
 ghost use Rattle.side_claim.specs.Sides.{leftMachine, rightMachine};
@@ -125,11 +123,10 @@ fn fill_right(
 }
 
 // The atoms that are left.
-fn live_of(codes: &[u64], args: &[u64]) -> u64
+fn live_of(codes: &[u64], args: &[u64], tests: u64) -> u64
     requires { ⌜ (now args ≡ argsOf (now codes)) × (length (now args) ≡ length (now codes)) ⌝ }
-    ensures { λ r. ⌜ r ≡ liveSet (times TEST-LINE (now (codes .entry))) (removedSet (itemsOf (now (codes .entry)))) ⌝ }
+    ensures { λ r. ⌜ r ≡ liveSet tests (removedSet (itemsOf (now (codes .entry)))) ⌝ }
 {
-    let tests = side_limits::times(codes, codes::TEST_LINE);
     let removed = side_relations::removed_set(codes, args);
     side_relations::live_set(tests, removed)
 }
@@ -141,11 +138,12 @@ fn build_in(
     ops: &mut [u64],
     xs: &mut [u64],
     next: &mut [u64],
+    tests: u64,
     left: &mut [u64; 4241],
     right: &mut [u64; 4241],
 ) -> Built
     requires { ⌜ Places (now codes) (now args) (now ops) (now xs) (now next) × (length (now codes) ≤ 4096) ⌝ }
-    ensures { λ r. ⌜ (r ≡ builtFrom (now (codes .entry))) × (now (left .exit) ≡ leftTable (now (codes .entry)))
+    ensures { λ r. ⌜ (r ≡ builtFrom tests (now (codes .entry))) × (now (left .exit) ≡ leftTable (now (codes .entry)))
         × (now (right .exit) ≡ rightTable (now (codes .entry))) ⌝ }
 {
     let mut rels = [0u64; codes::RELATION_SETS];
@@ -155,14 +153,14 @@ fn build_in(
     Built {
         left: m,
         right: n,
-        live: live_of(codes, args),
+        live: live_of(codes, args, tests),
     }
 }
 
 // No more than 4,096 codes.
-fn build_within(codes: &[u64], left: &mut [u64; 4241], right: &mut [u64; 4241]) -> Built
+fn build_within(codes: &[u64], tests: u64, left: &mut [u64; 4241], right: &mut [u64; 4241]) -> Built
     requires { ⌜ length (now codes) ≤ 4096 ⌝ }
-    ensures { λ r. ⌜ (r ≡ builtFrom (now (codes .entry))) × (now (left .exit) ≡ leftTable (now (codes .entry)))
+    ensures { λ r. ⌜ (r ≡ builtFrom tests (now (codes .entry))) × (now (left .exit) ≡ leftTable (now (codes .entry)))
         × (now (right .exit) ≡ rightTable (now (codes .entry))) ⌝ }
 {
     let n = codes.len();
@@ -176,19 +174,20 @@ fn build_within(codes: &[u64], left: &mut [u64; 4241], right: &mut [u64; 4241]) 
         &mut ops[..n],
         &mut xs[..n],
         &mut next[..n],
+        tests,
         left,
         right,
     )
 }
 
-// The tables of the two sides of the claim of the codes, of which no more than 4,096 count.
-pub fn build(codes: &[u64], left: &mut [u64; 4241], right: &mut [u64; 4241]) -> Built
-    ensures { λ r. ⌜ (r ≡ builtFrom (take 4096 (now (codes .entry))))
+// The tables of the two sides of the claim of the codes, of which no more than 4,096 count, and the atoms of so many tests that are left.
+pub fn build(codes: &[u64], tests: u64, left: &mut [u64; 4241], right: &mut [u64; 4241]) -> Built
+    ensures { λ r. ⌜ (r ≡ builtFrom tests (take 4096 (now (codes .entry))))
         × (now (left .exit) ≡ leftTable (take 4096 (now (codes .entry))))
         × (now (right .exit) ≡ rightTable (take 4096 (now (codes .entry)))) ⌝ }
 {
     if codes.len() <= 4096 {
-        return build_within(codes, left, right);
+        return build_within(codes, tests, left, right);
     }
-    build_within(&codes[..4096], left, right)
+    build_within(&codes[..4096], tests, left, right)
 }

@@ -1,20 +1,18 @@
 -- Where the expressions of a query with a claim start: those assumed empty, those assumed irreflexive, and those of the claim, each by the
--- code that it ends with. The last code of the query is the end of the claim.
+-- code that it ends with.
 -- Assumes nothing.
-use Prim.Native.Nat.{ℕ, _-_, _≤_, _<_}
+use Prim.Native.Nat.{ℕ, _≤_, _<_}
 use native.Mathlib.Omega.{arith}
-use mathlib.Core.Path.{_≡_, refl, sym, _∙_, ap, ap₂, subst}
-use mathlib.Core.List.{List, [], _∷_, _++_, append-nil, append-assoc, append-eq-nil-iff}
-use lib.ListN.{length, getD, length-append}
-use lib.Seq.{getD-at}
+use mathlib.Core.Path.{_≡_, refl, _∙_, ap, ap₂, subst}
+use mathlib.Core.List.{List, [], _∷_, _++_, append-nil, append-eq-nil-iff}
+use lib.ListN.{length, length-append}
 use borrow.Author.Tests.{ne-eqb}
 use Rattle.claims.specs.Tree.{Tree, Claim, includes, empty, irreflexive, Line, testLine, relLine, letLine, neverLine, withinLine, closedLine, assumeEmpty, assumeIrreflexive, claimLine}
 use Rattle.claims.specs.Query.{Query, each, assumedEmpty, assumedIrreflexive, claimsOf}
 use Rattle.claims.proofs.Results.{each-append}
-use Rattle.codes.specs.Codes.{treeCodes, claimCodes, lineCodes, linesCodes, queryCodes}
-use Rattle.codes.proofs.Claimed.{Claimed, lines-append}
+use Rattle.codes.specs.Codes.{treeCodes, linesCodes, queryCodes}
+use Rattle.codes.proofs.Claimed.{Claimed}
 use Rattle.side_items.specs.Items.{startsOf}
-use Rattle.side_claim.specs.Sides.{claimKind}
 use Rattle.side_items.proofs.Placed.{Placed, PlacedAll}
 use Rattle.side_claim.proofs.Starts.{only, claimEnding, ending, ending-placed}
 
@@ -91,30 +89,6 @@ module _ (q : Query) (c : Claim) (h : Claimed q c) where
   pub claim-placed : (k : ℕ) → 135 ≤ k → k ≤ 138 → PlacedAll q (claimEnding k c) (startsOf k (queryCodes q))
   claim-placed k low high =
       subst (λ es. PlacedAll q es (startsOf k (queryCodes q))) (claim-ends q c h k low) (ending-placed q (h .lines) k (omega arith) high)
-
--- the code that a claim ends with
-abbrev pub claimEnd : Claim → ℕ
-claimEnd (includes e f) = 136
-claimEnd (empty e) = 137
-claimEnd (irreflexive e) = 138
-
-claim-last : (p : Query) (c : Claim) → (xs : List ℕ) × (claimCodes p c ≡ xs ++ (claimEnd c ∷ []))
-unfolding claimCodes
-claim-last p (includes e f) = (treeCodes p e ++ (135 ∷ treeCodes p f), refl)
-claim-last p (empty e) = (treeCodes p e, refl)
-claim-last p (irreflexive e) = (treeCodes p e, refl)
-
--- it is the last of the query
-pub claim-kind : (q : Query) (c : Claim) → Claimed q c → claimKind (queryCodes q) ≡ claimEnd c
-unfolding claimKind queryCodes linesCodes lineCodes
-claim-kind q c h =
-    let p = h .before in
-    let (xs, e) = claim-last p c in
-    let z : linesCodes [] q ≡ (linesCodes [] p ++ xs) ++ (claimEnd c ∷ []) =
-    ap (linesCodes []) (h .last) ∙ lines-append [] p (claimLine c ∷ [])
-    ∙ ap (λ y. linesCodes [] p ++ y) (append-nil (claimCodes p c) ∙ e) ∙ sym (append-assoc (linesCodes [] p) xs (claimEnd c ∷ [])) in
-    ap (λ ks. getD ks (length ks - 1) 0) z
-    ∙ getD-at (linesCodes [] p ++ xs) (claimEnd c) [] 0 _ (omega (arith, length-append (linesCodes [] p ++ xs) (claimEnd c ∷ [])))
 
 -- an expression starts before the last code
 pub placed-before : (q : Query) (e : Tree) (s : ℕ) → Placed q e s → s < length (queryCodes q)

@@ -17,7 +17,7 @@ use Rattle.claims.specs.Sides.{side, unionAll, a0, a1, zero as zeroWords, somew
 use Rattle.claims.specs.Counting.{leavesOf, total, sizeOf, withAnys, leftSize, rightSize, withinLimits}
 use Rattle.claims.proofs.Counts.{total-append}
 use Rattle.claims.proofs.Limits.{WithinLimits, decision-within-limits}
-use Rattle.codes.specs.Codes.{queryCodes}
+use Rattle.codes.specs.Codes.{queryCodes, claimKind}
 use Rattle.codes.proofs.Orderly.{Orderly, settled-none, settled-on}
 use Rattle.codes.proofs.Claimed.{Claimed}
 use Rattle.bits.proofs.Bit.{bit-ones}
@@ -27,7 +27,7 @@ use Rattle.side_atoms.proofs.Singles.{any-single}
 use Rattle.side_parts.specs.Machine.{Machine, united, stepped, nothingBuilt}
 use Rattle.side_items.specs.Items.{itemsOf, startsOf}
 use Rattle.side_runs.specs.Execution.{execute, executeAll, unitedTimes, executeUnion}
-use Rattle.side_claim.specs.Sides.{leftMachine, claimKind, zeroSet, besides, between, anyStar, rightMachine}
+use Rattle.side_claim.specs.Sides.{leftMachine, zeroSet, besides, between, anyStar, rightMachine}
 use Rattle.side_parts.proofs.Builds.{Built, Builds}
 use Rattle.side_parts.proofs.BuildsLeaves.{builds-more, builds-same, builds-given, builds-fresh}
 use Rattle.side_parts.proofs.BuildsJoined.{builds-union, builds-sequence}
@@ -35,7 +35,8 @@ use Rattle.side_parts.proofs.BuildsIterated.{builds-star}
 use Rattle.side_parts.proofs.BuiltAlone.{builds-on-nothing, null-alone}
 use Rattle.side_items.proofs.Placed.{Placed, PlacedAll, Limited}
 use Rattle.side_claim.proofs.Starts.{claimEnding}
-use Rattle.side_claim.proofs.Endings.{empty-placed, irreflexive-placed, claim-placed, claim-kind, placed-before, no-starts}
+use Rattle.codes.proofs.Claimed.{claim-kind}
+use Rattle.side_claim.proofs.Endings.{empty-placed, irreflexive-placed, claim-placed, placed-before, no-starts}
 use Rattle.side_runs.proofs.Executed.{placed-builds}
 use Rattle.side_claim.proofs.Leaves.{union-occurrences-few, FewLeaves, within-few}
 

@@ -8,7 +8,8 @@ use borrow.Author.Tests.{eq-eqb, ne-eqb}
 use Rattle.side_parts.specs.Machine.{Machine, topPart, stepped, nothingBuilt}
 use Rattle.side_items.specs.Items.{itemsOf, startsOf}
 use Rattle.side_runs.specs.Execution.{executeAll, executeUnion}
-use Rattle.side_claim.specs.Sides.{leftMachine, claimKind, zeroSet, besides, between, anyStar, rightMachine}
+use Rattle.codes.specs.Codes.{claimKind}
+use Rattle.side_claim.specs.Sides.{leftMachine, zeroSet, besides, between, anyStar, rightMachine}
 use Rattle.side_parts.specs.Memory.{partsIn, machineIn}
 use Rattle.side_parts.specs.declared.Top.{Top}
 

@@ -1,11 +1,10 @@
 -- The two sides of the claim of a query, built from its codes. (Document 01, "Words".)
 -- Assumes nothing.
-use Prim.Native.Nat.{ℕ, _-_}
+use Prim.Native.Nat.{ℕ}
 use mathlib.Core.Bool.{cond}
 use mathlib.Core.List.{List}
 use lib.Dec.{eqb}
-use lib.ListN.{length, getD}
-use Rattle.codes.specs.Codes.{TESTED, UNION, SEQUENCE, STAR, ANY, ASSUME-EMPTY, ASSUME-IRREFLEXIVE, INCLUDED, CLAIM-INCLUDE, CLAIM-EMPTY, CLAIM-IRREFLEXIVE}
+use Rattle.codes.specs.Codes.{TESTED, UNION, SEQUENCE, STAR, ANY, ASSUME-EMPTY, ASSUME-IRREFLEXIVE, INCLUDED, CLAIM-INCLUDE, CLAIM-EMPTY, CLAIM-IRREFLEXIVE, claimKind}
 use Rattle.side_parts.specs.Machine.{Machine, topPart, stepped, nothingBuilt}
 use Rattle.side_items.specs.Items.{itemsOf, startsOf}
 use Rattle.side_runs.specs.Execution.{executeAll, executeUnion}
@@ -15,10 +14,6 @@ unfoldable pub leftMachine : List ℕ → List ℕ → Machine
 leftMachine rels ks =
     let is = itemsOf ks in
     executeAll rels is (startsOf CLAIM-IRREFLEXIVE ks) (executeAll rels is (startsOf CLAIM-EMPTY ks) (executeAll rels is (startsOf INCLUDED ks) (nothingBuilt 0)))
-
--- the last code, which tells the kind of the claim
-unfoldable pub claimKind : List ℕ → ℕ
-claimKind ks = getD ks (length ks - 1) 0
 
 -- the set of length-0 words of a1: its occurrences are of no concern, so they are numbered past the tables ("Words")
 unfoldable pub zeroSet : List ℕ → List ℕ → ℕ

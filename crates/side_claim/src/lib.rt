@@ -1,4 +1,9 @@
 // The two sides of a claim, on the tables and the parts in memory. (Document 01, "Words".)
+use codes::ANY;
+use codes::SEQUENCE;
+use codes::STAR;
+use codes::TESTED;
+use codes::UNION;
 use side_parts::Top;
 use side_parts::nothing;
 use side_parts::null_at;
@@ -11,19 +16,9 @@ ghost use lib.ListN.{length};
 ghost use Rattle.codes.specs.Codes.{SEQUENCE};
 ghost use Rattle.side_items.specs.Items.{itemsOf};
 ghost use Rattle.side_parts.specs.Machine.{stepped, nothingBuilt};
-ghost use Rattle.side_claim.specs.Sides.{leftMachine, claimKind, zeroSet, besides, between, anyStar, rightMachine};
+ghost use Rattle.side_claim.specs.Sides.{leftMachine, zeroSet, besides, between, anyStar, rightMachine};
 ghost use Rattle.side_parts.specs.Memory.{Fits, machineIn};
 ghost use Rattle.side_jumps.specs.Jumps.{Jumps, Onward};
-
-// The last code, which tells the kind of the claim.
-fn claim_kind(codes: &[u64]) -> u64
-    ensures { λ r. ⌜ r ≡ claimKind (now (codes .entry)) ⌝ }
-{
-    if codes.len() == 0 {
-        return 0;
-    }
-    codes[codes.len() - 1]
-}
 
 // The left side: the expression of the claim, or what stands before `in`.
 pub fn left_side(
@@ -146,28 +141,8 @@ fn any_star(
         ≡ anyStar (now (rels .entry))
         (machineIn (now (first .entry)) (now (last .entry)) (now (follow .entry)) (now (letters .entry)) (now (parts .entry)) top)) ⌝ }
 {
-    let any = step(
-        codes::ANY,
-        0,
-        rels,
-        first,
-        last,
-        follow,
-        letters,
-        parts,
-        top,
-    );
-    step(
-        codes::STAR,
-        0,
-        rels,
-        first,
-        last,
-        follow,
-        letters,
-        parts,
-        any,
-    )
+    let any = step(ANY, 0, rels, first, last, follow, letters, parts, top);
+    step(STAR, 0, rels, first, last, follow, letters, parts, any)
 }
 
 // What any*;e;any* is united with: y of an inclusion, `[false]` of an empty claim, a1 of a ring claim.
@@ -193,7 +168,7 @@ fn beside(
         ≡ besides (now (rels .entry)) (now (codes .entry))
         (machineIn (now (first .entry)) (now (last .entry)) (now (follow .entry)) (now (letters .entry)) (now (parts .entry)) top)) ⌝ }
 {
-    let kind = claim_kind(codes);
+    let kind = codes::claim_kind(codes);
     if kind == codes::CLAIM_IRREFLEXIVE {
         return run_union(
             codes,
@@ -227,17 +202,7 @@ fn beside(
         );
         return ran.top;
     }
-    step(
-        codes::TESTED,
-        0,
-        rels,
-        first,
-        last,
-        follow,
-        letters,
-        parts,
-        top,
-    )
+    step(TESTED, 0, rels, first, last, follow, letters, parts, top)
 }
 
 // a0, and in a path claim `zero` with it, the set of the atoms that are words of a1.
@@ -264,7 +229,7 @@ fn inside(
         ≡ between (now (rels .entry)) (now (codes .entry))
         (machineIn (now (first .entry)) (now (last .entry)) (now (follow .entry)) (now (letters .entry)) (now (parts .entry)) top)) ⌝ }
 {
-    let empty = run_union(
+    let a0 = run_union(
         codes,
         ops,
         xs,
@@ -278,31 +243,11 @@ fn inside(
         codes::ASSUME_EMPTY,
         top,
     );
-    if claim_kind(codes) == codes::CLAIM_IRREFLEXIVE {
-        return empty;
+    if codes::claim_kind(codes) == codes::CLAIM_IRREFLEXIVE {
+        return a0;
     }
-    let with = step(
-        codes::TESTED,
-        zero,
-        rels,
-        first,
-        last,
-        follow,
-        letters,
-        parts,
-        empty,
-    );
-    step(
-        codes::UNION,
-        0,
-        rels,
-        first,
-        last,
-        follow,
-        letters,
-        parts,
-        with,
-    )
+    let with = step(TESTED, zero, rels, first, last, follow, letters, parts, a0);
+    step(UNION, 0, rels, first, last, follow, letters, parts, with)
 }
 
 // The right side up to the second any*: what the rest is united with, and any*;e.
@@ -357,17 +302,7 @@ fn opening(
         zero,
         any,
     );
-    step(
-        codes::SEQUENCE,
-        0,
-        rels,
-        first,
-        last,
-        follow,
-        letters,
-        parts,
-        both,
-    )
+    step(SEQUENCE, 0, rels, first, last, follow, letters, parts, both)
 }
 
 // The right side: y | any*;(a0 | zero);any*, or a1 | any*;a0;any*.
@@ -406,26 +341,6 @@ pub fn right_side(
         zero,
     );
     let any = any_star(rels, first, last, follow, letters, parts, before);
-    let path = step(
-        codes::SEQUENCE,
-        0,
-        rels,
-        first,
-        last,
-        follow,
-        letters,
-        parts,
-        any,
-    );
-    step(
-        codes::UNION,
-        0,
-        rels,
-        first,
-        last,
-        follow,
-        letters,
-        parts,
-        path,
-    )
+    let path = step(SEQUENCE, 0, rels, first, last, follow, letters, parts, any);
+    step(UNION, 0, rels, first, last, follow, letters, parts, path)
 }

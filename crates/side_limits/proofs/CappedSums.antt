@@ -14,7 +14,7 @@ use borrow.Author.Tests.{eqb-true, eqb-false, ltb-true, ltb-false}
 use Rattle.kat.proofs.Bools.{lt-or-le}
 use Rattle.side_limits.specs.declared.Sizes.{Sizes}
 use Rattle.side_limits.specs.declared.Sums.{Sums}
-use Rattle.side_limits.specs.Tally.{Tally, capped, weight, endsLeft, rightEnd, step, nothing, tally, relationLeaves, ring, rightSide}
+use Rattle.side_limits.specs.Tally.{Tally, capped, weight, endsLeft, rightEnd, step, nothing, tally, relationLeaves, rightSide}
 use Rattle.side_limits.specs.Sizes.{exactSizes, cappedSize, cappedSizes, sizesOf}
 use Rattle.side_limits.specs.CappedSums.{Agrees, Turned, rightSum}
 use Rattle.codes.specs.Lets.{kept}
@@ -167,7 +167,7 @@ right-capped true t d s a = omega (arith, a .irreflexive, a .empty)
 right-capped false t d s a = omega (arith, a .right, a .empty)
 
 -- both counts together
-pub sizes-agree : (ks : List ℕ) (b : Bool) (rels : List ℕ) (o l : Sums) (x y : ℕ) → b ≡ ring ks
+pub sizes-agree : (ks : List ℕ) (b : Bool) (rels : List ℕ) (o l : Sums) (x y : ℕ)
     → Agrees (tally 0 (λ n. getD (replicate 16 1) n 0) ks) o
     → ((n : ℕ) → n < 16 → getD rels n 0 ≡ relationLeaves ks n)
     → Agrees (tally 1 (λ n. getD rels n 0) ks) l
@@ -179,11 +179,11 @@ pub sizes-agree : (ks : List ℕ) (b : Bool) (rels : List ℕ) (o l : Sums) (x y
       right = record { occurrences = x; leaves = y };
       own = l .irreflexive;
     })
-    (sizesOf ks)
+    (sizesOf b ks)
 unfolding sizesOf cappedSizes cappedSize exactSizes
-sizes-agree ks b rels o l x y e f g h i j =
+sizes-agree ks b rels o l x y f g h i j =
     let f′ = subst (λ d. Agrees d o) (tally-same 0 _ (λ r. 1) (λ r m. getD-replicate 16 r 1 0 m) ks) f in
     let h′ = subst (λ d. Agrees d l) (tally-same 1 _ (relationLeaves ks) g ks) h in
     let p = i ∙ right-capped b 0 _ o f′ in
     let q = j ∙ right-capped b 1 _ l h′ in
-    rw (← e, p, q, f′ .left, h′ .left, h′ .irreflexive)
+    rw (p, q, f′ .left, h′ .left, h′ .irreflexive)

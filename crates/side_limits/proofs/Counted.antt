@@ -1,15 +1,14 @@
 -- What the codes of a query that was read count is what document 01 counts of its two sides, and the test of refusal 8 on the numbers up
 -- to 1,000 is the test of the limits. Where it holds, no number was cut off.
 -- Assumes nothing.
-use Prim.Native.Nat.{ℕ, suc, _+_, _-_, _*_, _≤_}
+use Prim.Native.Nat.{ℕ, suc, _+_, _*_, _≤_}
 use native.Mathlib.Nat.{add-zero}
 use native.Mathlib.Omega.{arith}
 use mathlib.Core.Path.{_≡_, refl, sym, _∙_, ap, ap₂}
 use mathlib.Core.Bool.{Bool, true, false, cond, _&&_}
-use mathlib.Core.List.{List, [], _∷_, _++_, append-nil, append-assoc}
-use lib.Dec.{eqb, leb}
-use lib.ListN.{length, getD, length-append}
-use lib.Seq.{getD-at}
+use mathlib.Core.List.{List, [], _∷_, _++_}
+use lib.Dec.{leb}
+use lib.ListN.{length}
 use borrow.Author.Tests.{leb-true, le-leb}
 use Rattle.kat.proofs.Bools.{bool-ext}
 use Rattle.claims.specs.Tree.{Tree, Claim, includes, empty, irreflexive, claimLine}
@@ -17,9 +16,9 @@ use Rattle.claims.specs.Query.{Query, each, limits, assumedEmpty, assumedIrrefl
 use Rattle.claims.specs.Counting.{total, occurrencesOf, leavesOf, sizeOf, withAnys, leftSize, rightSize, rightLimit, withinLimits}
 use Rattle.claims.specs.Sides.{decision}
 use Rattle.claims.proofs.Results.{each-append}
-use Rattle.codes.specs.Codes.{treeCodes, claimCodes, lineCodes, linesCodes, queryCodes}
+use Rattle.codes.specs.Codes.{queryCodes}
 use Rattle.side_limits.specs.declared.Sizes.{Sizes}
-use Rattle.side_limits.specs.Tally.{capped, tally, relationLeaves, ring, rightSide}
+use Rattle.side_limits.specs.Tally.{capped, tally, relationLeaves, rightSide}
 use Rattle.side_limits.specs.Sizes.{exactSizes, cappedSize, cappedSizes, sizesOf, withinTest}
 use Rattle.side_limits.proofs.Test.{within-bounds, right-few}
 use Rattle.codes.proofs.Orderly.{Orderly}
@@ -27,7 +26,7 @@ use Rattle.side_limits.proofs.Expressions.{sumOf, sum-append}
 use Rattle.side_limits.proofs.Environment.{over}
 use Rattle.side_limits.proofs.Lines.{leftOf, rightOf, counted, query-tally}
 use Rattle.side_limits.proofs.Within.{relation-leaves}
-use Rattle.codes.proofs.Claimed.{Claimed, lines-append}
+use Rattle.codes.proofs.Claimed.{Claimed}
 
 -- a sum over several expressions goes by what each counts
 total-sum : (f g : Tree → ℕ) → ((e : Tree) → f e ≡ g e) → (es : List Tree) → total f es ≡ sumOf g es
@@ -57,28 +56,7 @@ module _ (q : Query) where
     leaves-counted : tally 1 (relationLeaves (queryCodes q)) (queryCodes q) ≡ counted 1 leaf q
     leaves-counted = query-tally q 1 _ (relationLeaves (queryCodes q)) (relation-leaves q o) o
 
-ring-last : (xs ys : List ℕ) (k : ℕ) → ring (xs ++ ((ys ++ (k ∷ [])) ++ [])) ≡ eqb k 138
-unfolding ring
-ring-last xs ys k =
-    let z : xs ++ ((ys ++ (k ∷ [])) ++ []) ≡ (xs ++ ys) ++ (k ∷ []) =
-    ap (λ x. xs ++ x) (append-nil (ys ++ (k ∷ []))) ∙ sym (append-assoc xs ys (k ∷ []))
-    in
-    ap (λ ks. eqb (getD ks (length ks - 1) 0) 138) z
-    ∙ ap (λ x. eqb x 138) (getD-at (xs ++ ys) k [] 0 _ (omega (arith, length-append (xs ++ ys) (k ∷ []))))
-
-ring-claim : (q : Query) (c : Claim) (xs : List ℕ) (p : Query) → ring (xs ++ (claimCodes p c ++ [])) ≡ decision q c .ring
-unfolding claimCodes decision
-ring-claim q (includes e f) xs p = ring-last xs (treeCodes p e ++ (135 ∷ treeCodes p f)) 136
-ring-claim q (empty e) xs p = ring-last xs (treeCodes p e) 137
-ring-claim q (irreflexive e) xs p = ring-last xs (treeCodes p e) 138
-
-ring-query : (q : Query) (c : Claim) → Claimed q c → ring (queryCodes q) ≡ decision q c .ring
-unfolding queryCodes linesCodes lineCodes
-ring-query q c h =
-    ap (λ x. ring (linesCodes [] x)) (h .last) ∙ ap ring (lines-append [] (h .before) (claimLine c ∷ []))
-    ∙ ring-claim q c (linesCodes [] (h .before)) (h .before)
-
--- the numbers of a query's sides, and whether its claim is one of rings
+-- the numbers of a query's sides
 pub record Exactly (q : Query) (c : Claim) (s : Sizes) : Type 0 where
   pub ring : s .ring ≡ decision q c .ring
   pub leftOccurrences : s .left .occurrences ≡ leftSize q c .occurrences
@@ -140,21 +118,20 @@ module _ (q : Query) where
   )
 
   -- what the codes count is what the document counts
-  pub exact-sizes : (c : Claim) → Claimed q c → Exactly q c (exactSizes (queryCodes q))
+  pub exact-sizes : (c : Claim) → Claimed q c → Exactly q c (exactSizes (decision q c .ring) (queryCodes q))
   unfolding exactSizes rightSide sizeOf
   exact-sizes c h =
-      let a = ring-query q c h in
       let o = occurrences-counted q (h .lines) in
       let l = leaves-counted q (h .lines) in
       let k = the-only-claim q c h in
       let (lo, ll) = left-size c in
       let (ro, rl) = right-size c in
       record {
-        ring = a;
+        ring = refl;
         leftOccurrences = ap (λ d. d .left) o ∙ ap (sumOf (leftOf 0 (occ q))) k ∙ lo;
         leftLeaves = ap (λ d. d .left) l ∙ ap (sumOf (leftOf 1 (leaf q))) k ∙ ll;
-        rightOccurrences = ap₂ (λ b d. rightSide b 0 d) a o ∙ ap (side 0 (occ q) c) k ∙ ro;
-        rightLeaves = ap₂ (λ b d. rightSide b 1 d) a l ∙ ap (side 1 (leaf q) c) k ∙ rl;
+        rightOccurrences = ap (rightSide (decision q c .ring) 0) o ∙ ap (side 0 (occ q) c) k ∙ ro;
+        rightLeaves = ap (rightSide (decision q c .ring) 1) l ∙ ap (side 1 (leaf q) c) k ∙ rl;
         ownLeaves = ap (λ d. d .irreflexive) l ∙ sym (leaf-total (each assumedIrreflexive q));
       }
 
@@ -194,9 +171,9 @@ test-exact q c s e =
     (ap (λ n. leb n 512) (e .ownLeaves))
 
 -- the test on the numbers up to 1,000 is the test of the limits
-pub within-is-within : (q : Query) (c : Claim) → Claimed q c → withinTest (sizesOf (queryCodes q)) ≡ withinLimits q c
+pub within-is-within : (q : Query) (c : Claim) → Claimed q c → withinTest (sizesOf (decision q c .ring) (queryCodes q)) ≡ withinLimits q c
 unfolding sizesOf
-within-is-within q c h = test-capped (exactSizes (queryCodes q)) ∙ test-exact q c (exactSizes (queryCodes q)) (exact-sizes q c h)
+within-is-within q c h = test-capped (exactSizes (decision q c .ring) (queryCodes q)) ∙ test-exact q c (exactSizes (decision q c .ring) (queryCodes q)) (exact-sizes q c h)
 
 -- each number is the document's, up to 1,000
 pub record UpTo1000 (q : Query) (c : Claim) (s : Sizes) : Type 0 where
@@ -207,7 +184,7 @@ pub record UpTo1000 (q : Query) (c : Claim) (s : Sizes) : Type 0 where
   pub rightLeaves : s .right .leaves ≡ capped (rightSize q c .leaves)
   pub ownLeaves : s .own ≡ capped (sizeOf q (each assumedIrreflexive q) .leaves)
 
-pub sizes-up-to-1000 : (q : Query) (c : Claim) → Claimed q c → UpTo1000 q c (sizesOf (queryCodes q))
+pub sizes-up-to-1000 : (q : Query) (c : Claim) → Claimed q c → UpTo1000 q c (sizesOf (decision q c .ring) (queryCodes q))
 unfolding sizesOf cappedSizes cappedSize
 sizes-up-to-1000 q c h =
     let e = exact-sizes q c h in
@@ -221,12 +198,12 @@ sizes-up-to-1000 q c h =
     }
 
 -- within the limits no number was cut off: each is the document's
-pub exact-within : (q : Query) (c : Claim) → Claimed q c → withinTest (sizesOf (queryCodes q)) ≡ true → Exactly q c (sizesOf (queryCodes q))
+pub exact-within : (q : Query) (c : Claim) → Claimed q c → withinTest (sizesOf (decision q c .ring) (queryCodes q)) ≡ true → Exactly q c (sizesOf (decision q c .ring) (queryCodes q))
 unfolding sizesOf cappedSizes cappedSize
 exact-within q c h w =
     let e = exact-sizes q c h in
-    let s = exactSizes (queryCodes q) in
-    let b = within-bounds (sizesOf (queryCodes q)) w in
+    let s = exactSizes (decision q c .ring) (queryCodes q) in
+    let b = within-bounds (sizesOf (decision q c .ring) (queryCodes q)) w in
     let few = right-few (s .ring) in
     let whole : (m : ℕ) → capped m ≤ 512 → capped m ≡ m = λ m l. omega arith in
     record {

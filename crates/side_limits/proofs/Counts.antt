@@ -1,21 +1,21 @@
 -- What a walk over the codes of a query counts, where no code of an expression counts: each line counts what the codes that end it or
 -- divide it count. So the codes have as many ends of lines as the query has lines, and a code for each test and each relation.
 -- Assumes nothing.
-use Prim.Native.Nat.{ℕ, suc, _+_, _≤_, _<_}
+use Prim.Native.Nat.{ℕ, _+_, _≤_, _<_}
 use native.Mathlib.Omega.{arith}
 use mathlib.Core.Path.{_≡_, refl, _∙_, ap, ap₂}
-use mathlib.Core.Bool.{Bool, true, false, cond}
+use mathlib.Core.Bool.{Bool, false, cond}
 use mathlib.Core.List.{List, [], _∷_, _++_, append-assoc}
 use mathlib.Core.Option.{none}
 use lib.Dec.{eqb}
 use lib.ListN.{length, length-append}
-use borrow.Author.Tests.{ne-eqb, lt-ltb, le-ltb}
+use borrow.Author.Tests.{ne-eqb}
 use Rattle.claims.specs.Tree.{Claim, includes, empty, irreflexive, Line, testLine, relLine, letLine, neverLine, withinLine, closedLine, assumeEmpty, assumeIrreflexive, claimLine}
 use Rattle.claims.specs.Names.{uses, firstSlip}
 use Rattle.claims.specs.Query.{Query, each, indexOf, testNames, relationNames, tests, relations}
 use Rattle.claims.proofs.Limits.{Declared}
 use Rattle.codes.specs.Codes.{testCodes, treeCodes, claimCodes, lineCodes, linesCodes, queryCodes}
-use Rattle.side_limits.specs.Tally.{howMany, times, endsLine, lineCount}
+use Rattle.side_limits.specs.Tally.{howMany, times}
 use Rattle.side_limits.proofs.Walk.{how-many-append}
 use Rattle.codes.proofs.Orderly.{Orderly, Settled, settled-none, settled-more}
 use Rattle.codes.proofs.Below.{Below, test-below, bracket-below, tree-below}
@@ -124,35 +124,3 @@ pub relations-counted : (q : Query) → Orderly [] q → times 129 (queryCodes q
 unfolding times relations
 relations-counted q o =
     query-counted (λ x. eqb x 129) (below-differs 129 (omega arith)) relationNames q (λ p r l z e s. relation-end p l) o
-
-inside-line : (k : ℕ) → k < 128 → endsLine k ≡ false
-unfolding endsLine
-inside-line k h = rw (endsLine, lt-ltb k 128 h)
-
-past-claims : (k : ℕ) → 139 ≤ k → endsLine k ≡ true
-unfolding endsLine
-past-claims k h = rw (endsLine, le-ltb k 128 (omega arith), ne-eqb k 135 (λ e. omega arith))
-
--- a line ends once
-one-end : (p : Query) (l : Line) → howMany endsLine (lineEnds p l) ≡ 1
-unfolding endsLine
-one-end p (testLine n) = refl
-one-end p (relLine n) = refl
-one-end p (letLine n e) = refl
-one-end p (neverLine t) = refl
-one-end p (withinLine n t u) = ap (λ b. cond b 1 0 + 0) (past-claims (144 + indexOf n (relations p)) (omega arith))
-one-end p (closedLine n) = ap (λ b. cond b 1 0 + 0) (past-claims (160 + indexOf n (relations p)) (omega arith))
-one-end p (assumeEmpty e) = refl
-one-end p (assumeIrreflexive e) = refl
-one-end p (claimLine (includes e f)) = refl
-one-end p (claimLine (empty e)) = refl
-one-end p (claimLine (irreflexive e)) = refl
-
-each-itself : (q : Query) → length (each (λ (l : Line). l ∷ []) q) ≡ length q
-each-itself [] = refl
-each-itself (l ∷ q) = ap suc (each-itself q)
-
--- as many ends of lines as lines
-pub line-count : (q : Query) → Orderly [] q → lineCount (queryCodes q) ≡ length q
-unfolding lineCount
-line-count q o = query-counted endsLine inside-line (λ (l : Line). l ∷ []) q (λ p r l z e s. one-end p l) o ∙ each-itself q

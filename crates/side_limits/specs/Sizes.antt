@@ -6,17 +6,17 @@ use mathlib.Core.List.{List}
 use lib.Dec.{leb}
 use Rattle.side_limits.specs.declared.Size.{Size}
 use Rattle.side_limits.specs.declared.Sizes.{Sizes}
-use Rattle.side_limits.specs.Tally.{capped, tally, relationLeaves, ring, rightSide}
+use Rattle.side_limits.specs.Tally.{capped, tally, relationLeaves, rightSide}
 
--- the sides' occurrences: a relation is one, a test none; and leaves: a bracketed test is one, a relation one with its limits' tests
-unfoldable pub exactSizes : List ℕ → Sizes
-exactSizes ks =
+-- the sides' occurrences, of a claim of rings or not: a relation is one, a test none; and leaves: a bracketed test is one, a relation one with its limits' tests
+unfoldable pub exactSizes : Bool → List ℕ → Sizes
+exactSizes ring ks =
     let o = tally 0 (λ r. 1) ks in
     let l = tally 1 (relationLeaves ks) ks in
     record {
-      ring = ring ks;
+      ring = ring;
       left = record { occurrences = o .left; leaves = l .left };
-      right = record { occurrences = rightSide (ring ks) 0 o; leaves = rightSide (ring ks) 1 l };
+      right = record { occurrences = rightSide ring 0 o; leaves = rightSide ring 1 l };
       own = l .irreflexive;
     }
 
@@ -28,8 +28,8 @@ unfoldable pub cappedSizes : Sizes → Sizes
 cappedSizes s =
     record { ring = s .ring; left = cappedSize (s .left); right = cappedSize (s .right); own = capped (s .own) }
 
-unfoldable pub sizesOf : List ℕ → Sizes
-sizesOf ks = cappedSizes (exactSizes ks)
+unfoldable pub sizesOf : Bool → List ℕ → Sizes
+sizesOf ring ks = cappedSizes (exactSizes ring ks)
 
 -- 64 occurrences left; right 64 for path claims and 31 for ring claims; 512 leaves a side, and 512 for a1
 unfoldable pub withinTest : Sizes → Bool

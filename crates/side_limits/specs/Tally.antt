@@ -3,10 +3,10 @@
 -- they differ in what a bracketed test and a relation count.
 -- Assumes nothing.
 use Prim.Native.Nat.{ℕ, _+_, _*_, _-_, min}
-use mathlib.Core.Bool.{Bool, false, cond, not, _||_}
+use mathlib.Core.Bool.{Bool, cond, _||_}
 use mathlib.Core.List.{List, [], _∷_, _++_}
 use lib.Dec.{eqb, ltb}
-use lib.ListN.{length, getD}
+use lib.ListN.{getD}
 use Rattle.codes.specs.Codes.{TESTED, A-RELATION, ANY, A-LET, LETS-END, LINE, LET-LINE, ASSUME-EMPTY, ASSUME-IRREFLEXIVE, INCLUDED, CLAIM-INCLUDE, CLAIM-EMPTY, CLAIM-IRREFLEXIVE, WITHIN-LINE}
 
 -- 1,000 stands for itself and every number above, and is above every limit
@@ -68,21 +68,9 @@ howMany test (k ∷ ks) = cond (test k) 1 0 + howMany test ks
 unfoldable pub times : ℕ → List ℕ → ℕ
 times k ks = howMany (λ x. eqb x k) ks
 
--- a line ends: every line has one such code, beside the one that divides an inclusion
-unfoldable pub endsLine : ℕ → Bool
-endsLine k = cond (ltb k LINE) false (not (eqb k INCLUDED))
-
--- how many lines the codes of a query have
-unfoldable pub lineCount : List ℕ → ℕ
-lineCount ks = howMany endsLine ks
-
 -- a relation is one leaf, with two tests for each of its `within` lines, wherever they stand
 unfoldable pub relationLeaves : List ℕ → ℕ → ℕ
 relationLeaves ks r = 1 + 2 * times (WITHIN-LINE + r) ks
-
--- the claim is the last line, and irreflexive
-unfoldable pub ring : List ℕ → Bool
-ring ks = eqb (getD ks (length ks - 1) 0) CLAIM-IRREFLEXIVE
 
 -- the right side, of which any counts 1 and stands there twice: y, a0 and zero of a path claim, zero counting what a bracketed test
 -- counts; a1 and a0 of a ring claim

@@ -4,7 +4,7 @@ ghost use mathlib.Core.Path.{_≡_};
 ghost use mathlib.Core.Bool.{cond};
 ghost use Prim.Native.Nat.{ℕ, _+_, _<_, _^_};
 ghost use lib.ListN.{length, getD, replicate};
-ghost use Rattle.side_limits.specs.Tally.{capped, weight as weightOf, endsLeft, rightEnd, times as timesOf, endsLine, lineCount, relationLeaves, ring, tally};
+ghost use Rattle.side_limits.specs.Tally.{capped, weight as weightOf, endsLeft, rightEnd, times as timesOf, relationLeaves, tally};
 ghost use Rattle.side_limits.specs.Sizes.{sizesOf, withinTest};
 ghost use Rattle.side_limits.specs.CappedSums.{Agrees, Turned, rightSum};
 
@@ -135,38 +135,13 @@ fn count(codes: &[u64], test: u64, relations: &[u64; 16], lets: &mut [u64; 32]) 
 }
 
 // How often k stands among the codes.
-pub fn times(codes: &[u64], k: u64) -> u64
+fn times(codes: &[u64], k: u64) -> u64
     ensures { λ r. ⌜ (r ≡ timesOf k (now (codes .entry))) × (r < 2 ^ 61) ⌝ }
 {
     let mut n = 0;
     let mut i = 0;
     while i < codes.len() {
         if codes[i] == k {
-            n += 1;
-        }
-        i += 1;
-    }
-    n
-}
-
-// Whether a line ends here, and not only the left side of an inclusion.
-fn ends_line(k: u64) -> bool
-    ensures { λ r. ⌜ r ≡ endsLine k ⌝ }
-{
-    if k < codes::LINE {
-        return false;
-    }
-    k != codes::INCLUDED
-}
-
-// How many lines the codes have.
-pub fn lines_of(codes: &[u64]) -> usize
-    ensures { λ r. ⌜ r ≡ lineCount (now (codes .entry)) ⌝ }
-{
-    let mut n = 0;
-    let mut i = 0;
-    while i < codes.len() {
-        if ends_line(codes[i]) {
             n += 1;
         }
         i += 1;
@@ -186,16 +161,6 @@ fn relation_leaves(codes: &[u64], relations: &mut [u64; 16])
     }
 }
 
-// Whether the claim is one of rings.
-fn is_ring(codes: &[u64]) -> bool
-    ensures { λ r. ⌜ r ≡ ring (now (codes .entry)) ⌝ }
-{
-    if codes.len() == 0 {
-        return false;
-    }
-    codes[codes.len() - 1] == codes::CLAIM_IRREFLEXIVE
-}
-
 // The right side of a claim: the anys with what stands between them, and what they are united with.
 fn right_side(ring: bool, test: u64, s: Sums) -> u64
     ensures { λ r. ⌜ r ≡ rightSum ring test s ⌝ }
@@ -207,11 +172,10 @@ fn right_side(ring: bool, test: u64, s: Sums) -> u64
     }
 }
 
-// Occurrences and leaves of the two sides.
-pub fn sizes_of(codes: &[u64]) -> Sizes
-    ensures { λ r. ⌜ r ≡ sizesOf (now (codes .entry)) ⌝ }
+// Occurrences and leaves of the two sides; `ring` says whether the claim is one of rings.
+pub fn sizes_of(codes: &[u64], ring: bool) -> Sizes
+    ensures { λ r. ⌜ r ≡ sizesOf ring (now (codes .entry)) ⌝ }
 {
-    let ring = is_ring(codes);
     let ones = [1u64; 16];
     let mut lets = [0u64; 32];
     let o = count(codes, 0, &ones, &mut lets);

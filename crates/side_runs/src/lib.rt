@@ -1,5 +1,7 @@
 // The codes of an expression, one after another, on the tables and the parts in memory; a let is built anew where it is named.
 // (Document 01, "Words": lets are expanded.)
+use codes::TESTED;
+use codes::UNION;
 use side_parts::Top;
 use side_parts::step;
 ghost use Prim.Native.Nat.{_≤_, _<_};
@@ -194,17 +196,7 @@ fn unite_times(
     let mut t = top;
     let mut left = n;
     while 0 < left {
-        t = step(
-            codes::UNION,
-            0,
-            rels,
-            first,
-            last,
-            follow,
-            letters,
-            parts,
-            t,
-        );
+        t = step(UNION, 0, rels, first, last, follow, letters, parts, t);
         left -= 1;
     }
     t
@@ -249,7 +241,7 @@ pub fn run_union(
         top,
     );
     let none = step(
-        codes::TESTED,
+        TESTED,
         0,
         rels,
         first,

@@ -1,4 +1,4 @@
--- `tables::small::marked` meets its contract.
+-- `bits::marked` meets its contract.
 -- Assumes nothing.
 use mathlib.Core.Path.{sym, _∙_, ap}
 use mathlib.Core.Bool.{cond}

@@ -1,4 +1,4 @@
--- `limits::lets_after` meets its contract.
+-- `codes::lets_after` meets its contract.
 -- Assumes nothing.
 use native.Mathlib.Nat.{add-zero}
 use borrow.Author.Needs.{needs}

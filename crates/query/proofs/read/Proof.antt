@@ -1,4 +1,4 @@
--- `decision::read` meets its contract: each way out is what document 01's reading says.
+-- `query::read` meets its contract: each way out is what document 01's reading says.
 -- Assumes nothing.
 use borrow.Author.Needs.{needs}
 use Rattle.query.proofs.Outcomes.{refused-way, accepted-room, accepted-way}

@@ -1,4 +1,4 @@
--- `decision::sizes` meets its contract: the part of the codes that it counts is there.
+-- `query::sizes` meets its contract: the part of the codes that it counts is there.
 -- Assumes nothing.
 use mathlib.Core.Path.{sym}
 use native.Mathlib.Omega.{arith}

@@ -1,4 +1,4 @@
--- `syntax::expression` meets its contract: the depth of calls that the line gives is enough.
+-- `read_exprs::expression` meets its contract: the depth of calls that the line gives is enough.
 -- Assumes nothing.
 use Rattle.read_exprs.proofs.Trees.{expression-read}
 use borrow.Author.Needs.{needs}

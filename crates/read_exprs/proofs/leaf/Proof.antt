@@ -1,4 +1,4 @@
--- `syntax::expr::leaf` meets its contract: the laws of square brackets and of names.
+-- `read_exprs::leaf` meets its contract: the laws of square brackets and of names.
 -- Assumes nothing.
 use native.Mathlib.Omega.{arith}
 use Rattle.read_tests.proofs.Next.{mark-stands}

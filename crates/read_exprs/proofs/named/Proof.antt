@@ -1,4 +1,4 @@
--- `syntax::expr::named` meets its contract. One law for each way out, by the token that is found and its key.
+-- `read_exprs::named` meets its contract. One law for each way out, by the token that is found and its key.
 -- Assumes nothing.
 use native.Mathlib.Omega.{arith}
 use Rattle.read_tests.proofs.Words.{scanned, named-reserved, named-taken, mark-no-name, bad-no-name, end-no-name}

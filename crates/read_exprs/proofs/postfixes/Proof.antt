@@ -1,4 +1,4 @@
--- `syntax::expr::postfixes` meets its contract. The invariant: the postfixes passed wrap whichever tree stands before them, and their
+-- `read_exprs::postfixes` meets its contract. The invariant: the postfixes passed wrap whichever tree stands before them, and their
 -- codes are stored. The measure is what is left of the line.
 -- Assumes nothing.
 use Prim.Native.Nat.{_-_}

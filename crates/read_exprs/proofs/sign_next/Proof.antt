@@ -1,4 +1,4 @@
--- `syntax::expr::sign` meets its contract. One law for each way out.
+-- `read_exprs::sign_next` meets its contract. One law for each way out.
 -- Assumes nothing.
 use Rattle.read_exprs.proofs.PostfixRuns.{sign-star, sign-plus, sign-opt, sign-none}
 use borrow.Author.Needs.{needs}

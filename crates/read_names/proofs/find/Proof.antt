@@ -1,4 +1,4 @@
--- `scan::find` meets its contract. The invariant: what is found in the entries that are left is what is found in all.
+-- `read_names::find` meets its contract. The invariant: what is found in the entries that are left is what is found in all.
 -- Assumes nothing.
 use Prim.Native.Nat.{_≤_}
 use native.Mathlib.Omega.{arith}

@@ -1,5 +1,5 @@
 use Rattle.read_names.proofs.Slips.{first-kept}
--- `syntax::first_slip` meets its contract.
+-- `read_names::first_slip` meets its contract.
 -- Assumes nothing.
 use borrow.Author.Needs.{needs}
 use Rattle.read_names.proofs.first_slip.Statement.{statement}

@@ -1,4 +1,4 @@
--- `scan::reserved` meets its contract. The invariant: the words that are left have the key exactly if one of all has it.
+-- `read_names::reserved` meets its contract. The invariant: the words that are left have the key exactly if one of all has it.
 -- Assumes nothing.
 use Prim.Native.Nat.{_-_, _≤_}
 use native.Mathlib.Omega.{arith}

@@ -1,4 +1,4 @@
--- `scan::same_key` meets its contract. Both halves are compared.
+-- `read_names::same_key` meets its contract. Both halves are compared.
 -- Assumes nothing.
 use mathlib.Core.Path.{refl}
 use Rattle.read_names.specs.Keys.{sameKey}

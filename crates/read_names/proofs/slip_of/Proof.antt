@@ -1,4 +1,4 @@
--- `syntax::slip_of` meets its contract. One law for each way out.
+-- `read_names::slip_of` meets its contract. One law for each way out.
 -- Assumes nothing.
 use Rattle.read_names.proofs.Slips.{code-none, code-below, code-inside, code-above}
 use Rattle.read_names.proofs.slip_of.Statement.{statement}

@@ -1,4 +1,4 @@
--- `scan::word_key` meets its contract. Each word's key is computed; behind the last stands the key of no bytes.
+-- `read_names::word_key` meets its contract. Each word's key is computed; behind the last stands the key of no bytes.
 -- Assumes nothing.
 use Prim.Native.Nat.{ℕ, _+_, _≤_, zero-le}
 use native.Mathlib.Omega.{arith}

@@ -1,4 +1,4 @@
--- `syntax::condition` meets its contract: the depth of calls that the line gives is enough.
+-- `read_tests::condition` meets its contract: the depth of calls that the line gives is enough.
 -- Assumes nothing.
 use Rattle.read_tests.proofs.Tests.{condition-read}
 use borrow.Author.Needs.{needs}

@@ -1,4 +1,4 @@
--- `syntax::mark_next` meets its contract, by the kind of the token that is found.
+-- `read_tests::mark_next` meets its contract, by the kind of the token that is found.
 -- Assumes nothing.
 use Rattle.read_tests.specs.Next.{markEnd}
 use Rattle.read_tests.proofs.Next.{mark-of, mark-here, mark-differs}

@@ -1,4 +1,4 @@
--- `syntax::test::word` meets its contract. One law for each way out, by the token that is found and its key.
+-- `read_tests::word` meets its contract. One law for each way out, by the token that is found and its key.
 -- Assumes nothing.
 use native.Mathlib.Omega.{arith}
 use Rattle.read_tests.proofs.Words.{scanned, word-true, word-false, word-reserved, word-named, mark-no-word, bad-no-word, end-no-word}

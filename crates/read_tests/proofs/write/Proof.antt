@@ -1,5 +1,5 @@
 use Rattle.read_tests.proofs.Stores.{stores-done, stores-more}
--- `syntax::write` meets its contract. The invariant: the code is stored i times. The measure is what is left to store.
+-- `read_tests::write` meets its contract. The invariant: the code is stored i times. The measure is what is left to store.
 -- Assumes nothing.
 use Prim.Native.Nat.{_≤_, _-_}
 use native.Mathlib.Omega.{arith}

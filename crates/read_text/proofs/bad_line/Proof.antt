@@ -1,4 +1,4 @@
--- `query::bad_line` meets its contract. The invariant: what is found in the bytes left, from the line reached, is what is found in all.
+-- `read_text::bad_line` meets its contract. The invariant: what is found in the bytes left, from the line reached, is what is found in all.
 -- Assumes nothing.
 use Prim.Native.Nat.{_+_, _-_, _≤_}
 use native.Mathlib.Omega.{arith}

@@ -1,4 +1,4 @@
--- `query::read_lines` meets its contract. The invariant, `Going`: what is left to read, from the state now, is the whole reading from the start.
+-- `read_text::every_line` meets its contract. The invariant, `Going`: what is left to read, from the state now, is the whole reading from the start.
 -- Assumes nothing.
 use Prim.Native.Nat.{_+_, _-_}
 use native.Mathlib.Omega.{arith}
@@ -69,10 +69,19 @@ returns-2 c =
     let l = c .before .before .before .loop in
     over-unclaimed _ _ _ _ _ _ _ (l .inv) (c .before .before .loop-test .left) (not-true _ (c .if1 .taken))
 
+sub-known-of : tie.Need-sub-known-of Inv-loop μ-loop
+sub-known-of c = omega (arith, c .before .before .before .before .before .loop .inv .numbered)
+
+known-of-requires : tie.Need-known-of-requires Inv-loop μ-loop
+known-of-requires c κs =
+    let l = c .before .before .before .before .before .loop in
+    omega (arith, l .inv .short, c .before .before .before .before .before .before .before .pre .0, c .known-of-arg2 .given .0)
+
 returns-3 : tie.Need-returns-3 Inv-loop μ-loop
 returns-3 c =
-    let l = c .before .before .before .loop in
-    over-claimed _ _ _ _ _ _ _ (l .inv) (c .before .before .loop-test .left) (omega arith) (not-false _ (c .if1 .left))
+    let l = c .before .before .before .before .before .before .loop in
+    over-claimed _ _ _ _ _ _ _ (l .inv) (c .before .before .before .before .before .loop-test .left) (omega arith)
+    (not-false _ (c .before .before .before .if1 .left)) (c .known-of .result) (c .known-of .ensures)
 
 pub every-line-spec : {M : Type 1} → statement M
 every-line-spec =
@@ -94,4 +103,6 @@ every-line-spec =
     loop-less
     loop-again
     returns-2
+    sub-known-of
+    known-of-requires
     returns-3)

@@ -1,4 +1,4 @@
--- `query::line_end` meets its contract. The invariant: from the place reached, as many bytes stand in front of a byte 10 as are left of
+-- `read_text::line_end` meets its contract. The invariant: from the place reached, as many bytes stand in front of a byte 10 as are left of
 -- those from `at` on.
 -- Assumes nothing.
 use Prim.Native.Nat.{_+_, _-_, _≤_}

@@ -1,4 +1,4 @@
--- `query::read_text` meets its contract: each way out gives the answer that the text has.
+-- `read_text::read_text` meets its contract: each way out gives the answer that the text has.
 -- Assumes nothing.
 use Rattle.read_text.proofs.Answers.{answer-long, answer-bad, answer-refused, answer-accepted}
 use borrow.Author.Needs.{needs}

@@ -1,4 +1,4 @@
--- `scan::byte_of` meets its contract. A byte of the run, or 0 behind it.
+-- `read_tokens::byte_of` meets its contract. A byte of the run, or 0 behind it.
 -- Assumes nothing.
 use native.Mathlib.Omega.{arith}
 use borrow.Author.Needs.{needs}

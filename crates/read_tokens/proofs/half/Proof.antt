@@ -1,4 +1,4 @@
--- `scan::half` meets its contract. Eight bytes, four and four.
+-- `read_tokens::half` meets its contract. Eight bytes, four and four.
 -- Assumes nothing.
 use Prim.Native.Nat.{_+_, _*_}
 use mathlib.Core.Path.{ap₂, _∙_}

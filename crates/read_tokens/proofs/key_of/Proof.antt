@@ -1,4 +1,4 @@
--- `scan::key_of` meets its contract. Both halves.
+-- `read_tokens::key_of` meets its contract. Both halves.
 -- Assumes nothing.
 use borrow.Author.Needs.{needs}
 use Rattle.read_tokens.specs.Scan.{keyOf}

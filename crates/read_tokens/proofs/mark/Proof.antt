@@ -1,4 +1,4 @@
--- `scan::mark` meets its contract. The marks are compared one after the other, as the definition does.
+-- `read_tokens::mark` meets its contract. The marks are compared one after the other, as the definition does.
 -- Assumes nothing.
 use mathlib.Core.Path.{refl}
 use Rattle.claims.specs.Tokens.{marks}

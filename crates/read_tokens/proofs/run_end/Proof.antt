@@ -1,4 +1,4 @@
--- `scan::run_end` meets its contract. The invariant: from the place reached, as many letters and digits stand in front as are left of those in front of `at`.
+-- `read_tokens::run_end` meets its contract. The invariant: from the place reached, as many letters and digits stand in front as are left of those in front of `at`.
 -- Assumes nothing.
 use Prim.Native.Nat.{_+_, _-_, _≤_}
 use native.Mathlib.Omega.{arith}

@@ -1,4 +1,4 @@
--- `scan::skip` meets its contract. The invariant: from the place reached, as many spaces stand in front as are left of those in front of `at`.
+-- `read_tokens::skip` meets its contract. The invariant: from the place reached, as many spaces stand in front as are left of those in front of `at`.
 -- Assumes nothing.
 use Prim.Native.Nat.{_+_, _-_, _≤_}
 use native.Mathlib.Omega.{arith}

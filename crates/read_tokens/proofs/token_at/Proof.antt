@@ -1,4 +1,4 @@
--- `scan::token_at` meets its contract. One law for each way out.
+-- `read_tokens::token_at` meets its contract. One law for each way out.
 -- Assumes nothing.
 use native.Mathlib.Omega.{arith}
 use mathlib.Core.Path.{sym, _∙_}

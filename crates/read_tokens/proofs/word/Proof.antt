@@ -1,4 +1,4 @@
--- `scan::word` meets its contract. A run that is a name, or none.
+-- `read_tokens::word` meets its contract. A run that is a name, or none.
 -- Assumes nothing.
 use borrow.Author.Needs.{needs}
 use Rattle.read_tokens.proofs.Found.{found-word, found-no-word}

@@ -1,4 +1,4 @@
--- `scan::word_byte` meets its contract. A letter by `letter`, or a digit.
+-- `read_tokens::word_byte` meets its contract. A letter by `letter`, or a digit.
 -- Assumes nothing.
 use borrow.Author.Needs.{needs}
 use Rattle.read_tokens.specs.Scan.{wordByte}

@@ -1,4 +1,4 @@
--- `tables::tests::holding_atoms` meets its contract: the set of each of the 6 tests is computed, and no atom below 64 has a higher bit.
+-- `side_atoms::holding_atoms` meets its contract: the set of each of the 6 tests is computed, and no atom below 64 has a higher bit.
 -- Assumes nothing.
 use mathlib.Core.Path.{sym, _∙_, ap}
 use Rattle.side_atoms.specs.Tests.{holding}

@@ -1,4 +1,4 @@
--- `tables::tests::peek` meets its contract: the word below the height is on top, and nothing is on top of an empty stack.
+-- `side_atoms::peek` meets its contract: the word below the height is on top, and nothing is on top of an empty stack.
 -- Assumes nothing.
 use native.Mathlib.Omega.{arith}
 use mathlib.Core.Path.{sym}

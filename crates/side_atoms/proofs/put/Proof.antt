@@ -1,4 +1,4 @@
--- `tables::tests::put` meets its contract: below the room the set is stored at the height, and a full stack stays as it is.
+-- `side_atoms::put` meets its contract: below the room the set is stored at the height, and a full stack stays as it is.
 -- Assumes nothing.
 use native.Mathlib.Omega.{arith}
 use lib.ListN.{length-set}

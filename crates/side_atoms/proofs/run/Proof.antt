@@ -1,4 +1,4 @@
--- `tables::tests::run` meets its contract. The invariant: the codes that are left, run on the stack as it is, give the stack that all
+-- `side_atoms::run` meets its contract. The invariant: the codes that are left, run on the stack as it is, give the stack that all
 -- of them give on the empty one. The measure is what is left of the codes.
 -- Assumes nothing.
 use Prim.Native.Nat.{_-_, _≤_, min}

@@ -1,4 +1,4 @@
--- `tables::tests::test_atoms` meets its contract: the stack has room for 4,096 sets.
+-- `side_atoms::test_atoms` meets its contract: the stack has room for 4,096 sets.
 -- Assumes nothing.
 use Prim.Native.Nat.{ℕ}
 use mathlib.Core.Path.{_∙_, ap}

@@ -1,4 +1,4 @@
--- `tables::tests::test_step` meets its contract: each way puts on the stack what the definition of one step puts there.
+-- `side_atoms::test_step` meets its contract: each way puts on the stack what the definition of one step puts there.
 -- Assumes nothing.
 use Prim.Native.Nat.{_-_}
 use native.Mathlib.Omega.{arith}

@@ -48,7 +48,7 @@ returns c =
     let r = c .before .before in
     let l = r .before .before .before .before .before .before in
     let q = l .before .before .before .before .before .before .before .before .before .before .before .before .before .before .prepare .ensures in
-    all-built _ _ (q .1) _ _ _ _ _ (l .fill-left .ensures (q .3)) (r .fill-right .ensures (q .3)) (c .live-of .ensures)
+    all-built _ _ (q .1) _ _ _ _ _ _ (l .fill-left .ensures (q .3)) (r .fill-right .ensures (q .3)) (c .live-of .ensures)
 
 pub build-in-spec : {M : Type 1} → statement M
 build-in-spec =

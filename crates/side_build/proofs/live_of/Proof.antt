@@ -5,19 +5,15 @@ use borrow.Author.Needs.{needs}
 use Rattle.side_build.proofs.live_of.Statement.{statement}
 use Rattle.side_build.proofs.live_of.Tie as tie
 
-times-requires : tie.Need-times-requires
-times-requires c κs = search needs
-
 removed-set-requires : tie.Need-removed-set-requires
-removed-set-requires c κs = c .before .before .before .pre .1
+removed-set-requires c κs = c .before .before .pre .1
 
 live-set-requires : tie.Need-live-set-requires
 live-set-requires c κs = search needs
 
 returns : tie.Need-returns
 returns c =
-    let t = c .before .before in
-    live-found _ _ (t .before .before .before .pre .0) _ _ _ (t .times .ensures .0) (c .before .removed-set .ensures) (c .live-set .ensures)
+    live-found _ _ (c .before .before .before .before .pre .0) _ _ _ (c .before .removed-set .ensures) (c .live-set .ensures)
 
 pub live-of-spec : {M : Type 1} → statement M
-live-of-spec = tie.close (tie.spec times-requires removed-set-requires live-set-requires returns)
+live-of-spec = tie.close (tie.spec removed-set-requires live-set-requires returns)

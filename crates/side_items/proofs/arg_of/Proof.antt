@@ -1,4 +1,4 @@
--- `program::ready::arg_of` meets its contract: a law of `Needed.antt` for each way.
+-- `side_items::arg_of` meets its contract: a law of `Needed.antt` for each way.
 -- Assumes nothing.
 use mathlib.Core.Path.{sym, _∙_}
 use borrow.Author.Needs.{needs}

@@ -1,4 +1,4 @@
--- `program::ready::find_args` meets its contract. The invariant: the memory follows the walk over the codes passed. The measure is what
+-- `side_items::find_args` meets its contract. The invariant: the memory follows the walk over the codes passed. The measure is what
 -- is left of the codes.
 -- Assumes nothing.
 use Prim.Native.Nat.{_-_, _≤_}

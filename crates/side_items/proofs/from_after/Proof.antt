@@ -1,4 +1,4 @@
--- `program::ready::from_after` meets its contract.
+-- `side_items::from_after` meets its contract.
 -- Assumes nothing.
 use mathlib.Core.Path.{sym, _∙_}
 use borrow.Author.Needs.{needs}

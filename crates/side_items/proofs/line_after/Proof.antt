@@ -1,4 +1,4 @@
--- `program::ready::line_after` meets its contract.
+-- `side_items::line_after` meets its contract.
 -- Assumes nothing.
 use borrow.Author.Needs.{needs}
 use borrow.Author.Tests.{le-leb, lt-leb}

@@ -1,4 +1,4 @@
--- `program::ready::of_test` meets its contract.
+-- `side_items::of_test` meets its contract.
 -- Assumes nothing.
 use borrow.Author.Tests.{lt-ltb, le-ltb, lt-leb, le-leb}
 use Rattle.side_items.specs.Items.{ofTest}

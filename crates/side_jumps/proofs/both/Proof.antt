@@ -1,4 +1,4 @@
--- `program::ready::both` meets its contract.
+-- `side_jumps::both` meets its contract.
 -- Assumes nothing.
 use borrow.Author.Tests.{eq-eqb, ne-eqb}
 use Rattle.side_jumps.proofs.both.Statement.{statement}

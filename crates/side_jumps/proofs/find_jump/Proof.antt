@@ -1,4 +1,4 @@
--- `program::ready::find_jump` meets its contract: a law of `Leaping.antt` for each way that a place is filled.
+-- `side_jumps::find_jump` meets its contract: a law of `Leaping.antt` for each way that a place is filled.
 -- Assumes nothing.
 use Prim.Native.Nat.{_+_}
 use native.Mathlib.Omega.{arith}

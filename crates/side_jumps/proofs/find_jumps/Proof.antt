@@ -1,4 +1,4 @@
--- `program::ready::find_jumps` meets its contract. The invariant: it is known where to go on from each place from i on. The measure is i.
+-- `side_jumps::find_jumps` meets its contract. The invariant: it is known where to go on from each place from i on. The measure is i.
 -- Assumes nothing.
 use Prim.Native.Nat.{_≤_}
 use native.Mathlib.Omega.{arith}

@@ -1,4 +1,4 @@
--- `program::ready::is_postfix` meets its contract.
+-- `side_jumps::is_postfix` meets its contract.
 -- Assumes nothing.
 use borrow.Author.Tests.{lt-leb, le-leb}
 use Rattle.side_jumps.specs.Leaps.{postfix}

@@ -1,4 +1,4 @@
--- `limits::turn` meets its contract: each sum by what `add` and `chosen` give.
+-- `side_limits::add_code` meets its contract: each sum by what `add` and `chosen` give.
 -- Assumes nothing.
 use borrow.Author.Needs.{needs}
 use Rattle.side_limits.proofs.add_code.Statement.{statement}

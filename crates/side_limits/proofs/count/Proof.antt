@@ -1,4 +1,4 @@
--- `limits::count` meets its contract. The invariant: the sums and the memory of the lets' sums follow the walk over the codes passed,
+-- `side_limits::count` meets its contract. The invariant: the sums and the memory of the lets' sums follow the walk over the codes passed,
 -- and there were no more lets than codes. The measure is what is left of the codes.
 -- Assumes nothing.
 use Prim.Native.Nat.{ℕ, _-_, _≤_}

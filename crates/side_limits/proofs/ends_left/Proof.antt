@@ -1,4 +1,4 @@
--- `limits::ends_left` meets its contract: each answer by the tests that led to it.
+-- `side_limits::ends_left` meets its contract: each answer by the tests that led to it.
 -- Assumes nothing.
 use borrow.Author.Tests.{eq-eqb, ne-eqb}
 use Rattle.side_limits.specs.Tally.{endsLeft}

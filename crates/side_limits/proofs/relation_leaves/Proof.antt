@@ -1,4 +1,4 @@
--- `limits::relation_leaves` meets its contract. The invariant: each relation below i has its leaves in the table. The measure is how
+-- `side_limits::relation_leaves` meets its contract. The invariant: each relation below i has its leaves in the table. The measure is how
 -- many are left.
 -- Assumes nothing.
 use Prim.Native.Nat.{ℕ, _-_, _≤_, _<_}

@@ -1,4 +1,4 @@
--- `limits::right_end` meets its contract: each answer by the tests that led to it.
+-- `side_limits::right_end` meets its contract: each answer by the tests that led to it.
 -- Assumes nothing.
 use borrow.Author.Needs.{needs}
 use borrow.Author.Tests.{eq-eqb, ne-eqb}

@@ -1,4 +1,4 @@
--- `limits::right_limit` meets its contract: each answer by the test that led to it.
+-- `side_limits::right_limit` meets its contract: each answer by the test that led to it.
 -- Assumes nothing.
 use mathlib.Core.Path.{refl}
 use Rattle.side_limits.proofs.right_limit.Statement.{statement}

@@ -1,4 +1,4 @@
--- `limits::right_side` meets its contract: the sums that `add` gives, in their order.
+-- `side_limits::right_side` meets its contract: the sums that `add` gives, in their order.
 -- Assumes nothing.
 use borrow.Author.Needs.{needs}
 use Rattle.side_limits.proofs.right_side.Statement.{statement}

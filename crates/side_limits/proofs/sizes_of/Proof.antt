@@ -1,12 +1,9 @@
--- `limits::sizes_of` meets its contract: the two counts agree with the walks over the codes, and the right sides are put together.
+-- `side_limits::sizes_of` meets its contract: the two counts agree with the walks over the codes, and the right sides are put together.
 -- Assumes nothing.
 use borrow.Author.Needs.{needs}
 use Rattle.side_limits.proofs.CappedSums.{sizes-agree}
 use Rattle.side_limits.proofs.sizes_of.Statement.{statement}
 use Rattle.side_limits.proofs.sizes_of.Tie as tie
-
-is-ring-requires : tie.Need-is-ring-requires
-is-ring-requires c κs = search needs
 
 count-requires : tie.Need-count-requires
 count-requires c κs = search needs
@@ -28,16 +25,15 @@ returns c =
     let b2 = c .before .before in
     let b5 = b2 .before .before .before in
     let b7 = b5 .before .before in
-    let b10 = b7 .before .before .before in
-    sizes-agree (b10 .before .before .args .codes .now) (b10 .is-ring .result) (b5 .relation-leaves .last .1 .0) (b7 .count .result)
-    (b2 .count2 .result) (c .before .right-side .result) (c .right-side2 .result) (b10 .is-ring .ensures) (b7 .count .ensures)
+    let a = b7 .before .before .before .before .args in
+    sizes-agree (a .codes .now) (a .ring) (b5 .relation-leaves .last .1 .0) (b7 .count .result)
+    (b2 .count2 .result) (c .before .right-side .result) (c .right-side2 .result) (b7 .count .ensures)
     (b5 .relation-leaves .ensures) (b2 .count2 .ensures) (c .before .right-side .ensures) (c .right-side2 .ensures)
 
 pub sizes-of-spec : {M : Type 1} → statement M
 sizes-of-spec =
     tie.close
     (tie.spec
-    is-ring-requires
     count-requires
     relation-leaves-requires
     count-requires-2

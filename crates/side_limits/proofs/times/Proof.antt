@@ -1,4 +1,4 @@
--- `limits::times` meets its contract. The invariant: n is how often k stands in the codes passed. The measure is what is left of the
+-- `side_limits::times` meets its contract. The invariant: n is how often k stands in the codes passed. The measure is what is left of the
 -- codes.
 -- Assumes nothing.
 use Prim.Native.Nat.{_-_, _≤_}

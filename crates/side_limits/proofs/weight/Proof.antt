@@ -1,4 +1,4 @@
--- `limits::weight` meets its contract: a law of `Weights.antt` for each range of codes.
+-- `side_limits::weight` meets its contract: a law of `Weights.antt` for each range of codes.
 -- Assumes nothing.
 use mathlib.Core.Path.{sym, _∙_}
 use borrow.Author.Needs.{needs}

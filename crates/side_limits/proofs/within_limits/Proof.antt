@@ -1,4 +1,4 @@
--- `limits::within_limits` meets its contract: a size past its limit is against the bounds that the test gives, and where all but the last
+-- `side_limits::within_limits` meets its contract: a size past its limit is against the bounds that the test gives, and where all but the last
 -- are passed, the last is left.
 -- Assumes nothing.
 use native.Mathlib.Omega.{arith}

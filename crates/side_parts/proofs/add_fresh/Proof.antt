@@ -1,4 +1,4 @@
--- `machine::add_fresh` meets its contract: the tables have one occurrence more, and the part on top has this one.
+-- `side_parts::add_fresh` meets its contract: the tables have one occurrence more, and the part on top has this one.
 -- Assumes nothing.
 use Rattle.side_parts.proofs.MachineInMemory.{fresh-in, fresh-fits}
 use borrow.Author.Needs.{needs}

@@ -1,4 +1,4 @@
--- `machine::add_relation` meets its contract: the sets of relation r stand 16 places apart, and r alone is the set 2 ^ r.
+-- `side_parts::add_relation` meets its contract: the sets of relation r stand 16 places apart, and r alone is the set 2 ^ r.
 -- Assumes nothing.
 use Rattle.side_parts.specs.Memory.{machineIn}
 use Rattle.side_parts.proofs.Stepping.{relation-made}

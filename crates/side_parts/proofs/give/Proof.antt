@@ -1,4 +1,4 @@
--- `machine::give` meets its contract: the part that is put on top has no occurrence.
+-- `side_parts::give` meets its contract: the part that is put on top has no occurrence.
 -- Assumes nothing.
 use mathlib.Core.Path.{refl}
 use Rattle.side_parts.proofs.MachineInMemory.{given-in}

@@ -1,4 +1,4 @@
--- `machine::low_at` meets its contract: the part on top stands below the height, and an empty stack has none.
+-- `side_parts::low_at` meets its contract: the part on top stands below the height, and an empty stack has none.
 -- Assumes nothing.
 use native.Mathlib.Omega.{arith}
 use mathlib.Core.Path.{sym, _∙_, ap}

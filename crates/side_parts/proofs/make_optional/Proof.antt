@@ -1,4 +1,4 @@
--- `machine::make_optional` meets its contract: each atom is a word of the part on top.
+-- `side_parts::make_optional` meets its contract: each atom is a word of the part on top.
 -- Assumes nothing.
 use mathlib.Core.Path.{refl}
 use Rattle.side_parts.proofs.MachineInMemory.{optional-in}

@@ -1,4 +1,4 @@
--- `machine::nothing` meets its contract: the tables are cleared, and the height is 0.
+-- `side_parts::nothing` meets its contract: the tables are cleared, and the height is 0.
 -- Assumes nothing.
 use mathlib.Core.Path.{refl}
 use Rattle.side_parts.proofs.MachineInMemory.{nothing-in, nothing-fits}

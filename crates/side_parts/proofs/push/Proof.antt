@@ -1,4 +1,4 @@
--- `machine::push` meets its contract: below the room the part is stored at the height, and a full stack stays as it is.
+-- `side_parts::push` meets its contract: below the room the part is stored at the height, and a full stack stays as it is.
 -- Assumes nothing.
 use native.Mathlib.Omega.{arith}
 use lib.ListN.{length-set}

@@ -1,4 +1,4 @@
--- `machine::put_in_order` meets its contract: one part takes the place of the two on top, and the tables are those of the two in
+-- `side_parts::put_in_order` meets its contract: one part takes the place of the two on top, and the tables are those of the two in
 -- sequence.
 -- Assumes nothing.
 use mathlib.Core.Path.{refl}

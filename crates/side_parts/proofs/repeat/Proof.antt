@@ -1,4 +1,4 @@
--- `machine::repeat` meets its contract: each occurrence of the part on top may follow each other of it.
+-- `side_parts::repeat` meets its contract: each occurrence of the part on top may follow each other of it.
 -- Assumes nothing.
 use Rattle.side_parts.proofs.MachineInMemory.{again-in, again-fits}
 use borrow.Author.Needs.{needs}

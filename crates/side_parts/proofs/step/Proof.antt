@@ -1,4 +1,4 @@
--- `machine::step` meets its contract: each way does what the definition of one code does.
+-- `side_parts::step` meets its contract: each way does what the definition of one code does.
 -- Assumes nothing.
 use mathlib.Core.Path.{refl}
 use Rattle.side_parts.specs.Machine.{given, fresh, united, inOrder, again, optional}

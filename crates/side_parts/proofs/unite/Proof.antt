@@ -1,4 +1,4 @@
--- `machine::unite` meets its contract: one part takes the place of the two on top.
+-- `side_parts::unite` meets its contract: one part takes the place of the two on top.
 -- Assumes nothing.
 use mathlib.Core.Path.{refl}
 use Rattle.side_parts.proofs.MachineInMemory.{united-in}

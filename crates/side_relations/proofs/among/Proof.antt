@@ -1,4 +1,4 @@
--- `program::relations::among` meets its contract. The invariant: the code is among those that are left exactly if it is among all. The measure
+-- `side_relations::among` meets its contract. The invariant: the code is among those that are left exactly if it is among all. The measure
 -- is what is left.
 -- Assumes nothing.
 use Prim.Native.Nat.{_-_, _≤_}

@@ -1,4 +1,4 @@
--- `program::atom_count` meets its contract: each power is computed, and from 6 tests on there are 64 atoms or more.
+-- `side_relations::atom_count` meets its contract: each power is computed, and from 6 tests on there are 64 atoms or more.
 -- Assumes nothing.
 use Prim.Native.Nat.{_^_, min}
 use native.Mathlib.Omega.{arith}

@@ -1,4 +1,4 @@
--- `program::relations::behind` meets its contract: each way is one of the definition's.
+-- `side_relations::behind` meets its contract: each way is one of the definition's.
 -- Assumes nothing.
 use mathlib.Core.Path.{sym, ap}
 use mathlib.Core.Bool.{cond}

@@ -1,4 +1,4 @@
--- `program::relations::live_set` meets its contract.
+-- `side_relations::live_set` meets its contract.
 -- Assumes nothing.
 use native.Mathlib.Omega.{arith}
 use Rattle.side_relations.proofs.Narrowed.{live-atoms-left}

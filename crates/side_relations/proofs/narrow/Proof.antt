@@ -1,4 +1,4 @@
--- `program::relations::narrow` meets its contract: each way is one of the definition's.
+-- `side_relations::narrow` meets its contract: each way is one of the definition's.
 -- Assumes nothing.
 use native.Mathlib.Omega.{arith}
 use mathlib.Core.Path.{refl, _∙_, ap}

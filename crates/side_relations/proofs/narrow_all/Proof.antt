@@ -1,4 +1,4 @@
--- `program::relations::narrow_all` meets its contract. The invariant: the codes that are left, on the sets as they are, give what all codes give
+-- `side_relations::narrow_all` meets its contract. The invariant: the codes that are left, on the sets as they are, give what all codes give
 -- on the sets at the start. The measure is what is left.
 -- Assumes nothing.
 use Prim.Native.Nat.{_-_, _≤_}

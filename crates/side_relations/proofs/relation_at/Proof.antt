@@ -1,4 +1,4 @@
--- `program::relations::relation_at` meets its contract: each way is one of the definition's.
+-- `side_relations::relation_at` meets its contract: each way is one of the definition's.
 -- Assumes nothing.
 use Prim.Native.Nat.{_+_}
 use native.Mathlib.Omega.{arith}

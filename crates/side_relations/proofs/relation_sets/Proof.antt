@@ -1,4 +1,4 @@
--- `program::relations::relation_sets` meets its contract: all relations start unlimited, and the memory is as long as its type says.
+-- `side_relations::relation_sets` meets its contract: all relations start unlimited, and the memory is as long as its type says.
 -- Assumes nothing.
 use native.Mathlib.Omega.{arith}
 use mathlib.Core.Path.{_∙_}

@@ -1,4 +1,4 @@
--- `program::relations::relation_words` meets its contract. The invariant: with the rest filled, all of it is. The measure is what is left.
+-- `side_relations::relation_words` meets its contract. The invariant: with the rest filled, all of it is. The measure is what is left.
 -- Assumes nothing.
 use Prim.Native.Nat.{_+_, _-_}
 use native.Mathlib.Omega.{arith}

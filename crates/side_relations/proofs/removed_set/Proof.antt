@@ -1,4 +1,4 @@
--- `program::relations::removed_set` meets its contract. The invariant: what is removed so far, with what the codes that are left remove, is
+-- `side_relations::removed_set` meets its contract. The invariant: what is removed so far, with what the codes that are left remove, is
 -- what all of them remove. The measure is what is left.
 -- Assumes nothing.
 use Prim.Native.Nat.{_-_, _≤_}

@@ -1,4 +1,4 @@
--- `tables::occurrences::cut_sets` meets its contract. The invariant: what is left of the range, cut in the sets as they are, is the whole
+-- `side_tables::cut_sets` meets its contract. The invariant: what is left of the range, cut in the sets as they are, is the whole
 -- cut. The measure is what is left of the range.
 -- Assumes nothing.
 use Prim.Native.Nat.{_-_, min}

@@ -1,4 +1,4 @@
--- `tables::occurrences::iterate` meets its contract: the table has no row and no column from 64 on.
+-- `side_tables::iterate` meets its contract: the table has no row and no column from 64 on.
 -- Assumes nothing.
 use native.Mathlib.Omega.{arith}
 use mathlib.Core.Path.{_∙_, ap}

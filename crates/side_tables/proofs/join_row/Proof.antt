@@ -1,4 +1,4 @@
--- `tables::occurrences::join_row` meets its contract. The invariant: what is left of the row, joined in the table as it is, is the whole
+-- `side_tables::join_row` meets its contract. The invariant: what is left of the row, joined in the table as it is, is the whole
 -- row joined. The measure is what is left of the row.
 -- Assumes nothing.
 use Prim.Native.Nat.{_+_, _-_}

@@ -1,4 +1,4 @@
--- `tables::occurrences::join_rows` meets its contract. The invariant: what is left of the rows, joined in the table as it is, is all of
+-- `side_tables::join_rows` meets its contract. The invariant: what is left of the rows, joined in the table as it is, is all of
 -- them joined. The measure is what is left of the rows.
 -- Assumes nothing.
 use Prim.Native.Nat.{_+_, _-_}

@@ -1,4 +1,4 @@
--- `tables::occurrences::mark` meets its contract. The invariant: with the rest of the relations marked, all of them are. The measure is
+-- `side_tables::mark` meets its contract. The invariant: with the rest of the relations marked, all of them are. The measure is
 -- what is left of the relations.
 -- Assumes nothing.
 use Prim.Native.Nat.{ℕ, _-_}

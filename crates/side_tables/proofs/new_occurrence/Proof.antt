@@ -1,4 +1,4 @@
--- `tables::occurrences::new_occurrence` meets its contract: place k in row k is place k * 65.
+-- `side_tables::new_occurrence` meets its contract: place k in row k is place k * 65.
 -- Assumes nothing.
 use native.Mathlib.Omega.{arith}
 use mathlib.Core.Path.{_∙_}

@@ -1,4 +1,4 @@
--- `tables::occurrences::sequence` meets its contract: the table has no row and no column from 64 on.
+-- `side_tables::sequence` meets its contract: the table has no row and no column from 64 on.
 -- Assumes nothing.
 use native.Mathlib.Omega.{arith}
 use mathlib.Core.Path.{_∙_, ap₂}

@@ -1,4 +1,4 @@
--- `tables::turned::column_of` meets its contract. The invariant: the set so far is that of the places passed. The measure is what is left
+-- `side_turned::column_of` meets its contract. The invariant: the set so far is that of the places passed. The measure is what is left
 -- of the places.
 -- Assumes nothing.
 use mathlib.Core.Bool.{cond}

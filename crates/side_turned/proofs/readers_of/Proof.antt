@@ -1,4 +1,4 @@
--- `tables::turned::readers_of` meets its contract: the word is cut to its n lowest bits.
+-- `side_turned::readers_of` meets its contract: the word is cut to its n lowest bits.
 -- Assumes nothing.
 use mathlib.Core.Path.{ap}
 use lib.Bits.{bitAnd}

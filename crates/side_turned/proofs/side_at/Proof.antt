@@ -1,4 +1,4 @@
--- `tables::turned::side_at` meets its contract: each way is one of the definition's.
+-- `side_turned::side_at` meets its contract: each way is one of the definition's.
 -- Assumes nothing.
 use native.Mathlib.Omega.{arith}
 use mathlib.Core.Path.{sym, _∙_}

@@ -1,4 +1,4 @@
--- `tables::turned::side_words` meets its contract. The invariant: with the rest filled, all of it is. The measure is what is left.
+-- `side_turned::side_words` meets its contract. The invariant: with the rest filled, all of it is. The measure is what is left.
 -- Assumes nothing.
 use Prim.Native.Nat.{_-_}
 use native.Mathlib.Omega.{arith}

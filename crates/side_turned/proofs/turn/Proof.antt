@@ -1,4 +1,4 @@
--- `tables::turned::turn` meets its contract: the memory is as long as its type says.
+-- `side_turned::turn` meets its contract: the memory is as long as its type says.
 -- Assumes nothing.
 use native.Mathlib.Omega.{arith}
 use mathlib.Core.Path.{_≡_, _∙_, ap₂}

@@ -1,4 +1,4 @@
--- `tables::turned::turned_at` meets its contract: each way is one of the definition's.
+-- `side_turned::turned_at` meets its contract: each way is one of the definition's.
 -- Assumes nothing.
 use mathlib.Core.Path.{sym, _∙_}
 use Rattle.side_turned.proofs.Turning.{turned-none, turned-some, turned-past}

@@ -1,4 +1,4 @@
--- `query::clear` meets its contract. The invariant: so far zeros, and behind them what stood there.
+-- `words::clear` meets its contract. The invariant: so far zeros, and behind them what stood there.
 -- Assumes nothing.
 use Prim.Native.Nat.{_-_, _≤_}
 use native.Mathlib.Omega.{arith}

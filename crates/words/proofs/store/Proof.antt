@@ -1,4 +1,4 @@
--- `tables::occurrences::store` meets its contract: past the end nothing is stored.
+-- `words::store` meets its contract: past the end nothing is stored.
 -- Assumes nothing.
 use mathlib.Core.Path.{sym}
 use lib.Seq.{set-out}

@@ -1,4 +1,4 @@
--- `machine::word` meets its contract: past the end there is 0.
+-- `words::word` meets its contract: past the end there is 0.
 -- Assumes nothing.
 use mathlib.Core.Path.{sym}
 use lib.ListN.{List·getD-eq-default}

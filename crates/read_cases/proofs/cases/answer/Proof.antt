@@ -1,4 +1,4 @@
--- `read_cases::cases::answer` is safe and ends: the part of the text that it takes is there.
+-- `read_cases::answer` is safe and ends: the part of the text that it takes is there.
 -- Assumes nothing.
 use mathlib.Core.Path.{sym}
 use native.Mathlib.Omega.{arith}
@@ -6,9 +6,6 @@ use lib.Seq.{length-take-le}
 use borrow.Author.Needs.{needs}
 use Rattle.read_cases.proofs.cases.answer.Statement.{statement}
 use Rattle.read_cases.proofs.cases.answer.Tie as tie
-use Rattle.read_cases.proofs.cases.answer.Reads as reads
-use Rattle.read_cases.proofs.cases.answer.Lts as lts
-use Rattle.show.proofs.show.Reads as show-reads
 
 slice-aggregate-show : tie.Need-slice-aggregate-show
 slice-aggregate-show c =

@@ -1,12 +1,8 @@
--- `read_cases::cases::run` is safe and ends: the number of parts that it may still read falls.
+-- `read_cases::run` is safe and ends: the number of parts that it may still read falls.
 -- Assumes nothing.
 use borrow.Author.Needs.{needs}
 use Rattle.read_cases.proofs.cases.run.Statement.{statement}
 use Rattle.read_cases.proofs.cases.run.Tie as tie
-use Rattle.read_cases.proofs.cases.run.Reads as reads
-use Rattle.read_cases.proofs.cases.run.Lts as lts
-use Rattle.read_cases.proofs.cases.read_part.Reads as read-part-reads
-use Rattle.read_cases.proofs.escape.start.Reads as start-reads
 
 abbrev Inv-loop : tie.InvT-loop
 Inv-loop text₀ at₀ left₀ text at left = Unit {0}

@@ -1,4 +1,4 @@
--- `read_cases::cases::take_all` is safe and ends: it goes once over the part.
+-- `read_cases::take_all` is safe and ends: it goes once over the part.
 -- Assumes nothing.
 use Prim.Native.Nat.{_≤_, _-_}
 use mathlib.Core.Path.{_≡_}
@@ -6,9 +6,6 @@ use lib.ListN.{length}
 use borrow.Author.Needs.{needs}
 use Rattle.read_cases.proofs.cases.take_all.Statement.{statement}
 use Rattle.read_cases.proofs.cases.take_all.Tie as tie
-use Rattle.read_cases.proofs.cases.take_all.Reads as reads
-use Rattle.read_cases.proofs.cases.take_all.Lts as lts
-use Rattle.read_cases.proofs.cases.take.Reads as take-reads
 
 abbrev Inv-loop : tie.InvT-loop
 Inv-loop text₀ part at₀ i₀ text at i = (length text ≡ length text₀) × (i ≤ length part)

@@ -5,9 +5,9 @@ use native.Mathlib.Omega.{arith}
 use mathlib.Core.Path.{sym}
 use lib.ListN.{length, List·getD-eq-default}
 use borrow.Author.Needs.{needs}
-use Rattle.side_claim.specs.Sides.{claimKind}
-use Rattle.side_claim.proofs.claim_kind.Statement.{statement}
-use Rattle.side_claim.proofs.claim_kind.Tie as tie
+use Rattle.codes.specs.Codes.{claimKind}
+use Rattle.codes.proofs.claim_kind.Statement.{statement}
+use Rattle.codes.proofs.claim_kind.Tie as tie
 
 returns : tie.Need-returns
 unfolding claimKind
