@@ -3,7 +3,7 @@
 use Prim.Native.Nat.{ℕ, zero, suc, _+_, _*_, _-_, _≤_, _<_}
 use native.Mathlib.Omega.{arith}
 use mathlib.Core.Path.{_≡_, refl, sym, ap, _∙_, subst}
-use mathlib.Core.Bool.{true, false}
+use mathlib.Core.Bool.{false}
 use mathlib.Core.List.{List, [], _∷_, _++_, append-nil, append-assoc}
 use lib.ListN.{length, drop, set, length-append}
 use lib.Seq.{sets}
@@ -12,49 +12,19 @@ use Rattle.claims.specs.Tokens.{Token, tokens}
 use Rattle.claims.specs.Grammar.{Found, got, wrong, deep, andThen, goesOn, past, postfixMore, postfixOf, factorOf}
 use Rattle.claims.specs.Tree.{Tree, star, plus, opt}
 use Rattle.claims.specs.Names.{treeUses}
-use Rattle.codes.specs.Codes.{treeCodes}
+use Rattle.codes.specs.Codes.{STAR, PLUS, OPTIONAL, treeCodes}
 use Rattle.read_tokens.proofs.Tokens.{ScannedMark}
 use Rattle.read_tests.specs.declared.Place.{Place}
 use Rattle.read_exprs.specs.declared.Sign.{Sign}
 use Rattle.read_tests.specs.declared.Parsed.{Parsed}
-use Rattle.read_tests.specs.declared.Parsed.the-variants.{Got, Wrong, Deep}
+use Rattle.read_tests.specs.declared.Parsed.the-variants.{Got}
 use Rattle.read_tests.specs.Next.{markNext}
 use Rattle.read_tests.specs.Places.{Room, Read, TreeOutcome, Finds}
 use Rattle.read_exprs.specs.Postfix.{Wraps, SignStands, SignNext, PostfixesNext}
 use Rattle.read_tests.proofs.Stores.{stores-then}
 use Rattle.read_tests.proofs.Told.{told-store, told-as}
 use Rattle.read_tests.proofs.Next.{mark-stands, mark-missing, goes-on, passed, one-fewer}
-
--- the grammar's step for each postfix
-module _ (f d : ℕ) (e : Tree) (ts : List Token) where
-  star-next : goesOn (byte "*") ts ≡ true → postfixMore (suc f) d e ts ≡ postfixMore f d (star e) (past ts)
-  unfolding postfixMore
-  star-next h = rw (h, postfixMore)
-
-  plus-next : goesOn (byte "*") ts ≡ false → goesOn (byte "+") ts ≡ true → postfixMore (suc f) d e ts ≡ postfixMore f d (plus e) (past ts)
-  unfolding postfixMore
-  plus-next g h = rw (g, h, postfixMore)
-
-  opt-next : goesOn (byte "*") ts ≡ false → goesOn (byte "+") ts ≡ false → goesOn (byte "?") ts ≡ true
-      → postfixMore (suc f) d e ts ≡ postfixMore f d (opt e) (past ts)
-  unfolding postfixMore
-  opt-next g h i = rw (g, h, i, postfixMore)
-
-  no-next : goesOn (byte "*") ts ≡ false → goesOn (byte "+") ts ≡ false → goesOn (byte "?") ts ≡ false → postfixMore (suc f) d e ts ≡ got e ts
-  unfolding postfixMore
-  no-next g h i = rw (g, h, i, postfixMore)
-
-star-wraps : Wraps star (9 ∷ [])
-unfolding treeCodes treeUses
-star-wraps = record { codes = λ q e. refl; uses = λ e. refl }
-
-plus-wraps : Wraps plus (10 ∷ [])
-unfolding treeCodes treeUses
-plus-wraps = record { codes = λ q e. refl; uses = λ e. refl }
-
-opt-wraps : Wraps opt (11 ∷ [])
-unfolding treeCodes treeUses
-opt-wraps = record { codes = λ q e. refl; uses = λ e. refl }
+use Rattle.read_tests.proofs.Outcomes.{NoTree, handed-on}
 
 -- a postfix with its mark b and its code c stands next
 module _ (s : List ℕ) (at b next c : ℕ) (w : Tree → Tree) (ws : Wraps w (c ∷ [])) (nonzero : c ≡ 0 → ⊥) (m : ScannedMark s at b next)
@@ -76,33 +46,40 @@ module _ (s : List ℕ) (at b next c : ℕ) (w : Tree → Tree) (ws : Wraps w (c
 
 -- the tests in the order in which they are made
 module _ (s : List ℕ) (at i : ℕ) (asked : i ≡ markNext s at (byte "*")) where
-  pub sign-star : (i ≡ 0 → ⊥) → SignNext s at (record { at = i; code = 9 })
+  pub sign-star : (i ≡ 0 → ⊥) → SignNext s at (record { at = i; code = STAR })
+  unfolding postfixMore treeCodes treeUses
   sign-star h =
       let m = mark-stands s at (byte "*") i asked h in
-      sign-stands s at (byte "*") i 9 star star-wraps (λ z. omega arith) m
-      (λ f d e. star-next f d e (tokens (drop at s)) (goes-on s at (byte "*") i m))
+      sign-stands s at (byte "*") i STAR star (record { codes = λ q e. refl; uses = λ e. refl }) (λ z. omega arith) m
+      (λ f d e. rw (goes-on s at (byte "*") i m, postfixMore))
 
   module _ (no : i ≡ 0) (j : ℕ) (next : j ≡ markNext s at (byte "+")) where
-    pub sign-plus : (j ≡ 0 → ⊥) → SignNext s at (record { at = j; code = 10 })
+    no-star : goesOn (byte "*") (tokens (drop at s)) ≡ false
+    no-star = mark-missing s at (byte "*") i asked no
+
+    pub sign-plus : (j ≡ 0 → ⊥) → SignNext s at (record { at = j; code = PLUS })
+    unfolding postfixMore treeCodes treeUses
     sign-plus h =
         let m = mark-stands s at (byte "+") j next h in
-        sign-stands s at (byte "+") j 10 plus plus-wraps (λ z. omega arith) m
-        (λ f d e. plus-next f d e (tokens (drop at s)) (mark-missing s at (byte "*") i asked no) (goes-on s at (byte "+") j m))
+        sign-stands s at (byte "+") j PLUS plus (record { codes = λ q e. refl; uses = λ e. refl }) (λ z. omega arith) m
+        (λ f d e. rw (no-star, goes-on s at (byte "+") j m, postfixMore))
 
     module _ (nor : j ≡ 0) (k : ℕ) (last : k ≡ markNext s at (byte "?")) where
-      pub sign-opt : (k ≡ 0 → ⊥) → SignNext s at (record { at = k; code = 11 })
+      no-plus : goesOn (byte "+") (tokens (drop at s)) ≡ false
+      no-plus = mark-missing s at (byte "+") j next nor
+
+      pub sign-opt : (k ≡ 0 → ⊥) → SignNext s at (record { at = k; code = OPTIONAL })
+      unfolding postfixMore treeCodes treeUses
       sign-opt h =
           let m = mark-stands s at (byte "?") k last h in
-          sign-stands s at (byte "?") k 11 opt opt-wraps (λ z. omega arith) m
-          (λ f d e. opt-next f d e (tokens (drop at s)) (mark-missing s at (byte "*") i asked no) (mark-missing s at (byte "+") j next nor)
-          (goes-on s at (byte "?") k m))
+          sign-stands s at (byte "?") k OPTIONAL opt (record { codes = λ q e. refl; uses = λ e. refl }) (λ z. omega arith) m
+          (λ f d e. rw (no-star, no-plus, goes-on s at (byte "?") k m, postfixMore))
 
       pub sign-none : (to : ℕ) → k ≡ 0 → SignNext s at (record { at = to; code = 0 })
+      unfolding postfixMore
       sign-none to h =
           record {
-            none =
-                λ _ f d e. no-next f d e (tokens (drop at s)) (mark-missing s at (byte "*") i asked no) (mark-missing s at (byte "+") j next nor)
-                (mark-missing s at (byte "?") k last h);
+            none = λ _ f d e. rw (no-star, no-plus, mark-missing s at (byte "?") k last h, postfixMore);
             some = λ z. absurd (z refl);
           }
 
@@ -215,11 +192,11 @@ module _ (d : ℕ) (s names : List ℕ) (n : ℕ) (p : Place) (before : List ℕ
   abbrev Factor : Parsed → Type 0
   Factor = TreeOutcome (Finds factorOf d 1) s names n p before mid
 
-  pub postfix-wrong : x ≡ Wrong → TreeOutcome (Finds postfixOf d 2) s names n p before before Wrong
-  postfix-wrong e = through d (tokens (drop (p .at) s)) wrong wrong (subst Factor e o) (λ m l. refl)
-
-  pub postfix-deep : x ≡ Deep → TreeOutcome (Finds postfixOf d 2) s names n p before before Deep
-  postfix-deep e = through d (tokens (drop (p .at) s)) deep deep (subst Factor e o) (λ m l. refl)
+  pub postfix-fault : NoTree x → TreeOutcome (Finds postfixOf d 2) s names n p before mid x
+  postfix-fault none =
+      handed-on Factor (TreeOutcome (Finds postfixOf d 2) s names n p before mid)
+      (λ h. through d (tokens (drop (p .at) s)) wrong wrong h (λ m l. refl)) (λ h. through d (tokens (drop (p .at) s)) deep deep h (λ m l. refl))
+      x none o
 
   module _ (r : Place) (is : x ≡ Got r) where
     abbrev there : Read (Finds factorOf d 1) treeCodes treeUses s names n p before mid r

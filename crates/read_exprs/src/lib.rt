@@ -35,28 +35,24 @@ pub fn union(
     let mut more = 0;
     loop {
         let r = sequence(s, names, n, depth, place, out);
-        match r {
-            Parsed::Got(got) => {
-                let at = got.at;
-                let used = read_tests::write(out, got.used, more, codes::UNION);
-                let next = read_tests::mark_next(s, at, b'|');
-                if next == 0 {
-                    return Parsed::Got(Place {
-                        at,
-                        used,
-                        slip: got.slip,
-                    });
-                }
-                place = Place {
-                    at: next,
-                    used,
-                    slip: got.slip,
-                };
-                more = 1;
-            }
-            Parsed::Wrong => return Parsed::Wrong,
-            Parsed::Deep => return Parsed::Deep,
+        let Parsed::Got(got) = r else {
+            return r;
+        };
+        let used = read_tests::write(out, got.used, more, codes::UNION);
+        let next = read_tests::mark_next(s, got.at, b'|');
+        if next == 0 {
+            return Parsed::Got(Place {
+                at: got.at,
+                used,
+                slip: got.slip,
+            });
         }
+        place = Place {
+            at: next,
+            used,
+            slip: got.slip,
+        };
+        more = 1;
     }
 }
 
@@ -76,28 +72,24 @@ fn sequence(
     let mut more = 0;
     loop {
         let r = postfix(s, names, n, depth, place, out);
-        match r {
-            Parsed::Got(got) => {
-                let at = got.at;
-                let used = read_tests::write(out, got.used, more, codes::SEQUENCE);
-                let next = read_tests::mark_next(s, at, b';');
-                if next == 0 {
-                    return Parsed::Got(Place {
-                        at,
-                        used,
-                        slip: got.slip,
-                    });
-                }
-                place = Place {
-                    at: next,
-                    used,
-                    slip: got.slip,
-                };
-                more = 1;
-            }
-            Parsed::Wrong => return Parsed::Wrong,
-            Parsed::Deep => return Parsed::Deep,
+        let Parsed::Got(got) = r else {
+            return r;
+        };
+        let used = read_tests::write(out, got.used, more, codes::SEQUENCE);
+        let next = read_tests::mark_next(s, got.at, b';');
+        if next == 0 {
+            return Parsed::Got(Place {
+                at: got.at,
+                used,
+                slip: got.slip,
+            });
         }
+        place = Place {
+            at: next,
+            used,
+            slip: got.slip,
+        };
+        more = 1;
     }
 }
 
@@ -114,11 +106,10 @@ fn postfix(
     ensures { λ r. ⌜ TreeOutcome (Finds postfixOf depth 2) (now (s .entry)) (now (names .entry)) n p (now (out .entry)) (now (out .exit)) r ⌝ }
 {
     let r = factor(s, names, n, depth, p, out);
-    match r {
-        Parsed::Got(got) => Parsed::Got(postfixes(s, got, out)),
-        Parsed::Wrong => Parsed::Wrong,
-        Parsed::Deep => Parsed::Deep,
-    }
+    let Parsed::Got(got) = r else {
+        return r;
+    };
+    Parsed::Got(postfixes(s, got, out))
 }
 
 // A name, a T in square brackets, or an E in round ones.
@@ -146,21 +137,18 @@ fn factor(
         slip: p.slip,
     };
     let r = union(s, names, n, depth + 1, inner, out);
-    match r {
-        Parsed::Got(got) => {
-            let end = read_tests::mark_next(s, got.at, b')');
-            if end == 0 {
-                return Parsed::Wrong;
-            }
-            Parsed::Got(Place {
-                at: end,
-                used: got.used,
-                slip: got.slip,
-            })
-        }
-        Parsed::Wrong => Parsed::Wrong,
-        Parsed::Deep => Parsed::Deep,
+    let Parsed::Got(got) = r else {
+        return r;
+    };
+    let end = read_tests::mark_next(s, got.at, b')');
+    if end == 0 {
+        return Parsed::Wrong;
     }
+    Parsed::Got(Place {
+        at: end,
+        used: got.used,
+        slip: got.slip,
+    })
 }
 
 // A factor that no round bracket begins: a name, or a T in square brackets.
@@ -179,22 +167,19 @@ fn leaf(s: &[u8], names: &[u64], n: usize, depth: usize, p: Place, out: &mut [u6
         slip: p.slip,
     };
     let r = read_tests::union(s, names, n, depth, inner, out);
-    match r {
-        Parsed::Got(got) => {
-            let end = read_tests::mark_next(s, got.at, b']');
-            if end == 0 {
-                return Parsed::Wrong;
-            }
-            let used = read_tests::write(out, got.used, 1, codes::TESTED);
-            Parsed::Got(Place {
-                at: end,
-                used,
-                slip: got.slip,
-            })
-        }
-        Parsed::Wrong => Parsed::Wrong,
-        Parsed::Deep => Parsed::Deep,
+    let Parsed::Got(got) = r else {
+        return r;
+    };
+    let end = read_tests::mark_next(s, got.at, b']');
+    if end == 0 {
+        return Parsed::Wrong;
     }
+    let used = read_tests::write(out, got.used, 1, codes::TESTED);
+    Parsed::Got(Place {
+        at: end,
+        used,
+        slip: got.slip,
+    })
 }
 
 // The name of a relation or a let.
@@ -204,26 +189,22 @@ fn named(s: &[u8], names: &[u64], n: usize, p: Place, out: &mut [u64; 4096]) -> 
 {
     let used = p.used;
     let t = read_tokens::token_at(s, p.at);
-    match t {
-        Token::Word(k, next) => {
-            if read_names::reserved(k) {
-                return Parsed::Wrong;
-            }
-            let code = read_names::find(names, n, k);
-            out[used] = code;
-            Parsed::Got(Place {
-                at: next,
-                used: used + 1,
-                slip: read_names::first_slip(
-                    p.slip,
-                    read_names::slip_of(code, codes::A_RELATION, codes::LINE),
-                ),
-            })
-        }
-        Token::Mark(_, _) => Parsed::Wrong,
-        Token::Bad => Parsed::Wrong,
-        Token::End => Parsed::Wrong,
+    let Token::Word(k, next) = t else {
+        return Parsed::Wrong;
+    };
+    if read_names::reserved(k) {
+        return Parsed::Wrong;
     }
+    let code = read_names::find(names, n, k);
+    out[used] = code;
+    Parsed::Got(Place {
+        at: next,
+        used: used + 1,
+        slip: read_names::first_slip(
+            p.slip,
+            read_names::slip_of(code, codes::A_RELATION, codes::LINE),
+        ),
+    })
 }
 
 // The postfix that stands next.

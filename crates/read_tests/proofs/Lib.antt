@@ -9,5 +9,6 @@ pub mod Words
 pub mod Chains
 pub mod Loops
 pub mod Bracketed
+pub mod Rounds
 -- The readers of T.
 pub mod Tests

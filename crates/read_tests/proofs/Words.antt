@@ -14,17 +14,19 @@ use Rattle.claims.specs.Grammar.{Found, got, wrong, nameNext, testWord}
 use Rattle.claims.specs.Tree.{testName, always, never, name}
 use Rattle.claims.specs.Names.{Use, testUses, treeUses, firstSlip}
 use Rattle.claims.specs.Query.{Query}
-use Rattle.codes.specs.Codes.{codeOf, testCodes, treeCodes}
+use Rattle.codes.specs.Codes.{TRUE, FALSE, A-TEST, A-RELATION, LINE, codeOf, testCodes, treeCodes}
 use Rattle.read_tokens.specs.declared.Key.{Key}
 use Rattle.read_tokens.specs.declared.Token.{Token}
-use Rattle.read_tokens.specs.declared.Token.the-variants.{Bad, End}
-use Rattle.read_tokens.specs.Scan.{keyOf, tokenAt, Spelled}
+use Rattle.read_tokens.specs.declared.Token.the-variants.{Word, Mark, Bad, End}
+use Rattle.read_tokens.specs.Scan.{keyOf, tokenAt}
 use Rattle.read_names.specs.Keys.{sameKey, reservedKey, wordKey, findIn, Knows}
-use Rattle.read_tokens.proofs.Tokens.{Scanned, ScannedWord, ScannedMark, tokens-scanned}
+use Rattle.read_tokens.proofs.Tokens.{Scanned, ScannedWord, tokens-scanned}
+use types.Run.{miss}
 use Rattle.read_names.proofs.Names.{same-key, reserved-name, reserved-is-reserved}
 use Rattle.read_tests.specs.declared.Place.{Place}
 use Rattle.read_tests.specs.declared.Parsed.the-variants.{Got, Wrong}
 use Rattle.read_tests.specs.Places.{Moved, Read, TestOutcome, TreeOutcome, Is}
+use Rattle.read_tests.proofs.Next.{NoWord}
 use Rattle.read_names.specs.Slips.{slipNumber, firstOf, slipOfCode}
 use Rattle.read_names.proofs.Slips.{no-slip, test-slip, either-slip}
 
@@ -90,113 +92,100 @@ module _ (w : List ℕ) (ts us : List Notation.Token) (read : ts ≡ Notation.wo
   unfolding nameNext
   name-named r = rw (read, r, nameNext)
 
--- the key k is that of w
-module _ (w : List ℕ) (k : Key) (is : k ≡ keyOf w) (sp : Spelled w) where
-  key-says : (n : ℕ) (x : Key) (b : Bool) → n < 14 → x ≡ wordKey n → b ≡ sameKey x k → b ≡ same (getD reservedWords n []) w
-  unfolding wordKey
-  key-says n x b h e f =
-      f ∙ ap (λ y. sameKey y k) e ∙ ap (sameKey (keyOf (getD reservedWords n []))) is ∙ same-key (getD reservedWords n []) w (reserved-name n h) sp
-
-  key-true : (x : Key) (b : Bool) → x ≡ wordKey 12 → b ≡ sameKey x k → b ≡ same (text "true") w
-  unfolding reservedWords
-  key-true x b e f = key-says 12 x b (omega arith) e f
-
-  key-false : (x : Key) (b : Bool) → x ≡ wordKey 13 → b ≡ sameKey x k → b ≡ same (text "false") w
-  unfolding reservedWords
-  key-false x b e f = key-says 13 x b (omega arith) e f
-
-  key-reserved : (b : Bool) → b ≡ reservedKey k → b ≡ isReserved w
-  key-reserved b e = e ∙ ap reservedKey is ∙ reserved-is-reserved w sp
-
-  key-known : (names : List ℕ) (n : ℕ) (q : Query) → Knows names n q → (c : ℕ) → c ≡ findIn n names k → c ≡ codeOf q w
-  key-known names n q h c e = e ∙ ap (findIn n names) is ∙ h .codes w sp
-
 -- the word with the key k was found, and ends at `next`
 module _ (s names : List ℕ) (n : ℕ) (p : Place) (before : List ℕ) (k : Key) (next : ℕ) (f : ScannedWord s (p .at) k next) where
+  key-says : (m : ℕ) (x : Key) (b : Bool) → m < 14 → x ≡ wordKey m → b ≡ sameKey x k → b ≡ same (getD reservedWords m []) (f .spelling)
+  unfolding wordKey
+  key-says m x b h e g =
+      g ∙ ap (λ y. sameKey y k) e ∙ ap (sameKey (keyOf (getD reservedWords m []))) (f .key)
+      ∙ same-key (getD reservedWords m []) (f .spelling) (reserved-name m h) (f .spelled)
+
+  key-true : (x : Key) (b : Bool) → x ≡ wordKey 12 → b ≡ sameKey x k → b ≡ same (text "true") (f .spelling)
+  unfolding reservedWords
+  key-true x b e g = key-says 12 x b (omega arith) e g
+
+  key-false : (x : Key) (b : Bool) → x ≡ wordKey 13 → b ≡ sameKey x k → b ≡ same (text "false") (f .spelling)
+  unfolding reservedWords
+  key-false x b e g = key-says 13 x b (omega arith) e g
+
+  key-reserved : {b c : Bool} → b ≡ reservedKey k → b ≡ c → isReserved (f .spelling) ≡ c
+  key-reserved e h = sym (e ∙ ap reservedKey (f .key) ∙ reserved-is-reserved (f .spelling) (f .spelled)) ∙ h
+
+  -- a name: its code is looked up, and a slip of it remembered
+  name-taken : {A : Type 0} (Reads : List Notation.Token → Found A → Type 0) (codes : Query → A → List ℕ) (uses : A → List Use) (t : A)
+      (low high : ℕ) → Reads (tokens (drop (p .at) s)) (got t (tokens (drop next s)))
+      → ((q : Query) → codes q t ≡ codeOf q (f .spelling) ∷ [])
+      → ((q : Query) → Knows names n q → slipOfCode low high (codeOf q (f .spelling)) ≡ slipNumber (firstSlip q (uses t)))
+      → (c i slip : ℕ) → c ≡ findIn n names k → i ≡ slipOfCode low high c → slip ≡ firstOf (p .slip) i
+      → Read Reads codes uses s names n p before (set before (p .used) c) (stepped p next slip)
+  name-taken Reads codes uses t low high r is slips c i slip e g l =
+      let known-as : (q : Query) → Knows names n q → c ≡ codeOf q (f .spelling) =
+      λ q known. e ∙ ap (findIn n names) (f .key) ∙ known .codes (f .spelling) (f .spelled) in
+      word-read Reads codes uses s names n p before t k c next slip f r (λ q known. is q ∙ ap (λ m. m ∷ []) (sym (known-as q known)))
+      (λ q known. l ∙ ap (firstOf (p .slip)) (g ∙ ap (slipOfCode low high) (known-as q known) ∙ slips q known))
+
+  -- where a test is wanted, `true` and `false` come first
   module _ (x : Key) (a : Bool) (x-is : x ≡ wordKey 12) (a-is : a ≡ sameKey x k) where
-    pub word-true : a ≡ true → TestOutcome (Is testWord) s names n p before (set before (p .used) 1) (Got (stepped p next (p .slip)))
+    pub word-true : a ≡ true → TestOutcome (Is testWord) s names n p before (set before (p .used) TRUE) (Got (stepped p next (p .slip)))
     unfolding testCodes testUses
     word-true h =
-        word-read (Is testWord) testCodes testUses s names n p before always k 1 next (p .slip) f
-        (says-true (f .spelling) (tokens (drop (p .at) s)) (tokens (drop next s)) (f .read)
-        (sym (key-true (f .spelling) k (f .key) (f .spelled) x a x-is a-is) ∙ h))
+        word-read (Is testWord) testCodes testUses s names n p before always k TRUE next (p .slip) f
+        (says-true (f .spelling) (tokens (drop (p .at) s)) (tokens (drop next s)) (f .read) (sym (key-true x a x-is a-is) ∙ h))
         (λ q _. refl) (λ q _. no-slip q (p .slip))
 
     module _ (y : Key) (b : Bool) (no : a ≡ false) (y-is : y ≡ wordKey 13) (b-is : b ≡ sameKey y k) where
       not-true : same (text "true") (f .spelling) ≡ false
-      not-true = sym (key-true (f .spelling) k (f .key) (f .spelled) x a x-is a-is) ∙ no
+      not-true = sym (key-true x a x-is a-is) ∙ no
 
-      pub word-false : b ≡ true → TestOutcome (Is testWord) s names n p before (set before (p .used) 2) (Got (stepped p next (p .slip)))
+      pub word-false : b ≡ true → TestOutcome (Is testWord) s names n p before (set before (p .used) FALSE) (Got (stepped p next (p .slip)))
       unfolding testCodes testUses
       word-false h =
-          word-read (Is testWord) testCodes testUses s names n p before never k 2 next (p .slip) f
-          (says-false (f .spelling) (tokens (drop (p .at) s)) (tokens (drop next s)) (f .read) not-true
-          (sym (key-false (f .spelling) k (f .key) (f .spelled) y b y-is b-is) ∙ h))
+          word-read (Is testWord) testCodes testUses s names n p before never k FALSE next (p .slip) f
+          (says-false (f .spelling) (tokens (drop (p .at) s)) (tokens (drop next s)) (f .read) not-true (sym (key-false y b y-is b-is) ∙ h))
           (λ q _. refl) (λ q _. no-slip q (p .slip))
 
       module _ (d : Bool) (neither : b ≡ false) (d-is : d ≡ reservedKey k) where
         not-false : same (text "false") (f .spelling) ≡ false
-        not-false = sym (key-false (f .spelling) k (f .key) (f .spelled) y b y-is b-is) ∙ neither
+        not-false = sym (key-false y b y-is b-is) ∙ neither
 
         pub word-reserved : d ≡ true → TestOutcome (Is testWord) s names n p before before Wrong
         word-reserved h =
-            test-reserved (f .spelling) (tokens (drop (p .at) s)) (tokens (drop next s)) (f .read) not-true not-false
-            (sym (key-reserved (f .spelling) k (f .key) (f .spelled) d d-is) ∙ h)
+            test-reserved (f .spelling) (tokens (drop (p .at) s)) (tokens (drop next s)) (f .read) not-true not-false (key-reserved d-is h)
 
-        pub word-named : (c i slip : ℕ) → d ≡ false → c ≡ findIn n names k → i ≡ slipOfCode 16 32 c → slip ≡ firstOf (p .slip) i
+        pub word-named : (c i slip : ℕ) → d ≡ false → c ≡ findIn n names k → i ≡ slipOfCode A-TEST A-RELATION c → slip ≡ firstOf (p .slip) i
             → TestOutcome (Is testWord) s names n p before (set before (p .used) c) (Got (stepped p next slip))
         unfolding testCodes testUses
-        word-named c i slip h e g l =
-            word-read (Is testWord) testCodes testUses s names n p before (testName (f .spelling)) k c next slip f
-            (test-named (f .spelling) (tokens (drop (p .at) s)) (tokens (drop next s)) (f .read) not-true not-false
-            (sym (key-reserved (f .spelling) k (f .key) (f .spelled) d d-is) ∙ h))
-            (λ q known. ap (λ m. m ∷ []) (sym (key-known (f .spelling) k (f .key) (f .spelled) names n q known c e)))
-            (λ q known. l ∙ ap (firstOf (p .slip))
-            (g ∙ ap (slipOfCode 16 32) (key-known (f .spelling) k (f .key) (f .spelled) names n q known c e)
-            ∙ test-slip names n q known (f .spelling)))
+        word-named c i slip h =
+            name-taken (Is testWord) testCodes testUses (testName (f .spelling)) A-TEST A-RELATION
+            (test-named (f .spelling) (tokens (drop (p .at) s)) (tokens (drop next s)) (f .read) not-true not-false (key-reserved d-is h))
+            (λ q. refl) (λ q known. test-slip names n q known (f .spelling)) c i slip
 
--- the same where a relation or a let is wanted
-module _ (s names : List ℕ) (n : ℕ) (p : Place) (before : List ℕ) (k : Key) (next : ℕ) (f : ScannedWord s (p .at) k next) (d : Bool)
-    (d-is : d ≡ reservedKey k) where
-  pub named-reserved : d ≡ true → TreeOutcome (Is (nameNext name)) s names n p before before Wrong
-  named-reserved h =
-      name-reserved (f .spelling) (tokens (drop (p .at) s)) (tokens (drop next s)) (f .read)
-      (sym (key-reserved (f .spelling) k (f .key) (f .spelled) d d-is) ∙ h)
+  -- where a relation or a let is wanted
+  module _ (d : Bool) (d-is : d ≡ reservedKey k) where
+    pub named-reserved : d ≡ true → TreeOutcome (Is (nameNext name)) s names n p before before Wrong
+    named-reserved h = name-reserved (f .spelling) (tokens (drop (p .at) s)) (tokens (drop next s)) (f .read) (key-reserved d-is h)
 
-  pub named-taken : (c i slip : ℕ) → d ≡ false → c ≡ findIn n names k → i ≡ slipOfCode 32 128 c → slip ≡ firstOf (p .slip) i
-      → TreeOutcome (Is (nameNext name)) s names n p before (set before (p .used) c) (Got (stepped p next slip))
-  unfolding treeCodes treeUses
-  named-taken c i slip h e g l =
-      word-read (Is (nameNext name)) treeCodes treeUses s names n p before (name (f .spelling)) k c next slip f
-      (name-named (f .spelling) (tokens (drop (p .at) s)) (tokens (drop next s)) (f .read)
-      (sym (key-reserved (f .spelling) k (f .key) (f .spelled) d d-is) ∙ h))
-      (λ q known. ap (λ m. m ∷ []) (sym (key-known (f .spelling) k (f .key) (f .spelled) names n q known c e)))
-      (λ q known. l ∙ ap (firstOf (p .slip))
-      (g ∙ ap (slipOfCode 32 128) (key-known (f .spelling) k (f .key) (f .spelled) names n q known c e)
-      ∙ either-slip names n q known (f .spelling)))
+    pub named-taken : (c i slip : ℕ) → d ≡ false → c ≡ findIn n names k → i ≡ slipOfCode A-RELATION LINE c → slip ≡ firstOf (p .slip) i
+        → TreeOutcome (Is (nameNext name)) s names n p before (set before (p .used) c) (Got (stepped p next slip))
+    unfolding treeCodes treeUses
+    named-taken c i slip h =
+        name-taken (Is (nameNext name)) treeCodes treeUses (name (f .spelling)) A-RELATION LINE
+        (name-named (f .spelling) (tokens (drop (p .at) s)) (tokens (drop next s)) (f .read) (key-reserved d-is h))
+        (λ q. refl) (λ q known. either-slip names n q known (f .spelling)) c i slip
 
--- what was found is no word
-module _ (s names : List ℕ) (n : ℕ) (p : Place) (before : List ℕ) where
-  pub mark-no-word : (b e : ℕ) → ScannedMark s (p .at) b e → TestOutcome (Is testWord) s names n p before before Wrong
+-- what was found is no word, and so a mark, a bad token or nothing stands next
+no-word-next : (P : List Notation.Token → Type 0) → P [] → ((b : ℕ) (ts : List Notation.Token) → P (Notation.mark b ∷ ts))
+    → ((ts : List Notation.Token) → P (Notation.bad ∷ ts)) → (s : List ℕ) (at : ℕ) (t : Token) → Scanned s at t → NoWord t → P (tokens (drop at s))
+no-word-next P e m b s at (Word k i) f h = absurd (miss (1 ∷ 2 ∷ 3 ∷ []) 0 tt h)
+no-word-next P e m b s at (Mark c i) f h = subst P (sym (f .read)) (m c (tokens (drop i s)))
+no-word-next P e m b s at Bad f h = subst P (sym (f .1)) (b (f .0))
+no-word-next P e m b s at End f h = subst P (sym f) e
+
+module _ (s : List ℕ) (at : ℕ) {t : Token} (found : t ≡ tokenAt s at) (no : NoWord t) where
+  pub test-no-word : testWord (tokens (drop at s)) ≡ wrong
   unfolding testWord nameNext
-  mark-no-word b e f = ap testWord (f .read)
+  test-no-word = no-word-next (λ ts. testWord ts ≡ wrong) refl (λ b ts. refl) (λ ts. refl) s at t (scanned s at found refl) no
 
-  pub bad-no-word : Scanned s (p .at) Bad → TestOutcome (Is testWord) s names n p before before Wrong
-  unfolding testWord nameNext
-  bad-no-word f = ap testWord (f .1)
-
-  pub end-no-word : Scanned s (p .at) End → TestOutcome (Is testWord) s names n p before before Wrong
-  unfolding testWord nameNext
-  end-no-word f = ap testWord f
-
-  pub mark-no-name : (b e : ℕ) → ScannedMark s (p .at) b e → TreeOutcome (Is (nameNext name)) s names n p before before Wrong
+  pub name-no-word : nameNext name (tokens (drop at s)) ≡ wrong
   unfolding nameNext
-  mark-no-name b e f = ap (nameNext name) (f .read)
-
-  pub bad-no-name : Scanned s (p .at) Bad → TreeOutcome (Is (nameNext name)) s names n p before before Wrong
-  unfolding nameNext
-  bad-no-name f = ap (nameNext name) (f .1)
-
-  pub end-no-name : Scanned s (p .at) End → TreeOutcome (Is (nameNext name)) s names n p before before Wrong
-  unfolding nameNext
-  end-no-name f = ap (nameNext name) f
+  name-no-word = no-word-next (λ ts. nameNext name ts ≡ wrong) refl (λ b ts. refl) (λ ts. refl) s at t (scanned s at found refl) no

@@ -39,12 +39,10 @@ pub fn mark_next(s: &[u8], at: usize, b: u8) -> usize
     ensures { λ r. ⌜ r ≡ markNext (now (s .entry)) at b ⌝ }
 {
     let t = read_tokens::token_at(s, at);
-    match t {
-        Token::Word(_, _) => 0,
-        Token::Mark(c, next) => { if b == c { next } else { 0 } }
-        Token::Bad => 0,
-        Token::End => 0,
-    }
+    let Token::Mark(c, next) = t else {
+        return 0;
+    };
+    if b == c { next } else { 0 }
 }
 
 // The position behind the word with the key k, if it stands next, else 0.
@@ -52,12 +50,10 @@ pub fn word_next(s: &[u8], at: usize, k: Key) -> usize
     ensures { λ r. ⌜ r ≡ wordNext (now (s .entry)) at k ⌝ }
 {
     let t = read_tokens::token_at(s, at);
-    match t {
-        Token::Word(l, next) => { if read_names::same_key(k, l) { next } else { 0 } }
-        Token::Mark(_, _) => 0,
-        Token::Bad => 0,
-        Token::End => 0,
-    }
+    let Token::Word(l, next) = t else {
+        return 0;
+    };
+    if read_names::same_key(k, l) { next } else { 0 }
 }
 
 // As many marks b as stand next.
@@ -105,28 +101,24 @@ pub fn union(
     let mut more = 0;
     loop {
         let r = meet(s, names, n, depth, place, out);
-        match r {
-            Parsed::Got(got) => {
-                let at = got.at;
-                let used = write(out, got.used, more, codes::OR);
-                let next = mark_next(s, at, b'|');
-                if next == 0 {
-                    return Parsed::Got(Place {
-                        at,
-                        used,
-                        slip: got.slip,
-                    });
-                }
-                place = Place {
-                    at: next,
-                    used,
-                    slip: got.slip,
-                };
-                more = 1;
-            }
-            Parsed::Wrong => return Parsed::Wrong,
-            Parsed::Deep => return Parsed::Deep,
+        let Parsed::Got(got) = r else {
+            return r;
+        };
+        let used = write(out, got.used, more, codes::OR);
+        let next = mark_next(s, got.at, b'|');
+        if next == 0 {
+            return Parsed::Got(Place {
+                at: got.at,
+                used,
+                slip: got.slip,
+            });
         }
+        place = Place {
+            at: next,
+            used,
+            slip: got.slip,
+        };
+        more = 1;
     }
 }
 
@@ -139,28 +131,24 @@ fn meet(s: &[u8], names: &[u64], n: usize, depth: usize, p: Place, out: &mut [u6
     let mut more = 0;
     loop {
         let r = not(s, names, n, depth, place, out);
-        match r {
-            Parsed::Got(got) => {
-                let at = got.at;
-                let used = write(out, got.used, more, codes::AND);
-                let next = mark_next(s, at, b'&');
-                if next == 0 {
-                    return Parsed::Got(Place {
-                        at,
-                        used,
-                        slip: got.slip,
-                    });
-                }
-                place = Place {
-                    at: next,
-                    used,
-                    slip: got.slip,
-                };
-                more = 1;
-            }
-            Parsed::Wrong => return Parsed::Wrong,
-            Parsed::Deep => return Parsed::Deep,
+        let Parsed::Got(got) = r else {
+            return r;
+        };
+        let used = write(out, got.used, more, codes::AND);
+        let next = mark_next(s, got.at, b'&');
+        if next == 0 {
+            return Parsed::Got(Place {
+                at: got.at,
+                used,
+                slip: got.slip,
+            });
         }
+        place = Place {
+            at: next,
+            used,
+            slip: got.slip,
+        };
+        more = 1;
     }
 }
 
@@ -176,18 +164,15 @@ fn not(s: &[u8], names: &[u64], n: usize, depth: usize, p: Place, out: &mut [u64
         slip: p.slip,
     };
     let r = basic(s, names, n, depth, inner, out);
-    match r {
-        Parsed::Got(got) => {
-            let used = write(out, got.used, run.count, codes::NOT);
-            Parsed::Got(Place {
-                at: got.at,
-                used,
-                slip: got.slip,
-            })
-        }
-        Parsed::Wrong => Parsed::Wrong,
-        Parsed::Deep => Parsed::Deep,
-    }
+    let Parsed::Got(got) = r else {
+        return r;
+    };
+    let used = write(out, got.used, run.count, codes::NOT);
+    Parsed::Got(Place {
+        at: got.at,
+        used,
+        slip: got.slip,
+    })
 }
 
 // A name, `true`, `false`, or a T in round brackets.
@@ -208,21 +193,18 @@ fn basic(s: &[u8], names: &[u64], n: usize, depth: usize, p: Place, out: &mut [u
         slip: p.slip,
     };
     let r = union(s, names, n, depth + 1, inner, out);
-    match r {
-        Parsed::Got(got) => {
-            let end = mark_next(s, got.at, b')');
-            if end == 0 {
-                return Parsed::Wrong;
-            }
-            Parsed::Got(Place {
-                at: end,
-                used: got.used,
-                slip: got.slip,
-            })
-        }
-        Parsed::Wrong => Parsed::Wrong,
-        Parsed::Deep => Parsed::Deep,
+    let Parsed::Got(got) = r else {
+        return r;
+    };
+    let end = mark_next(s, got.at, b')');
+    if end == 0 {
+        return Parsed::Wrong;
     }
+    Parsed::Got(Place {
+        at: end,
+        used: got.used,
+        slip: got.slip,
+    })
 }
 
 // A name, `true` or `false`.
@@ -232,42 +214,38 @@ fn word(s: &[u8], names: &[u64], n: usize, p: Place, out: &mut [u64; 4096]) -> P
 {
     let used = p.used;
     let t = read_tokens::token_at(s, p.at);
-    match t {
-        Token::Word(k, next) => {
-            if read_names::same_key(read_names::word_key(read_names::TRUE), k) {
-                out[used] = codes::TRUE;
-                return Parsed::Got(Place {
-                    at: next,
-                    used: used + 1,
-                    slip: p.slip,
-                });
-            }
-            if read_names::same_key(read_names::word_key(read_names::FALSE), k) {
-                out[used] = codes::FALSE;
-                return Parsed::Got(Place {
-                    at: next,
-                    used: used + 1,
-                    slip: p.slip,
-                });
-            }
-            if read_names::reserved(k) {
-                return Parsed::Wrong;
-            }
-            let code = read_names::find(names, n, k);
-            out[used] = code;
-            Parsed::Got(Place {
-                at: next,
-                used: used + 1,
-                slip: read_names::first_slip(
-                    p.slip,
-                    read_names::slip_of(code, codes::A_TEST, codes::A_RELATION),
-                ),
-            })
-        }
-        Token::Mark(_, _) => Parsed::Wrong,
-        Token::Bad => Parsed::Wrong,
-        Token::End => Parsed::Wrong,
+    let Token::Word(k, next) = t else {
+        return Parsed::Wrong;
+    };
+    if read_names::same_key(read_names::word_key(read_names::TRUE), k) {
+        out[used] = codes::TRUE;
+        return Parsed::Got(Place {
+            at: next,
+            used: used + 1,
+            slip: p.slip,
+        });
     }
+    if read_names::same_key(read_names::word_key(read_names::FALSE), k) {
+        out[used] = codes::FALSE;
+        return Parsed::Got(Place {
+            at: next,
+            used: used + 1,
+            slip: p.slip,
+        });
+    }
+    if read_names::reserved(k) {
+        return Parsed::Wrong;
+    }
+    let code = read_names::find(names, n, k);
+    out[used] = code;
+    Parsed::Got(Place {
+        at: next,
+        used: used + 1,
+        slip: read_names::first_slip(
+            p.slip,
+            read_names::slip_of(code, codes::A_TEST, codes::A_RELATION),
+        ),
+    })
 }
 
 // A T from the place p on, with no open bracket. What is required of the room in `out` is no limit of its own: a code takes a byte of

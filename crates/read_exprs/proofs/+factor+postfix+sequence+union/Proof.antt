@@ -6,11 +6,12 @@ use Prim.Native.Nat.{ℕ, _+_, _-_, _*_, _<_}
 use native.Mathlib.Omega.{arith}
 use lib.ListN.{length}
 use Rattle.read_tests.proofs.Next.{mark-stands}
-use Rattle.read_tests.proofs.Loops.{loop-wrong, loop-deep, loop-room, loop-onward, loop-got, loop-turn}
+use Rattle.read_tests.proofs.Loops.{loop-fault, loop-room, loop-onward, loop-got, loop-turn}
 use Rattle.read_tests.proofs.Chains.{Waiting, chain-start}
-use Rattle.read_tests.proofs.Bracketed.{inner-wrong, inner-deep, inner-open, inner-closed}
-use Rattle.read_exprs.proofs.PostfixRuns.{postfix-wrong, postfix-deep, postfix-room, postfix-got}
-use Rattle.read_exprs.proofs.Trees.{unionChain, sequenceChain, roundBracket, factor-deep}
+use Rattle.read_tests.proofs.Bracketed.{inner-fault, inner-open, inner-closed}
+use Rattle.read_tests.proofs.Rounds.{roundBracket, round-deep}
+use Rattle.read_exprs.proofs.PostfixRuns.{postfix-fault, postfix-room, postfix-got}
+use Rattle.read_exprs.proofs.Trees.{unionChain, unions, sequenceChain, sequences, factors}
 use borrow.Author.Needs.{needs}
 use borrow.Fn.Kinds.{In}
 use borrow.Fn.PlainCycle.{Measures, is, falls, and}
@@ -99,10 +100,9 @@ factor-returns t c = c .leaf .ensures
 
 factor-returns-2 : (t : ℕ) → factor-lts.Need-returns-2 (factor-calls t) (factor-at t) factor.Post
 factor-returns-2 t c =
-    let b = c .before .before .before .before in
-    let a = b .before .args in
-    factor-deep (a .depth) (a .s .now) (a .names .now) (a .n) (a .p) (a .out .now) _ (c .before .before .mark-next .ensures)
-    (c .before .if1 .left) (c .if2 .taken)
+    let b = c .before .before in
+    let a = b .before .before .before .args in
+    round-deep factors (a .depth) (a .s .now) (a .p) _ (b .mark-next .ensures) (c .before .if1 .left) (c .if2 .taken)
 
 factor-add-union : (t : ℕ) → factor-lts.Need-add-union (factor-calls t) (factor-at t) factor.Post
 factor-add-union t c =
@@ -123,24 +123,15 @@ factor-union-requires t c κs =
 factor-enum-known-r : (t : ℕ) → factor-lts.Need-enum-known-r (factor-calls t) (factor-at t) factor.Post
 factor-enum-known-r t c = search needs
 
-factor-mark-next-requires-2 : (t : ℕ) → factor-lts.Need-mark-next-requires-2 (factor-calls t) (factor-at t) factor.Post
-factor-mark-next-requires-2 t c κs = search needs
-
 factor-returns-3 : (t : ℕ) → factor-lts.Need-returns-3 (factor-calls t) (factor-at t) factor.Post
 factor-returns-3 t c =
-    let b = c .before .before .before .before in
-    let d = b .before .before .before .before in
-    let e = d .before .before .before .before in
-    let a = e .args in
-    inner-open (roundBracket (a .depth) (b .before .before .before .if2 .left)) (a .s .now) (a .names .now) (a .n) (a .p) (a .out .now) _
-    (d .before .mark-next .ensures) (d .if1 .left) _ _ (b .before .union .ensures) _ (c .before .before .before .r .given .1) _
-    (c .before .mark-next2 .ensures) (c .if3 .taken)
+    let b = c .before .before .before in
+    let a = b .before .before .before .before .before .args in
+    inner-fault (roundBracket factors (a .depth) (b .if2 .left)) (a .s .now) (a .names .now) (a .n) (a .p) (a .out .now) _
+    (b .before .before .mark-next .ensures) (b .before .if1 .left) (c .before .union .result) _ (c .before .union .ensures) (c .match .keys2)
 
-factor-enum-told : (t : ℕ) → factor-lts.Need-enum-told (factor-calls t) (factor-at t) factor.Post
-factor-enum-told t c = search needs
-
-factor-enum-told-2 : (t : ℕ) → factor-lts.Need-enum-told-2 (factor-calls t) (factor-at t) factor.Post
-factor-enum-told-2 t c = search needs
+factor-mark-next-requires-2 : (t : ℕ) → factor-lts.Need-mark-next-requires-2 (factor-calls t) (factor-at t) factor.Post
+factor-mark-next-requires-2 t c κs = search needs
 
 factor-returns-4 : (t : ℕ) → factor-lts.Need-returns-4 (factor-calls t) (factor-at t) factor.Post
 factor-returns-4 t c =
@@ -148,31 +139,31 @@ factor-returns-4 t c =
     let d = b .before .before .before .before in
     let e = d .before .before .before .before in
     let a = e .args in
-    inner-closed (roundBracket (a .depth) (b .before .before .before .if2 .left)) (a .s .now) (a .names .now) (a .n) (a .p) (a .out .now) _
+    inner-open (roundBracket factors (a .depth) (b .before .before .before .if2 .left)) (a .s .now) (a .names .now) (a .n) (a .p) (a .out .now) _
     (d .before .mark-next .ensures) (d .if1 .left) _ _ (b .before .union .ensures) _ (c .before .before .before .r .given .1) _
-    (c .before .mark-next2 .ensures) _ _ (c .if3 .left) refl (omega arith) (omega arith)
+    (c .before .mark-next2 .ensures) (c .if3 .taken)
 
 factor-returns-5 : (t : ℕ) → factor-lts.Need-returns-5 (factor-calls t) (factor-at t) factor.Post
 factor-returns-5 t c =
     let b = c .before .before .before .before in
     let d = b .before .before .before .before in
-    let a = d .before .args in
-    inner-wrong (roundBracket (a .depth) (b .if2 .left)) (a .s .now) (a .names .now) (a .n) (a .p) (a .out .now) _
-    (b .before .before .mark-next .ensures) (b .before .if1 .left) _ _ (c .before .before .union .ensures) (c .enum-told .given .1)
-
-factor-returns-6 : (t : ℕ) → factor-lts.Need-returns-6 (factor-calls t) (factor-at t) factor.Post
-factor-returns-6 t c =
-    let b = c .before .before .before .before in
-    let d = b .before .before .before .before in
-    let a = d .before .args in
-    inner-deep (roundBracket (a .depth) (b .if2 .left)) (a .s .now) (a .names .now) (a .n) (a .p) (a .out .now) _
-    (b .before .before .mark-next .ensures) (b .before .if1 .left) _ _ (c .before .before .union .ensures) (c .enum-told2 .given .1)
+    let e = d .before .before .before .before in
+    let a = e .args in
+    inner-closed (roundBracket factors (a .depth) (b .before .before .before .if2 .left)) (a .s .now) (a .names .now) (a .n) (a .p) (a .out .now) _
+    (d .before .mark-next .ensures) (d .if1 .left) _ _ (b .before .union .ensures) _ (c .before .before .before .r .given .1) _
+    (c .before .mark-next2 .ensures) _ _ (c .if3 .left) refl (omega arith) (omega arith)
 
 postfix-factor-requires : (t : ℕ) → postfix-lts.Need-factor-requires (postfix-calls t) (postfix-at t) postfix.Post
 postfix-factor-requires t c κs = (omega (arith, c .before .before .before .pre .0), c .before .before .before .pre .1)
 
 postfix-enum-known-r : (t : ℕ) → postfix-lts.Need-enum-known-r (postfix-calls t) (postfix-at t) postfix.Post
 postfix-enum-known-r t c = search needs
+
+postfix-returns : (t : ℕ) → postfix-lts.Need-returns (postfix-calls t) (postfix-at t) postfix.Post
+postfix-returns t c =
+    let a = c .before .before .before .before .before .args in
+    postfix-fault (a .depth) (a .s .now) (a .names .now) (a .n) (a .p) (a .out .now) (c .before .factor .result) _
+    (c .before .factor .ensures) (c .match .keys2)
 
 postfix-postfixes-requires : (t : ℕ) → postfix-lts.Need-postfixes-requires (postfix-calls t) (postfix-at t) postfix.Post
 postfix-postfixes-requires t c κs =
@@ -182,50 +173,35 @@ postfix-postfixes-requires t c κs =
     postfix-room (a .depth) (a .s .now) (a .names .now) (a .n) (a .p) (a .out .now) _ _ (b .factor .ensures) _
     (c .before .before .r .given .1) (d .pre .1 .1)
 
-postfix-enum-told : (t : ℕ) → postfix-lts.Need-enum-told (postfix-calls t) (postfix-at t) postfix.Post
-postfix-enum-told t c = search needs
-
-postfix-enum-told-2 : (t : ℕ) → postfix-lts.Need-enum-told-2 (postfix-calls t) (postfix-at t) postfix.Post
-postfix-enum-told-2 t c = search needs
-
-postfix-returns : (t : ℕ) → postfix-lts.Need-returns (postfix-calls t) (postfix-at t) postfix.Post
-postfix-returns t c =
+postfix-returns-2 : (t : ℕ) → postfix-lts.Need-returns-2 (postfix-calls t) (postfix-at t) postfix.Post
+postfix-returns-2 t c =
     let b = c .before .before .before .before in
     let d = b .before .before .before .before in
     let a = d .before .args in
     postfix-got (a .depth) (a .s .now) (a .names .now) (a .n) (a .p) (a .out .now) _ _ (b .before .factor .ensures) _
     (c .before .before .before .r .given .1) _ _ (c .postfixes .ensures)
 
-postfix-returns-2 : (t : ℕ) → postfix-lts.Need-returns-2 (postfix-calls t) (postfix-at t) postfix.Post
-postfix-returns-2 t c =
-    let b = c .before .before .before .before in
-    let a = b .before .before .args in
-    postfix-wrong (a .depth) (a .s .now) (a .names .now) (a .n) (a .p) (a .out .now) _ _ (c .before .before .factor .ensures)
-    (c .enum-told .given .1)
-
-postfix-returns-3 : (t : ℕ) → postfix-lts.Need-returns-3 (postfix-calls t) (postfix-at t) postfix.Post
-postfix-returns-3 t c =
-    let b = c .before .before .before .before in
-    let a = b .before .before .args in
-    postfix-deep (a .depth) (a .s .now) (a .names .now) (a .n) (a .p) (a .out .now) _ _ (c .before .before .factor .ensures)
-    (c .enum-told2 .given .1)
-
 abbrev sequence-Inv-loop : sequence-lts.InvT-loop
-sequence-Inv-loop s names n depth out₀ place₀ more₀ out place more = Waiting (sequenceChain depth) 2 s names n place₀ out₀ place more out
+sequence-Inv-loop s names n depth out₀ place₀ more₀ out place more = Waiting sequenceChain depth 2 s names n place₀ out₀ place more out
 
 abbrev sequence-μ-loop : sequence-lts.MeasureT-loop
 sequence-μ-loop s names n depth out₀ place₀ more₀ out place more = length s - place .at
 
 sequence-loop-holds : (t : ℕ) → sequence-lts.Need-loop-holds (sequence-calls t) (sequence-at t) sequence.Post sequence-Inv-loop sequence-μ-loop
-sequence-loop-holds t c = chain-start _ _ _ _ _ _ _
+sequence-loop-holds t c = chain-start _ _ _ _ _ _ _ _ sequences
 
 sequence-postfix-requires : (t : ℕ) → sequence-lts.Need-postfix-requires (sequence-calls t) (sequence-at t) sequence.Post sequence-Inv-loop sequence-μ-loop
 sequence-postfix-requires t c κs =
     let w = c .before .loop .inv in
-    (omega (arith, c .before .before .before .before .pre .0, w .onward), (c .before .before .before .before .pre .1 .0, omega (arith, c .before .before .before .before .pre .1 .1, w .room)))
+    let h = c .before .before .before .before .pre in
+    (omega (arith, h .0, w .onward), (h .1 .0, omega (arith, h .1 .1, w .room)))
 
 sequence-enum-known-r : (t : ℕ) → sequence-lts.Need-enum-known-r (sequence-calls t) (sequence-at t) sequence.Post sequence-Inv-loop sequence-μ-loop
 sequence-enum-known-r t c = search needs
+
+sequence-returns : (t : ℕ) → sequence-lts.Need-returns (sequence-calls t) (sequence-at t) sequence.Post sequence-Inv-loop sequence-μ-loop
+sequence-returns t c =
+    loop-fault (c .before .before .before .loop .inv) (c .before .postfix .result) _ (c .before .postfix .ensures) (c .match .keys2)
 
 sequence-write-requires : (t : ℕ) → sequence-lts.Need-write-requires (sequence-calls t) (sequence-at t) sequence.Post sequence-Inv-loop sequence-μ-loop
 sequence-write-requires t c κs =
@@ -236,8 +212,8 @@ sequence-write-requires t c κs =
 sequence-mark-next-requires : (t : ℕ) → sequence-lts.Need-mark-next-requires (sequence-calls t) (sequence-at t) sequence.Post sequence-Inv-loop sequence-μ-loop
 sequence-mark-next-requires t c κs = search needs
 
-sequence-returns : (t : ℕ) → sequence-lts.Need-returns (sequence-calls t) (sequence-at t) sequence.Post sequence-Inv-loop sequence-μ-loop
-sequence-returns t c =
+sequence-returns-2 : (t : ℕ) → sequence-lts.Need-returns-2 (sequence-calls t) (sequence-at t) sequence.Post sequence-Inv-loop sequence-μ-loop
+sequence-returns-2 t c =
     let b = c .before .before .before .before in
     let d = b .before .before .before .before in
     loop-got (d .before .loop .inv) _ _ (b .before .before .before .postfix .ensures) _ (b .before .r .given .1) _ _
@@ -257,36 +233,27 @@ sequence-loop-again t c =
     loop-turn (d .before .loop .inv) _ _ (b .before .before .before .postfix .ensures) _ (b .before .r .given .1) _ _
     (c .before .before .write .ensures .0) (c .before .before .write .ensures .1) _ (c .before .mark-next .ensures) (c .if1 .left)
 
-sequence-enum-told : (t : ℕ) → sequence-lts.Need-enum-told (sequence-calls t) (sequence-at t) sequence.Post sequence-Inv-loop sequence-μ-loop
-sequence-enum-told t c = search needs
-
-sequence-returns-2 : (t : ℕ) → sequence-lts.Need-returns-2 (sequence-calls t) (sequence-at t) sequence.Post sequence-Inv-loop sequence-μ-loop
-sequence-returns-2 t c =
-    loop-wrong (c .before .before .before .before .loop .inv) _ _ (c .before .before .postfix .ensures) (c .enum-told .given .1)
-
-sequence-enum-told-2 : (t : ℕ) → sequence-lts.Need-enum-told-2 (sequence-calls t) (sequence-at t) sequence.Post sequence-Inv-loop sequence-μ-loop
-sequence-enum-told-2 t c = search needs
-
-sequence-returns-3 : (t : ℕ) → sequence-lts.Need-returns-3 (sequence-calls t) (sequence-at t) sequence.Post sequence-Inv-loop sequence-μ-loop
-sequence-returns-3 t c =
-    loop-deep (c .before .before .before .before .loop .inv) _ _ (c .before .before .postfix .ensures) (c .enum-told2 .given .1)
-
 abbrev union-Inv-loop : union-lts.InvT-loop
-union-Inv-loop s names n depth out₀ place₀ more₀ out place more = Waiting (unionChain depth) 3 s names n place₀ out₀ place more out
+union-Inv-loop s names n depth out₀ place₀ more₀ out place more = Waiting unionChain depth 3 s names n place₀ out₀ place more out
 
 abbrev union-μ-loop : union-lts.MeasureT-loop
 union-μ-loop s names n depth out₀ place₀ more₀ out place more = length s - place .at
 
 union-loop-holds : (t : ℕ) → union-lts.Need-loop-holds (union-calls t) (union-at t) union.Post union-Inv-loop union-μ-loop
-union-loop-holds t c = chain-start _ _ _ _ _ _ _
+union-loop-holds t c = chain-start _ _ _ _ _ _ _ _ unions
 
 union-sequence-requires : (t : ℕ) → union-lts.Need-sequence-requires (union-calls t) (union-at t) union.Post union-Inv-loop union-μ-loop
 union-sequence-requires t c κs =
     let w = c .before .loop .inv in
-    (omega (arith, c .before .before .before .before .pre .0, w .onward), (c .before .before .before .before .pre .1 .0, omega (arith, c .before .before .before .before .pre .1 .1, w .room)))
+    let h = c .before .before .before .before .pre in
+    (omega (arith, h .0, w .onward), (h .1 .0, omega (arith, h .1 .1, w .room)))
 
 union-enum-known-r : (t : ℕ) → union-lts.Need-enum-known-r (union-calls t) (union-at t) union.Post union-Inv-loop union-μ-loop
 union-enum-known-r t c = search needs
+
+union-returns : (t : ℕ) → union-lts.Need-returns (union-calls t) (union-at t) union.Post union-Inv-loop union-μ-loop
+union-returns t c =
+    loop-fault (c .before .before .before .loop .inv) (c .before .sequence .result) _ (c .before .sequence .ensures) (c .match .keys2)
 
 union-write-requires : (t : ℕ) → union-lts.Need-write-requires (union-calls t) (union-at t) union.Post union-Inv-loop union-μ-loop
 union-write-requires t c κs =
@@ -297,8 +264,8 @@ union-write-requires t c κs =
 union-mark-next-requires : (t : ℕ) → union-lts.Need-mark-next-requires (union-calls t) (union-at t) union.Post union-Inv-loop union-μ-loop
 union-mark-next-requires t c κs = search needs
 
-union-returns : (t : ℕ) → union-lts.Need-returns (union-calls t) (union-at t) union.Post union-Inv-loop union-μ-loop
-union-returns t c =
+union-returns-2 : (t : ℕ) → union-lts.Need-returns-2 (union-calls t) (union-at t) union.Post union-Inv-loop union-μ-loop
+union-returns-2 t c =
     let b = c .before .before .before .before in
     let d = b .before .before .before .before in
     loop-got (d .before .loop .inv) _ _ (b .before .before .before .sequence .ensures) _ (b .before .r .given .1) _ _
@@ -318,20 +285,6 @@ union-loop-again t c =
     loop-turn (d .before .loop .inv) _ _ (b .before .before .before .sequence .ensures) _ (b .before .r .given .1) _ _
     (c .before .before .write .ensures .0) (c .before .before .write .ensures .1) _ (c .before .mark-next .ensures) (c .if1 .left)
 
-union-enum-told : (t : ℕ) → union-lts.Need-enum-told (union-calls t) (union-at t) union.Post union-Inv-loop union-μ-loop
-union-enum-told t c = search needs
-
-union-returns-2 : (t : ℕ) → union-lts.Need-returns-2 (union-calls t) (union-at t) union.Post union-Inv-loop union-μ-loop
-union-returns-2 t c =
-    loop-wrong (c .before .before .before .before .loop .inv) _ _ (c .before .before .sequence .ensures) (c .enum-told .given .1)
-
-union-enum-told-2 : (t : ℕ) → union-lts.Need-enum-told-2 (union-calls t) (union-at t) union.Post union-Inv-loop union-μ-loop
-union-enum-told-2 t c = search needs
-
-union-returns-3 : (t : ℕ) → union-lts.Need-returns-3 (union-calls t) (union-at t) union.Post union-Inv-loop union-μ-loop
-union-returns-3 t c =
-    loop-deep (c .before .before .before .before .loop .inv) _ _ (c .before .before .sequence .ensures) (c .enum-told2 .given .1)
-
 pub +factor+postfix+sequence+union-spec : {M : Type 1} → statement M
 +factor+postfix+sequence+union-spec =
     close μ-factor μ-postfix μ-sequence μ-union (λ t. factor-lts.spec (factor-calls t) (factor-at t)
@@ -343,23 +296,17 @@ pub +factor+postfix+sequence+union-spec : {M : Type 1} → statement M
     (factor-add-union t)
     (factor-union-requires t)
     (factor-enum-known-r t)
-    (factor-mark-next-requires-2 t)
     (factor-returns-3 t)
-    (factor-enum-told t)
-    (factor-enum-told-2 t)
+    (factor-mark-next-requires-2 t)
     (factor-returns-4 t)
-    (factor-returns-5 t)
-    (factor-returns-6 t))
+    (factor-returns-5 t))
     (λ t. postfix-lts.spec (postfix-calls t) (postfix-at t)
     postfix.Post
     (postfix-factor-requires t)
     (postfix-enum-known-r t)
-    (postfix-postfixes-requires t)
-    (postfix-enum-told t)
-    (postfix-enum-told-2 t)
     (postfix-returns t)
-    (postfix-returns-2 t)
-    (postfix-returns-3 t))
+    (postfix-postfixes-requires t)
+    (postfix-returns-2 t))
     (λ t. sequence-lts.spec (sequence-calls t) (sequence-at t)
     sequence.Post
     sequence-Inv-loop
@@ -367,15 +314,12 @@ pub +factor+postfix+sequence+union-spec : {M : Type 1} → statement M
     (sequence-loop-holds t)
     (sequence-postfix-requires t)
     (sequence-enum-known-r t)
+    (sequence-returns t)
     (sequence-write-requires t)
     (sequence-mark-next-requires t)
-    (sequence-returns t)
-    (sequence-loop-less t)
-    (sequence-loop-again t)
-    (sequence-enum-told t)
     (sequence-returns-2 t)
-    (sequence-enum-told-2 t)
-    (sequence-returns-3 t))
+    (sequence-loop-less t)
+    (sequence-loop-again t))
     λ t. union-lts.spec (union-calls t) (union-at t)
     union.Post
     union-Inv-loop
@@ -383,12 +327,9 @@ pub +factor+postfix+sequence+union-spec : {M : Type 1} → statement M
     (union-loop-holds t)
     (union-sequence-requires t)
     (union-enum-known-r t)
+    (union-returns t)
     (union-write-requires t)
     (union-mark-next-requires t)
-    (union-returns t)
+    (union-returns-2 t)
     (union-loop-less t)
     (union-loop-again t)
-    (union-enum-told t)
-    (union-returns-2 t)
-    (union-enum-told-2 t)
-    (union-returns-3 t)

@@ -2,7 +2,7 @@
 -- Assumes nothing.
 use native.Mathlib.Omega.{arith}
 use Rattle.read_tests.proofs.Next.{mark-stands}
-use Rattle.read_tests.proofs.Bracketed.{inner-wrong, inner-deep, inner-open, inner-closed, inner-room}
+use Rattle.read_tests.proofs.Bracketed.{inner-fault, inner-open, inner-closed, inner-room}
 use Rattle.read_exprs.proofs.Trees.{squareBracket, factor-named}
 use borrow.Author.Needs.{needs}
 use Rattle.read_exprs.proofs.leaf.Statement.{statement}
@@ -33,11 +33,18 @@ union-requires c κs =
 enum-known-r : tie.Need-enum-known-r
 enum-known-r c = search needs
 
+returns-2 : tie.Need-returns-2
+returns-2 c =
+    let b = c .before .before .before .before in
+    let a = b .before .before .before .args in
+    inner-fault (squareBracket (a .depth)) (a .s .now) (a .names .now) (a .n) (a .p) (a .out .now) _ (b .mark-next .ensures)
+    (c .before .before .before .if1 .left) (c .before .union .result) _ (c .before .union .ensures) (c .match .keys2)
+
 mark-next-requires-2 : tie.Need-mark-next-requires-2
 mark-next-requires-2 c κs = search needs
 
-returns-2 : tie.Need-returns-2
-returns-2 c =
+returns-3 : tie.Need-returns-3
+returns-3 c =
     let b = c .before .before .before .before in
     let d = b .before .before .before .before in
     let a = d .before .before .before .args in
@@ -55,14 +62,8 @@ write-requires c κs =
     (d .if1 .left) _ _ (b .before .before .union .ensures) _ (b .r .given .1) _ (c .before .before .mark-next2 .ensures)
     (c .before .if2 .left) (e .pre .0 .1)
 
-enum-told : tie.Need-enum-told
-enum-told c = search needs
-
-enum-told-2 : tie.Need-enum-told-2
-enum-told-2 c = search needs
-
-returns-3 : tie.Need-returns-3
-returns-3 c =
+returns-4 : tie.Need-returns-4
+returns-4 c =
     let b = c .before .before .before .before in
     let d = b .before .before .before .before in
     let e = d .before .before .before .before in
@@ -71,22 +72,6 @@ returns-3 c =
     (d .before .before .mark-next .ensures) (d .before .if1 .left) _ _ (b .before .before .before .union .ensures) _
     (b .before .r .given .1) _ (c .before .before .before .mark-next2 .ensures) _ _ (c .before .before .if2 .left) (c .write .ensures .1)
     (c .write .ensures .0) (omega arith)
-
-returns-4 : tie.Need-returns-4
-returns-4 c =
-    let b = c .before .before .before .before in
-    let d = b .before .before .before .before in
-    let a = d .args in
-    inner-wrong (squareBracket (a .depth)) (a .s .now) (a .names .now) (a .n) (a .p) (a .out .now) _ (b .before .mark-next .ensures)
-    (b .if1 .left) _ _ (c .before .before .union .ensures) (c .enum-told .given .1)
-
-returns-5 : tie.Need-returns-5
-returns-5 c =
-    let b = c .before .before .before .before in
-    let d = b .before .before .before .before in
-    let a = d .args in
-    inner-deep (squareBracket (a .depth)) (a .s .now) (a .names .now) (a .n) (a .p) (a .out .now) _ (b .before .mark-next .ensures)
-    (b .if1 .left) _ _ (c .before .before .union .ensures) (c .enum-told2 .given .1)
 
 pub leaf-spec : {M : Type 1} → statement M
 leaf-spec =
@@ -97,11 +82,8 @@ leaf-spec =
     returns
     union-requires
     enum-known-r
-    mark-next-requires-2
     returns-2
-    write-requires
-    enum-told
-    enum-told-2
+    mark-next-requires-2
     returns-3
-    returns-4
-    returns-5)
+    write-requires
+    returns-4)

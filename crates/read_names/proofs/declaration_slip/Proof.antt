@@ -1,3 +1,5 @@
+-- `read_names::declaration_slip` meets its contract. The definition makes the same two tests in the same order.
+-- Assumes nothing.
 use Rattle.read_names.specs.Slips.{declaredSlip}
 use borrow.Author.Tests.{eq-eqb, ne-eqb}
 use mathlib.Core.Path.{sym, _∙_}

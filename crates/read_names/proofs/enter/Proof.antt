@@ -1,3 +1,5 @@
+-- `read_names::enter` meets its contract. Its three stores are those of the definition.
+-- Assumes nothing.
 use Rattle.read_names.specs.Keys.{entered}
 use mathlib.Core.Path.{refl}
 use borrow.Author.Needs.{needs}

@@ -1,6 +1,6 @@
-use Rattle.read_names.proofs.Slips.{first-kept}
--- `read_names::first_slip` meets its contract.
+-- `read_names::first_slip` meets its contract. A slip that is there is kept.
 -- Assumes nothing.
+use Rattle.read_names.proofs.Slips.{first-kept}
 use borrow.Author.Needs.{needs}
 use Rattle.read_names.proofs.first_slip.Statement.{statement}
 use Rattle.read_names.proofs.first_slip.Tie as tie

@@ -1,3 +1,5 @@
+-- `read_names::relation_number` meets its contract. The definition makes the same two tests, and the codes of relations are 32 numbers.
+-- Assumes nothing.
 use Rattle.read_names.specs.Slips.{relationNumber}
 use borrow.Author.Tests.{lt-ltb, le-ltb}
 use native.Mathlib.Omega.{arith}

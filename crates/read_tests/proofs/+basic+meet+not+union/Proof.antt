@@ -4,11 +4,14 @@ use mathlib.Core.Path.{refl}
 use Prim.Native.Nat.{ℕ, _+_, _-_, _*_, _<_}
 use native.Mathlib.Omega.{arith}
 use lib.ListN.{length}
+use Rattle.claims.specs.Grammar.{testWord}
+use Rattle.read_tests.specs.Places.{Is}
 use Rattle.read_tests.proofs.Next.{mark-stands}
-use Rattle.read_tests.proofs.Loops.{loop-wrong, loop-deep, loop-room, loop-onward, loop-got, loop-turn}
+use Rattle.read_tests.proofs.Loops.{loop-fault, loop-room, loop-onward, loop-got, loop-turn}
 use Rattle.read_tests.proofs.Chains.{Waiting, chain-start}
-use Rattle.read_tests.proofs.Bracketed.{inner-wrong, inner-deep, inner-open, inner-closed}
-use Rattle.read_tests.proofs.Tests.{unionChain, meetChain, roundBracket, basic-deep, basic-named, nots-wrong, nots-deep, nots-room, nots-got}
+use Rattle.read_tests.proofs.Bracketed.{inner-fault, inner-open, inner-closed}
+use Rattle.read_tests.proofs.Rounds.{roundBracket, round-deep, round-none}
+use Rattle.read_tests.proofs.Tests.{unionChain, unions, meetChain, meets, basics, nots-fault, nots-room, nots-got}
 use borrow.Author.Needs.{needs}
 use borrow.Fn.Kinds.{In}
 use borrow.Fn.PlainCycle.{Measures, is, falls, and}
@@ -93,17 +96,16 @@ basic-word-requires t c κs =
 
 basic-returns : (t : ℕ) → basic-lts.Need-returns (basic-calls t) (basic-at t) basic.Post
 basic-returns t c =
-    let b = c .before .before .before .before in
-    let a = b .before .before .args in
-    basic-named (a .depth) (a .s .now) (a .names .now) (a .n) (a .p) (a .out .now) (c .word .last .1 .1 .1 .1 .0) _
-    (c .before .before .before .mark-next .ensures) (c .before .before .if1 .taken) (c .word .result) (c .word .ensures)
+    let b = c .before .before .before in
+    let a = b .before .before .before .args in
+    round-none basics (a .depth) (a .s .now) (a .p) _ (b .mark-next .ensures) (c .before .before .if1 .taken) (Is testWord) (λ y h f. h)
+    (a .names .now) (a .n) (a .out .now) (c .word .last .1 .1 .1 .1 .0) (c .word .result) (c .word .ensures)
 
 basic-returns-2 : (t : ℕ) → basic-lts.Need-returns-2 (basic-calls t) (basic-at t) basic.Post
 basic-returns-2 t c =
-    let b = c .before .before .before .before in
-    let a = b .before .args in
-    basic-deep (a .depth) (a .s .now) (a .names .now) (a .n) (a .p) (a .out .now) (a .out .now) _ (c .before .before .mark-next .ensures)
-    (c .before .if1 .left) (c .if2 .taken)
+    let b = c .before .before in
+    let a = b .before .before .before .args in
+    round-deep basics (a .depth) (a .s .now) (a .p) _ (b .mark-next .ensures) (c .before .if1 .left) (c .if2 .taken)
 
 basic-add-union : (t : ℕ) → basic-lts.Need-add-union (basic-calls t) (basic-at t) basic.Post
 basic-add-union t c =
@@ -124,24 +126,15 @@ basic-union-requires t c κs =
 basic-enum-known-r : (t : ℕ) → basic-lts.Need-enum-known-r (basic-calls t) (basic-at t) basic.Post
 basic-enum-known-r t c = search needs
 
-basic-mark-next-requires-2 : (t : ℕ) → basic-lts.Need-mark-next-requires-2 (basic-calls t) (basic-at t) basic.Post
-basic-mark-next-requires-2 t c κs = search needs
-
 basic-returns-3 : (t : ℕ) → basic-lts.Need-returns-3 (basic-calls t) (basic-at t) basic.Post
 basic-returns-3 t c =
-    let b = c .before .before .before .before in
-    let d = b .before .before .before .before in
-    let e = d .before .before .before .before in
-    let a = e .args in
-    inner-open (roundBracket (a .depth) (b .before .before .before .if2 .left)) (a .s .now) (a .names .now) (a .n) (a .p) (a .out .now) _
-    (d .before .mark-next .ensures) (d .if1 .left) _ _ (b .before .union .ensures) _ (c .before .before .before .r .given .1) _
-    (c .before .mark-next2 .ensures) (c .if3 .taken)
+    let b = c .before .before .before in
+    let a = b .before .before .before .before .before .args in
+    inner-fault (roundBracket basics (a .depth) (b .if2 .left)) (a .s .now) (a .names .now) (a .n) (a .p) (a .out .now) _
+    (b .before .before .mark-next .ensures) (b .before .if1 .left) (c .before .union .result) _ (c .before .union .ensures) (c .match .keys2)
 
-basic-enum-told : (t : ℕ) → basic-lts.Need-enum-told (basic-calls t) (basic-at t) basic.Post
-basic-enum-told t c = search needs
-
-basic-enum-told-2 : (t : ℕ) → basic-lts.Need-enum-told-2 (basic-calls t) (basic-at t) basic.Post
-basic-enum-told-2 t c = search needs
+basic-mark-next-requires-2 : (t : ℕ) → basic-lts.Need-mark-next-requires-2 (basic-calls t) (basic-at t) basic.Post
+basic-mark-next-requires-2 t c κs = search needs
 
 basic-returns-4 : (t : ℕ) → basic-lts.Need-returns-4 (basic-calls t) (basic-at t) basic.Post
 basic-returns-4 t c =
@@ -149,42 +142,41 @@ basic-returns-4 t c =
     let d = b .before .before .before .before in
     let e = d .before .before .before .before in
     let a = e .args in
-    inner-closed (roundBracket (a .depth) (b .before .before .before .if2 .left)) (a .s .now) (a .names .now) (a .n) (a .p) (a .out .now) _
+    inner-open (roundBracket basics (a .depth) (b .before .before .before .if2 .left)) (a .s .now) (a .names .now) (a .n) (a .p) (a .out .now) _
     (d .before .mark-next .ensures) (d .if1 .left) _ _ (b .before .union .ensures) _ (c .before .before .before .r .given .1) _
-    (c .before .mark-next2 .ensures) _ _ (c .if3 .left) refl (omega arith) (omega arith)
+    (c .before .mark-next2 .ensures) (c .if3 .taken)
 
 basic-returns-5 : (t : ℕ) → basic-lts.Need-returns-5 (basic-calls t) (basic-at t) basic.Post
 basic-returns-5 t c =
     let b = c .before .before .before .before in
     let d = b .before .before .before .before in
-    let a = d .before .args in
-    inner-wrong (roundBracket (a .depth) (b .if2 .left)) (a .s .now) (a .names .now) (a .n) (a .p) (a .out .now) _
-    (b .before .before .mark-next .ensures) (b .before .if1 .left) _ _ (c .before .before .union .ensures) (c .enum-told .given .1)
-
-basic-returns-6 : (t : ℕ) → basic-lts.Need-returns-6 (basic-calls t) (basic-at t) basic.Post
-basic-returns-6 t c =
-    let b = c .before .before .before .before in
-    let d = b .before .before .before .before in
-    let a = d .before .args in
-    inner-deep (roundBracket (a .depth) (b .if2 .left)) (a .s .now) (a .names .now) (a .n) (a .p) (a .out .now) _
-    (b .before .before .mark-next .ensures) (b .before .if1 .left) _ _ (c .before .before .union .ensures) (c .enum-told2 .given .1)
+    let e = d .before .before .before .before in
+    let a = e .args in
+    inner-closed (roundBracket basics (a .depth) (b .before .before .before .if2 .left)) (a .s .now) (a .names .now) (a .n) (a .p) (a .out .now) _
+    (d .before .mark-next .ensures) (d .if1 .left) _ _ (b .before .union .ensures) _ (c .before .before .before .r .given .1) _
+    (c .before .mark-next2 .ensures) _ _ (c .if3 .left) refl (omega arith) (omega arith)
 
 abbrev meet-Inv-loop : meet-lts.InvT-loop
-meet-Inv-loop s names n depth out₀ place₀ more₀ out place more = Waiting (meetChain depth) 2 s names n place₀ out₀ place more out
+meet-Inv-loop s names n depth out₀ place₀ more₀ out place more = Waiting meetChain depth 2 s names n place₀ out₀ place more out
 
 abbrev meet-μ-loop : meet-lts.MeasureT-loop
 meet-μ-loop s names n depth out₀ place₀ more₀ out place more = length s - place .at
 
 meet-loop-holds : (t : ℕ) → meet-lts.Need-loop-holds (meet-calls t) (meet-at t) meet.Post meet-Inv-loop meet-μ-loop
-meet-loop-holds t c = chain-start _ _ _ _ _ _ _
+meet-loop-holds t c = chain-start _ _ _ _ _ _ _ _ meets
 
 meet-not-requires : (t : ℕ) → meet-lts.Need-not-requires (meet-calls t) (meet-at t) meet.Post meet-Inv-loop meet-μ-loop
 meet-not-requires t c κs =
     let w = c .before .loop .inv in
-    (omega (arith, c .before .before .before .before .pre .0, w .onward), (c .before .before .before .before .pre .1 .0, omega (arith, c .before .before .before .before .pre .1 .1, w .room)))
+    let h = c .before .before .before .before .pre in
+    (omega (arith, h .0, w .onward), (h .1 .0, omega (arith, h .1 .1, w .room)))
 
 meet-enum-known-r : (t : ℕ) → meet-lts.Need-enum-known-r (meet-calls t) (meet-at t) meet.Post meet-Inv-loop meet-μ-loop
 meet-enum-known-r t c = search needs
+
+meet-returns : (t : ℕ) → meet-lts.Need-returns (meet-calls t) (meet-at t) meet.Post meet-Inv-loop meet-μ-loop
+meet-returns t c =
+    loop-fault (c .before .before .before .loop .inv) (c .before .not .result) _ (c .before .not .ensures) (c .match .keys2)
 
 meet-write-requires : (t : ℕ) → meet-lts.Need-write-requires (meet-calls t) (meet-at t) meet.Post meet-Inv-loop meet-μ-loop
 meet-write-requires t c κs =
@@ -195,8 +187,8 @@ meet-write-requires t c κs =
 meet-mark-next-requires : (t : ℕ) → meet-lts.Need-mark-next-requires (meet-calls t) (meet-at t) meet.Post meet-Inv-loop meet-μ-loop
 meet-mark-next-requires t c κs = search needs
 
-meet-returns : (t : ℕ) → meet-lts.Need-returns (meet-calls t) (meet-at t) meet.Post meet-Inv-loop meet-μ-loop
-meet-returns t c =
+meet-returns-2 : (t : ℕ) → meet-lts.Need-returns-2 (meet-calls t) (meet-at t) meet.Post meet-Inv-loop meet-μ-loop
+meet-returns-2 t c =
     let b = c .before .before .before .before in
     let d = b .before .before .before .before in
     loop-got (d .before .loop .inv) _ _ (b .before .before .before .not .ensures) _ (b .before .r .given .1) _ _
@@ -216,30 +208,23 @@ meet-loop-again t c =
     loop-turn (d .before .loop .inv) _ _ (b .before .before .before .not .ensures) _ (b .before .r .given .1) _ _
     (c .before .before .write .ensures .0) (c .before .before .write .ensures .1) _ (c .before .mark-next .ensures) (c .if1 .left)
 
-meet-enum-told : (t : ℕ) → meet-lts.Need-enum-told (meet-calls t) (meet-at t) meet.Post meet-Inv-loop meet-μ-loop
-meet-enum-told t c = search needs
-
-meet-returns-2 : (t : ℕ) → meet-lts.Need-returns-2 (meet-calls t) (meet-at t) meet.Post meet-Inv-loop meet-μ-loop
-meet-returns-2 t c =
-    loop-wrong (c .before .before .before .before .loop .inv) _ _ (c .before .before .not .ensures) (c .enum-told .given .1)
-
-meet-enum-told-2 : (t : ℕ) → meet-lts.Need-enum-told-2 (meet-calls t) (meet-at t) meet.Post meet-Inv-loop meet-μ-loop
-meet-enum-told-2 t c = search needs
-
-meet-returns-3 : (t : ℕ) → meet-lts.Need-returns-3 (meet-calls t) (meet-at t) meet.Post meet-Inv-loop meet-μ-loop
-meet-returns-3 t c =
-    loop-deep (c .before .before .before .before .loop .inv) _ _ (c .before .before .not .ensures) (c .enum-told2 .given .1)
-
 not-marks-next-requires : (t : ℕ) → not-lts.Need-marks-next-requires (not-calls t) (not-at t) not.Post
 not-marks-next-requires t c κs = search needs
 
 not-basic-requires : (t : ℕ) → not-lts.Need-basic-requires (not-calls t) (not-at t) not.Post
 not-basic-requires t c κs =
     let m = c .before .marks-next .ensures in
-    (omega (arith, c .before .before .before .before .pre .0, m .onward), (c .before .before .before .before .pre .1 .0, omega (arith, c .before .before .before .before .pre .1 .1, m .room)))
+    let h = c .before .before .before .before .pre in
+    (omega (arith, h .0, m .onward), (h .1 .0, omega (arith, h .1 .1, m .room)))
 
 not-enum-known-r : (t : ℕ) → not-lts.Need-enum-known-r (not-calls t) (not-at t) not.Post
 not-enum-known-r t c = search needs
+
+not-returns : (t : ℕ) → not-lts.Need-returns (not-calls t) (not-at t) not.Post
+not-returns t c =
+    let a = c .before .before .before .before .before .before .args in
+    nots-fault (a .depth) (a .s .now) (a .names .now) (a .n) (a .p) (a .out .now) _ (c .before .before .before .marks-next .ensures)
+    (c .before .basic .result) _ (c .before .basic .ensures) (c .match .keys2)
 
 not-write-requires : (t : ℕ) → not-lts.Need-write-requires (not-calls t) (not-at t) not.Post
 not-write-requires t c κs =
@@ -249,50 +234,35 @@ not-write-requires t c κs =
     nots-room (a .depth) (a .s .now) (a .names .now) (a .n) (a .p) (a .out .now) _ (b .before .before .marks-next .ensures) _ _
     (b .basic .ensures) _ (c .before .before .r .given .1) (d .before .pre .1 .1)
 
-not-enum-told : (t : ℕ) → not-lts.Need-enum-told (not-calls t) (not-at t) not.Post
-not-enum-told t c = search needs
-
-not-enum-told-2 : (t : ℕ) → not-lts.Need-enum-told-2 (not-calls t) (not-at t) not.Post
-not-enum-told-2 t c = search needs
-
-not-returns : (t : ℕ) → not-lts.Need-returns (not-calls t) (not-at t) not.Post
-not-returns t c =
+not-returns-2 : (t : ℕ) → not-lts.Need-returns-2 (not-calls t) (not-at t) not.Post
+not-returns-2 t c =
     let b = c .before .before .before .before in
     let d = b .before .before .before .before in
     let a = d .before .before .args in
     nots-got (a .depth) (a .s .now) (a .names .now) (a .n) (a .p) (a .out .now) _ (b .before .before .before .marks-next .ensures) _ _
     (b .before .basic .ensures) _ (c .before .before .before .r .given .1) _ _ (c .write .ensures .0) (c .write .ensures .1)
 
-not-returns-2 : (t : ℕ) → not-lts.Need-returns-2 (not-calls t) (not-at t) not.Post
-not-returns-2 t c =
-    let b = c .before .before .before .before in
-    let a = b .before .before .before .args in
-    nots-wrong (a .depth) (a .s .now) (a .names .now) (a .n) (a .p) (a .out .now) _ (b .marks-next .ensures) _ _
-    (c .before .before .basic .ensures) (c .enum-told .given .1)
-
-not-returns-3 : (t : ℕ) → not-lts.Need-returns-3 (not-calls t) (not-at t) not.Post
-not-returns-3 t c =
-    let b = c .before .before .before .before in
-    let a = b .before .before .before .args in
-    nots-deep (a .depth) (a .s .now) (a .names .now) (a .n) (a .p) (a .out .now) _ (b .marks-next .ensures) _ _
-    (c .before .before .basic .ensures) (c .enum-told2 .given .1)
-
 abbrev union-Inv-loop : union-lts.InvT-loop
-union-Inv-loop s names n depth out₀ place₀ more₀ out place more = Waiting (unionChain depth) 3 s names n place₀ out₀ place more out
+union-Inv-loop s names n depth out₀ place₀ more₀ out place more = Waiting unionChain depth 3 s names n place₀ out₀ place more out
 
 abbrev union-μ-loop : union-lts.MeasureT-loop
 union-μ-loop s names n depth out₀ place₀ more₀ out place more = length s - place .at
 
 union-loop-holds : (t : ℕ) → union-lts.Need-loop-holds (union-calls t) (union-at t) union.Post union-Inv-loop union-μ-loop
-union-loop-holds t c = chain-start _ _ _ _ _ _ _
+union-loop-holds t c = chain-start _ _ _ _ _ _ _ _ unions
 
 union-meet-requires : (t : ℕ) → union-lts.Need-meet-requires (union-calls t) (union-at t) union.Post union-Inv-loop union-μ-loop
 union-meet-requires t c κs =
     let w = c .before .loop .inv in
-    (omega (arith, c .before .before .before .before .pre .0, w .onward), (c .before .before .before .before .pre .1 .0, omega (arith, c .before .before .before .before .pre .1 .1, w .room)))
+    let h = c .before .before .before .before .pre in
+    (omega (arith, h .0, w .onward), (h .1 .0, omega (arith, h .1 .1, w .room)))
 
 union-enum-known-r : (t : ℕ) → union-lts.Need-enum-known-r (union-calls t) (union-at t) union.Post union-Inv-loop union-μ-loop
 union-enum-known-r t c = search needs
+
+union-returns : (t : ℕ) → union-lts.Need-returns (union-calls t) (union-at t) union.Post union-Inv-loop union-μ-loop
+union-returns t c =
+    loop-fault (c .before .before .before .loop .inv) (c .before .meet .result) _ (c .before .meet .ensures) (c .match .keys2)
 
 union-write-requires : (t : ℕ) → union-lts.Need-write-requires (union-calls t) (union-at t) union.Post union-Inv-loop union-μ-loop
 union-write-requires t c κs =
@@ -303,8 +273,8 @@ union-write-requires t c κs =
 union-mark-next-requires : (t : ℕ) → union-lts.Need-mark-next-requires (union-calls t) (union-at t) union.Post union-Inv-loop union-μ-loop
 union-mark-next-requires t c κs = search needs
 
-union-returns : (t : ℕ) → union-lts.Need-returns (union-calls t) (union-at t) union.Post union-Inv-loop union-μ-loop
-union-returns t c =
+union-returns-2 : (t : ℕ) → union-lts.Need-returns-2 (union-calls t) (union-at t) union.Post union-Inv-loop union-μ-loop
+union-returns-2 t c =
     let b = c .before .before .before .before in
     let d = b .before .before .before .before in
     loop-got (d .before .loop .inv) _ _ (b .before .before .before .meet .ensures) _ (b .before .r .given .1) _ _
@@ -324,20 +294,6 @@ union-loop-again t c =
     loop-turn (d .before .loop .inv) _ _ (b .before .before .before .meet .ensures) _ (b .before .r .given .1) _ _
     (c .before .before .write .ensures .0) (c .before .before .write .ensures .1) _ (c .before .mark-next .ensures) (c .if1 .left)
 
-union-enum-told : (t : ℕ) → union-lts.Need-enum-told (union-calls t) (union-at t) union.Post union-Inv-loop union-μ-loop
-union-enum-told t c = search needs
-
-union-returns-2 : (t : ℕ) → union-lts.Need-returns-2 (union-calls t) (union-at t) union.Post union-Inv-loop union-μ-loop
-union-returns-2 t c =
-    loop-wrong (c .before .before .before .before .loop .inv) _ _ (c .before .before .meet .ensures) (c .enum-told .given .1)
-
-union-enum-told-2 : (t : ℕ) → union-lts.Need-enum-told-2 (union-calls t) (union-at t) union.Post union-Inv-loop union-μ-loop
-union-enum-told-2 t c = search needs
-
-union-returns-3 : (t : ℕ) → union-lts.Need-returns-3 (union-calls t) (union-at t) union.Post union-Inv-loop union-μ-loop
-union-returns-3 t c =
-    loop-deep (c .before .before .before .before .loop .inv) _ _ (c .before .before .meet .ensures) (c .enum-told2 .given .1)
-
 pub +basic+meet+not+union-spec : {M : Type 1} → statement M
 +basic+meet+not+union-spec = close μ-basic μ-meet μ-not μ-union (λ t. basic-lts.spec (basic-calls t) (basic-at t)
     basic.Post
@@ -348,13 +304,10 @@ pub +basic+meet+not+union-spec : {M : Type 1} → statement M
     (basic-add-union t)
     (basic-union-requires t)
     (basic-enum-known-r t)
-    (basic-mark-next-requires-2 t)
     (basic-returns-3 t)
-    (basic-enum-told t)
-    (basic-enum-told-2 t)
+    (basic-mark-next-requires-2 t)
     (basic-returns-4 t)
-    (basic-returns-5 t)
-    (basic-returns-6 t))
+    (basic-returns-5 t))
     (λ t. meet-lts.spec (meet-calls t) (meet-at t)
     meet.Post
     meet-Inv-loop
@@ -362,26 +315,20 @@ pub +basic+meet+not+union-spec : {M : Type 1} → statement M
     (meet-loop-holds t)
     (meet-not-requires t)
     (meet-enum-known-r t)
+    (meet-returns t)
     (meet-write-requires t)
     (meet-mark-next-requires t)
-    (meet-returns t)
-    (meet-loop-less t)
-    (meet-loop-again t)
-    (meet-enum-told t)
     (meet-returns-2 t)
-    (meet-enum-told-2 t)
-    (meet-returns-3 t))
+    (meet-loop-less t)
+    (meet-loop-again t))
     (λ t. not-lts.spec (not-calls t) (not-at t)
     not.Post
     (not-marks-next-requires t)
     (not-basic-requires t)
     (not-enum-known-r t)
-    (not-write-requires t)
-    (not-enum-told t)
-    (not-enum-told-2 t)
     (not-returns t)
-    (not-returns-2 t)
-    (not-returns-3 t))
+    (not-write-requires t)
+    (not-returns-2 t))
     λ t. union-lts.spec (union-calls t) (union-at t)
     union.Post
     union-Inv-loop
@@ -389,12 +336,9 @@ pub +basic+meet+not+union-spec : {M : Type 1} → statement M
     (union-loop-holds t)
     (union-meet-requires t)
     (union-enum-known-r t)
+    (union-returns t)
     (union-write-requires t)
     (union-mark-next-requires t)
-    (union-returns t)
+    (union-returns-2 t)
     (union-loop-less t)
     (union-loop-again t)
-    (union-enum-told t)
-    (union-returns-2 t)
-    (union-enum-told-2 t)
-    (union-returns-3 t)

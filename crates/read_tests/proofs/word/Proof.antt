@@ -1,7 +1,7 @@
 -- `read_tests::word` meets its contract. One law for each way out, by the token that is found and its key.
 -- Assumes nothing.
 use native.Mathlib.Omega.{arith}
-use Rattle.read_tests.proofs.Words.{scanned, word-true, word-false, word-reserved, word-named, mark-no-word, bad-no-word, end-no-word}
+use Rattle.read_tests.proofs.Words.{scanned, word-true, word-false, word-reserved, word-named, test-no-word}
 use borrow.Author.Needs.{needs}
 use Rattle.read_tests.proofs.word.Statement.{statement}
 use Rattle.read_tests.proofs.word.Tie as tie
@@ -11,6 +11,9 @@ token-at-requires c κs = search needs
 
 enum-known-t : tie.Need-enum-known-t
 enum-known-t c = search needs
+
+returns : tie.Need-returns
+returns c = test-no-word _ _ (c .before .token-at .ensures) (c .match .keys2)
 
 word-key-requires : tie.Need-word-key-requires
 word-key-requires c κs = search needs
@@ -28,11 +31,11 @@ element-write-out c =
     let w = scanned _ _ (b .before .before .token-at .ensures) (b .t .given .1) in
     omega (arith, w .after, w .within, d .before .pre)
 
-add-t14 : tie.Need-add-t14
-add-t14 c = search needs
+add-t13 : tie.Need-add-t13
+add-t13 c = search needs
 
-returns : tie.Need-returns
-returns c =
+returns-2 : tie.Need-returns-2
+returns-2 c =
     let b = c .before .before .before .before in
     let d = b .before .before .before .before in
     let a = d .before .args in
@@ -57,11 +60,11 @@ element-write-out-2 c =
     let w = scanned _ _ (d .before .token-at .ensures) (b .before .before .before .t .given .1) in
     omega (arith, w .after, w .within, e .pre)
 
-add-t19 : tie.Need-add-t19
-add-t19 c = search needs
+add-t18 : tie.Need-add-t18
+add-t18 c = search needs
 
-returns-2 : tie.Need-returns-2
-returns-2 c =
+returns-3 : tie.Need-returns-3
+returns-3 c =
     let b = c .before .before .before .before in
     let d = b .before .before .before .before in
     let e = d .before .before .before .before in
@@ -74,8 +77,8 @@ returns-2 c =
 reserved-requires : tie.Need-reserved-requires
 reserved-requires c κs = search needs
 
-returns-3 : tie.Need-returns-3
-returns-3 c =
+returns-4 : tie.Need-returns-4
+returns-4 c =
     let b = c .before .before .before .before in
     let d = b .before .before .before .before in
     let e = d .before .before .before .before in
@@ -99,8 +102,8 @@ element-write-out-3 c =
     let w = scanned _ _ (e .token-at .ensures) (d .before .before .t .given .1) in
     omega (arith, w .after, w .within, e .before .before .before .pre)
 
-add-t24 : tie.Need-add-t24
-add-t24 c = search needs
+add-t23 : tie.Need-add-t23
+add-t23 c = search needs
 
 slip-of-requires : tie.Need-slip-of-requires
 slip-of-requires c κs = search needs
@@ -108,17 +111,8 @@ slip-of-requires c κs = search needs
 first-slip-requires : tie.Need-first-slip-requires
 first-slip-requires c κs = search needs
 
-enum-told : tie.Need-enum-told
-enum-told c = search needs
-
-enum-told-2 : tie.Need-enum-told-2
-enum-told-2 c = search needs
-
-enum-told-3 : tie.Need-enum-told-3
-enum-told-3 c = search needs
-
-returns-4 : tie.Need-returns-4
-returns-4 c =
+returns-5 : tie.Need-returns-5
+returns-5 c =
     let b = c .before .before .before .before in
     let d = b .before .before .before .before in
     let e = d .before .before .before .before in
@@ -130,57 +124,31 @@ returns-4 c =
     (b .before .before .same-key2 .ensures) _ (b .before .if2 .left) (b .reserved .ensures) _ _ _ (c .before .before .before .if3 .left)
     (c .before .before .find .ensures) (c .before .slip-of .ensures) (c .first-slip .ensures)
 
-returns-5 : tie.Need-returns-5
-returns-5 c =
-    let b = c .before .before .before .before in
-    let a = b .before .args in
-    mark-no-word (a .s .now) (a .names .now) (a .n) (a .p) (a .out .now) _ _
-    (scanned _ _ (c .before .before .token-at .ensures) (c .enum-told .given .1))
-
-returns-6 : tie.Need-returns-6
-returns-6 c =
-    let b = c .before .before .before .before in
-    let a = b .before .args in
-    bad-no-word (a .s .now) (a .names .now) (a .n) (a .p) (a .out .now)
-    (scanned _ _ (c .before .before .token-at .ensures) (c .enum-told2 .given .1))
-
-returns-7 : tie.Need-returns-7
-returns-7 c =
-    let b = c .before .before .before .before in
-    let a = b .before .args in
-    end-no-word (a .s .now) (a .names .now) (a .n) (a .p) (a .out .now)
-    (scanned _ _ (c .before .before .token-at .ensures) (c .enum-told3 .given .1))
-
 pub word-spec : {M : Type 1} → statement M
 word-spec =
     tie.close
     (tie.spec
     token-at-requires
     enum-known-t
+    returns
     word-key-requires
     same-key-requires
     mul-out
     element-write-out
-    add-t14
-    returns
+    add-t13
+    returns-2
     word-key-requires-2
     same-key-requires-2
     mul-out-2
     element-write-out-2
-    add-t19
-    returns-2
-    reserved-requires
+    add-t18
     returns-3
+    reserved-requires
+    returns-4
     find-requires
     mul-out-3
     element-write-out-3
-    add-t24
+    add-t23
     slip-of-requires
     first-slip-requires
-    enum-told
-    enum-told-2
-    enum-told-3
-    returns-4
-    returns-5
-    returns-6
-    returns-7)
+    returns-5)

@@ -1,6 +1,6 @@
-use Rattle.read_tests.proofs.Stores.{stores-done, stores-more}
 -- `read_tests::write` meets its contract. The invariant: the code is stored i times. The measure is what is left to store.
 -- Assumes nothing.
+use Rattle.read_tests.proofs.Stores.{stores-done, stores-more}
 use Prim.Native.Nat.{_≤_, _-_}
 use native.Mathlib.Omega.{arith}
 use mathlib.Core.Path.{_≡_, refl}
