@@ -17,8 +17,8 @@ use crate::search::{answer, Answer, Verdict};
 use crate::sheet::{answer_line, write_sheet};
 use crate::sides::Problem;
 
-pub const KINDS: [&str; 9] =
-    ["read", "query", "sheet", "check", "judge", "draw", "small-query", "small-check", "small-judge"];
+pub const KINDS: [&str; 10] =
+    ["read", "query", "sheet", "check", "judge", "draw", "small-query", "small-check", "small-judge", "small-draw"];
 
 const MOST_RING_STANDINGS: usize = 6;
 const MOST_SMALL_STANDINGS: usize = 12;
@@ -57,6 +57,7 @@ pub fn inputs(kind: &str, seed: u64, count: usize) -> Option<Vec<String>> {
             "small-query" => format!("200 {}", escaped(&small_query(rng, lines.len() % 2 == 1))),
             "small-check" => with_hex(small_check(rng)),
             "small-judge" => with_hex(small_judge(rng)),
+            "small-draw" => with_hex(small_draw(rng)),
             _ => return None,
         };
         lines.push(line);
@@ -311,6 +312,27 @@ fn small_judge(rng: &mut Rng) -> (Vec<u8>, Vec<u8>) {
         let bytes = if rng.chance(30) { damaged(rng, &read, &made) } else { write_graph(&made) };
         if bytes.len() <= 250 {
             return (asked, bytes);
+        }
+    }
+}
+
+/// A short refuting word most of the time, as found or made otherwise.
+fn small_draw(rng: &mut Rng) -> (Vec<u8>, Vec<u8>) {
+    loop {
+        let (asked, found) = answered(rng, 4);
+        let refutes = match &found {
+            Answer::Path(Verdict::Refuted(word)) | Answer::Ring(Verdict::Refuted(word)) => word.len() <= 13,
+            _ => rng.chance(4),
+        };
+        if !refutes || !is_small(&asked) {
+            continue;
+        }
+        if rng.chance(75) {
+            return (asked, write_sheet(&found));
+        }
+        match sheet(rng, &asked, 200) {
+            Some(made) if made.len() <= 60 => return (asked, made),
+            _ => continue,
         }
     }
 }

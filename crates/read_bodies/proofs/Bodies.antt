@@ -4,7 +4,7 @@ use Prim.Native.Nat.{ℕ, _+_}
 use native.Mathlib.Omega.{arith}
 use mathlib.Core.Path.{_≡_, refl, sym, ap, _∙_}
 use mathlib.Core.Bool.{Bool, true, false}
-use mathlib.Core.List.{List, [], _∷_, _++_}
+use mathlib.Core.List.{List, [], _∷_, _++_, append-assoc}
 use lib.ListN.{length, drop, replicate, length-append}
 use lib.Seq.{sets}
 use Rattle.claims.specs.Bytes.{byte}
@@ -15,7 +15,7 @@ use Rattle.claims.specs.Tree.{Name, TestTree, Line, testLine, relLine, letLine,
 use Rattle.claims.specs.Lines.{declared, mapped, expression, condition, bracketed, letReader, withinReader}
 use Rattle.claims.specs.Names.{declares, usesRelation, testUses, treeUses, uses, slip, firstSlip}
 use Rattle.claims.specs.Query.{Limit, indexOf, relations}
-use Rattle.codes.specs.Codes.{testCodes, lineCodes}
+use Rattle.codes.specs.Codes.{testCodes, treeCodes, lineCodes}
 use Rattle.read_tokens.specs.declared.Key.{Key}
 use Rattle.read_tokens.specs.declared.Token.{Token}
 use Rattle.read_tokens.specs.declared.Token.the-variants.{Word}
@@ -23,10 +23,11 @@ use Rattle.read_tokens.specs.Scan.{tokenAt}
 use Rattle.read_names.specs.Keys.{reservedKey, findIn}
 use Rattle.read_tokens.proofs.Tokens.{ScannedWord, ScannedMark}
 use Rattle.read_tests.specs.declared.Parsed.{Parsed}
-use Rattle.read_tests.specs.declared.Parsed.the-variants.{Got, Wrong, Deep}
+use Rattle.read_tests.specs.declared.Parsed.the-variants.{Got, Wrong}
 use Rattle.read_names.specs.Slips.{firstOf, slipNumber, slipOfCode, declaredSlip, relationNumber}
-use Rattle.read_bodies.specs.Bodies.{TestThen, TreeThen, limitsReader, LimitsThen, BodyOutcome, Bare, Declaration, Declares, DeclaresLet}
+use Rattle.read_bodies.specs.Bodies.{TestThen, TreeThen, ending, limitsReader, limitCodes, limitUses, LimitsThen, BodyOutcome, Bare, Declaration, Declares, DeclaresLet}
 use Rattle.read_tests.proofs.Next.{goes-on, passed}
+use Rattle.read_bodies.proofs.Parts.{tree-line}
 use Rattle.read_bodies.proofs.NextWords.{named-here, declared-here, name-reserved, name-here, declared-slip, relation-slip, relation-number, slip-first, slip-alone}
 
 -- a name that is declared, with the line's code
@@ -78,27 +79,17 @@ module _ (s : List ℕ) (at : ℕ) (k : Key) (next : ℕ) (f : ScannedWord s at 
         → TreeThen 130 s names n (record { at = start; used = used; slip = i }) before after r
         → BodyOutcome letReader (DeclaresLet s at) s names n at used before after r
     unfolding uses lineCodes
-    let-passed t e h names n used i before after j (Got g) (a, b) = (
-      record {
-        onward = omega (arith, f .after, m .after, a .onward);
-        within = a .within;
-        room = omega (arith, f .after, f .within, m .after, m .within, a .room);
-      },
-      (λ q z. let o = b q z in record {
-        line = letLine (f .spelling) (o .tree);
-        sort = (f .spelling, o .tree, refl, named-here s at k next f t e h);
-        read = let-equal ∙ ap (mapped (letLine (f .spelling))) (o .read);
-        slip =
-            o .slip ∙ ap (λ x. firstOf x (slipNumber (firstSlip q (treeUses (o .tree))))) (j ∙ declared-slip s at k next f names n q z)
-            ∙ sym (slip-first q (declares (f .spelling)) (treeUses (o .tree)));
-        written = λ y. o .written;
-        used = o .used;
-      }),
-    )
-    let-passed t e h names n used i before after j Wrong (a, b) =
-        (tt, λ q z. let-equal ∙ ap (mapped (letLine (f .spelling))) (b q z))
-    let-passed t e h names n used i before after j Deep (a, b) =
-        (tt, λ q z. let-equal ∙ ap (mapped (letLine (f .spelling))) (b q z))
+    let-passed t e h names n used i before after j =
+        tree-line expression (ending 130 treeCodes) treeUses letReader (DeclaresLet s at) (letLine (f .spelling)) s names n at start used i before after
+        let-equal (omega (arith, f .after, m .after))
+        (λ q z x. record {
+          sort = (f .spelling, x, refl, named-here s at k next f t e h);
+          slip =
+              ap (λ y. firstOf y (slipNumber (firstSlip q (treeUses x)))) (j ∙ declared-slip s at k next f names n q z)
+              ∙ sym (slip-first q (declares (f .spelling)) (treeUses x));
+          codes = λ y. refl;
+          count = refl;
+        })
 
 -- `N`, a relation
 module _ (s names : List ℕ) (n at used : ℕ) (k : Key) (next : ℕ) (f : ScannedWord s at k next) (b : Bool) (free : b ≡ reservedKey k) where
@@ -169,62 +160,36 @@ module _ (s names : List ℕ) (n at used : ℕ) (k : Key) (next : ℕ) (f : Scan
       → (before after : List ℕ) (r : Parsed) → LimitsThen (144 + w) s names n (record { at = next; used = used; slip = i }) before after r
       → BodyOutcome withinReader (Bare false) s names n at used before after r
   unfolding uses lineCodes
-  within-passed h c i w ce ie we before after (Got g) (a, o′) = (
-    record {
-      onward = omega (arith, f .after, a .onward);
-      within = a .within;
-      room = omega (arith, f .after, f .within, a .room);
-    },
-    (λ q m. let o = o′ q m in
-        let l = o .tree in
-        record {
-          line = withinLine (f .spelling) (l .from) (l .to);
-          sort = refl;
-          read = within-begun h ∙ ap (mapped (limited (f .spelling))) (o .read);
-          slip =
-              o .slip
-              ∙ ap (λ x. firstOf x (slipNumber (firstSlip q (testUses (l .from) ++ testUses (l .to)))))
-              (ie ∙ ap (slipOfCode 32 64) ce ∙ relation-slip s at k next f names n q m)
-              ∙ sym (slip-first q (usesRelation (f .spelling)) (testUses (l .from) ++ testUses (l .to)));
-          written = λ z.
-              o .written
-              ∙ ap (λ x. sets before used ((testCodes q (l .from) ++ (6 ∷ [])) ++ ((testCodes q (l .to) ++ (6 ∷ [])) ++ ((144 + x) ∷ []))))
-              (we ∙ ap relationNumber ce
-              ∙ relation-number s at k next f names n q m (ap (slipOfCode 32 64) (sym ce) ∙ sym ie ∙ no-first i _ (sym (o .slip) ∙ z)));
-          used = o .used ∙ lengths (testCodes q (l .from) ++ (6 ∷ [])) (testCodes q (l .to) ++ (6 ∷ [])) (144 + w) (144 + indexOf (f .spelling) (relations q));
-        }),
-  )
+  within-passed h c i w ce ie we before after =
+      tree-line limitsReader (ending (144 + w) limitCodes) limitUses withinReader (Bare false) (limited (f .spelling)) s names n at next used i before
+      after (within-begun h) (omega (arith, f .after))
+      (λ q m l. record {
+        sort = refl;
+        slip =
+            ap (λ x. firstOf x (slipNumber (firstSlip q (limitUses l)))) (ie ∙ ap (slipOfCode 32 64) ce ∙ relation-slip s at k next f names n q m)
+            ∙ sym (slip-first q (usesRelation (f .spelling)) (limitUses l));
+        codes = λ z.
+            append-assoc (ending 6 testCodes q (l .from)) (ending 6 testCodes q (l .to)) ((144 + w) ∷ [])
+            ∙ ap (λ x. ending 6 testCodes q (l .from) ++ (ending 6 testCodes q (l .to) ++ ((144 + x) ∷ [])))
+            (we ∙ ap relationNumber ce ∙ relation-number s at k next f names n q m (ap (slipOfCode 32 64) (sym ce) ∙ sym ie ∙ no-first i _ z));
+        count = lengths (ending 6 testCodes q (l .from)) (ending 6 testCodes q (l .to)) (144 + w) (144 + indexOf (f .spelling) (relations q));
+      })
     where
       no-first : (x y : ℕ) → firstOf x y ≡ 0 → x ≡ 0
       no-first ℕ.zero y e = refl
       no-first (ℕ.suc x) y e = e
 
-      lengths : (cs ds : List ℕ) (x y : ℕ) → used + length (cs ++ (ds ++ (x ∷ []))) ≡ used + length (cs ++ (ds ++ (y ∷ [])))
-      lengths cs ds x y = simp length-append
-  within-passed h c i w ce ie we before after Wrong (a, o) =
-      (tt, λ q m. within-begun h ∙ ap (mapped (limited (f .spelling))) (o q m))
-  within-passed h c i w ce ie we before after Deep (a, o) =
-      (tt, λ q m. within-begun h ∙ ap (mapped (limited (f .spelling))) (o q m))
+      lengths : (cs ds : List ℕ) (x y : ℕ) → length ((cs ++ ds) ++ (x ∷ [])) ≡ length (cs ++ (ds ++ (y ∷ [])))
+      lengths cs ds x y = ap length (append-assoc cs ds (x ∷ [])) ∙ simp length-append
 
 -- `never T`
 pub never-passed : (s names : List ℕ) (n at used : ℕ) (before after : List ℕ) (r : Parsed)
     → TestThen 131 s names n (record { at = at; used = used; slip = 0 }) before after r
     → BodyOutcome (λ ts. mapped neverLine (condition ts)) (Bare false) s names n at used before after r
 unfolding uses lineCodes
-never-passed s names n at used before after (Got g) (a, b) = (
-  a,
-  (λ q m. let o = b q m in
-      record {
-        line = neverLine (o .tree);
-        sort = refl;
-        read = ap (mapped neverLine) (o .read);
-        slip = o .slip;
-        written = λ z. o .written;
-        used = o .used;
-      }),
-)
-never-passed s names n at used before after Wrong (a, b) = (tt, λ q m. ap (mapped neverLine) (b q m))
-never-passed s names n at used before after Deep (a, b) = (tt, λ q m. ap (mapped neverLine) (b q m))
+never-passed s names n at used before after =
+    tree-line condition (ending 131 testCodes) testUses (λ ts. mapped neverLine (condition ts)) (Bare false) neverLine s names n at at used 0 before after
+    refl (omega arith) (λ q m x. record { sort = refl; slip = refl; codes = λ z. refl; count = refl })
 
 pub test-declares : Declaration testLine 128
 unfolding uses lineCodes

@@ -3,6 +3,7 @@
 use Prim.Native.Nat.{ℕ, _≤_, _<_}
 use native.Mathlib.Omega.{arith}
 use mathlib.Core.Path.{_≡_, refl, sym, ap, _∙_, subst}
+use mathlib.Core.Logic.{_⊎_, ⊎-elim}
 use mathlib.Core.Bool.{Bool, true, false, cond}
 use mathlib.Core.List.{List, [], _∷_}
 use mathlib.Core.Option.{Option, some, none}
@@ -24,6 +25,8 @@ use Rattle.read_tokens.specs.declared.Token.{Token}
 use Rattle.read_tokens.specs.declared.Token.the-variants.{Word, Mark, Bad, End}
 use Rattle.read_tokens.specs.Scan.{keyOf, tokenAt, Spelled}
 use Rattle.read_names.specs.Keys.{sameKey, reservedKey, wordKey, findIn, Knows}
+use denote.Enum.Declared.{tagOf}
+use Rattle.read_tokens.proofs.Token.{the-type}
 use Rattle.read_tokens.proofs.Tokens.{Scanned, ScannedWord, tokens-scanned}
 use Rattle.read_names.proofs.Names.{same-key, reserved-name, reserved-is-reserved}
 use Rattle.read_tests.specs.Next.{wordEnd, wordNext}
@@ -44,7 +47,7 @@ abbrev pub keyword : ℕ → Name
 keyword n = getD reservedWords n []
 
 -- whether a word is the nth that is no name, by its key
-pub key-is : (n : ℕ) (x k : Key) (w : Name) → n < 14 → x ≡ wordKey n → k ≡ keyOf w → Spelled w → sameKey x k ≡ same (keyword n) w
+key-is : (n : ℕ) (x k : Key) (w : Name) → n < 14 → x ≡ wordKey n → k ≡ keyOf w → Spelled w → sameKey x k ≡ same (keyword n) w
 unfolding wordKey
 key-is n x k w h e f sp = ap (λ y. sameKey y k) e ∙ ap (sameKey (keyOf (keyword n))) f ∙ same-key (keyword n) w (reserved-name n h) sp
 
@@ -107,13 +110,19 @@ NoWord (Mark b e) = Unit {0}
 NoWord Bad = Unit {0}
 NoWord End = Unit {0}
 
-module _ (s : List ℕ) (at : ℕ) (t u : Token) (e : t ≡ tokenAt s at) (h : t ≡ u) where
-  pub token-found : Scanned s at u
-  token-found = subst (Scanned s at) (sym e ∙ h) (tokens-scanned s at)
+pub no-word : (t : Token) → (tagOf the-type t ≡ 1) ⊎ (tagOf the-type t ≡ 2) ⊎ (tagOf the-type t ≡ 3) → NoWord t
+no-word (Word k e) h = ⊎-elim (λ i. absurd (omega arith)) (⊎-elim (λ i. absurd (omega arith)) (λ i. absurd (omega arith))) h
+no-word (Mark b e) h = tt
+no-word Bad h = tt
+no-word End h = tt
 
-  pub declared-missing : NoWord u → declared (tokens (drop at s)) ≡ wrong
+pub token-found : (s : List ℕ) (at : ℕ) (t u : Token) → t ≡ tokenAt s at → t ≡ u → Scanned s at u
+token-found s at t u e h = subst (Scanned s at) (sym e ∙ h) (tokens-scanned s at)
+
+module _ (s : List ℕ) (at : ℕ) (t : Token) (e : t ≡ tokenAt s at) (none : NoWord t) where
+  pub declared-missing : declared (tokens (drop at s)) ≡ wrong
   unfolding declared
-  declared-missing n = go u n token-found
+  declared-missing = go t none (token-found s at t t e refl)
     where
       go : (x : Token) → NoWord x → Scanned s at x → declared (tokens (drop at s)) ≡ wrong
       go (Word k i) n f = absurd n
@@ -121,9 +130,9 @@ module _ (s : List ℕ) (at : ℕ) (t u : Token) (e : t ≡ tokenAt s at) (h : t
       go Bad n f = ap declared (f .1)
       go End n f = ap declared f
 
-  pub name-missing : {A : Type 0} (f : Name → A) → NoWord u → nameNext f (tokens (drop at s)) ≡ wrong
+  pub name-missing : {A : Type 0} (f : Name → A) → nameNext f (tokens (drop at s)) ≡ wrong
   unfolding nameNext
-  name-missing f n = go u n token-found
+  name-missing f = go t none (token-found s at t t e refl)
     where
       go : (x : Token) → NoWord x → Scanned s at x → nameNext f (tokens (drop at s)) ≡ wrong
       go (Word k i) n g = absurd n

@@ -1,26 +1,32 @@
--- The parts of a line: a T or an E with a code behind it, a T in square brackets, and two of them.
+-- The parts of a line: a T or an E with a code behind it, a line made of one of them, a T in square brackets, and two of them. The idea: each
+-- is said in the same form, `Reads`, so that one law writes a code behind it and one makes a line of it.
 -- Assumes nothing.
-use Prim.Native.Nat.{ℕ, _+_}
+use Prim.Native.Nat.{ℕ, _+_, _-_, _≤_, _<_}
 use native.Mathlib.Omega.{arith}
-use mathlib.Core.Path.{_≡_, ap, _∙_, subst}
+use mathlib.Core.Path.{_≡_, refl, sym, ap, _∙_, subst, subst⁻¹}
+use mathlib.Core.Logic.{_⊎_, ⊎-elim}
 use mathlib.Core.Bool.{true, false}
-use mathlib.Core.List.{List, [], _∷_, _++_, append-assoc}
+use mathlib.Core.List.{List, [], _∷_}
 use lib.ListN.{length, drop, replicate, length-append}
 use lib.Seq.{sets}
 use Rattle.claims.specs.Bytes.{byte}
 use Rattle.claims.specs.Tokens.{Token, tokens}
 use Rattle.claims.specs.Grammar.{Found, got, wrong, andThen, goesOn, past, closes}
-use Rattle.claims.specs.Lines.{condition, bracketed}
-use Rattle.claims.specs.Names.{Use, testUses}
+use Rattle.claims.specs.Tree.{Line}
+use Rattle.claims.specs.Lines.{mapped, condition, bracketed}
+use Rattle.claims.specs.Names.{Use, uses, testUses, firstSlip}
 use Rattle.claims.specs.Query.{Query}
-use Rattle.codes.specs.Codes.{testCodes}
+use Rattle.codes.specs.Codes.{testCodes, lineCodes}
 use Rattle.read_tokens.proofs.Tokens.{ScannedMark}
 use Rattle.read_tests.specs.declared.Place.{Place}
 use Rattle.read_tests.specs.declared.Parsed.{Parsed}
 use Rattle.read_tests.specs.declared.Parsed.the-variants.{Got, Wrong, Deep}
-use Rattle.read_tests.specs.Places.{Moved, Outcome, Is}
+use Rattle.read_tests.specs.Places.{Outcome, Is}
 use Rattle.read_names.specs.Keys.{Knows}
-use Rattle.read_bodies.specs.Bodies.{Behind, Ends, ReadTree, Answers, TestThen, Bracketed, limitsReader, LimitsThen}
+use Rattle.read_names.specs.Slips.{firstOf, slipNumber}
+use Rattle.read_bodies.specs.Bodies.{Behind, Ends, Reads, ending, Fits, oneCode, codeStored, TestThen, Bracketed, limitsReader, limitCodes, limitUses, LimitsThen, BodyOutcome}
+use denote.Enum.Declared.{tagOf}
+use Rattle.read_tests.proofs.Parsed.{the-type}
 use Rattle.read_tests.proofs.Stores.{stores-then}
 use Rattle.read_names.proofs.Slips.{slips-then}
 use Rattle.read_tests.proofs.Next.{goes-on, passed}
@@ -29,38 +35,100 @@ use Rattle.read_tests.proofs.Next.{goes-on, passed}
 pub behind-of : (s : List ℕ) (at used more : ℕ) (r : Parsed) (g : Place) → r ≡ Got g → Ends s at used more r → Behind s at used more g
 behind-of s at used more r g e m = subst (Ends s at used more) e m
 
--- a tree with a code behind it
-module _ {A : Type 0} (Reads : List Token → Found A → Type 0) (codes : Query → A → List ℕ) (uses : A → List Use) (s names : List ℕ) (n : ℕ)
-    (p : Place) (before mid : List ℕ) where
-  abbrev Then : ℕ → List ℕ → Parsed → Type 0
-  Then code after r =
-      Ends s (p .at) (p .used) 1 r
-      × ((q : Query) → Knows names n q → Answers Reads (λ a. codes q a ++ (code ∷ [])) uses q s p before after r)
+-- the answer is no tree
+abbrev pub Failed : Parsed → Type 0
+Failed (Got g) = ⊥
+Failed Wrong = Unit {0}
+Failed Deep = Unit {0}
 
-  pub moved-of : (r : Parsed) (g : Place) → r ≡ Got g → Outcome Reads codes uses s names n p before mid r → Moved s p g
-  moved-of r g e w = subst (Outcome Reads codes uses s names n p before mid) e w .moved
+pub failed : (r : Parsed) → (tagOf the-type r ≡ 1) ⊎ (tagOf the-type r ≡ 2) → Failed r
+failed (Got g) h = ⊎-elim (λ e. absurd (omega arith)) (λ e. absurd (omega arith)) h
+failed Wrong h = tt
+failed Deep h = tt
 
-  pub then-got : (r : Parsed) (g : Place) → r ≡ Got g → Outcome Reads codes uses s names n p before mid r → (code used : ℕ) (after : List ℕ)
-      → (used ≡ g .used + 1) × (after ≡ sets mid (g .used) (replicate 1 code))
-      → Then code after (Got (record { at = g .at; used = used; slip = g .slip }))
-  then-got r g e w code used after (u, t) =
-      let o = subst (Outcome Reads codes uses s names n p before mid) e w in (
-        record { onward = o .moved .onward; within = o .moved .within; room = omega (arith, o .moved .room, u) },
-        (λ q k. let c = o .told q k in
+-- there is room for a code
+pub code-fits : (s : List ℕ) (at used : ℕ) (r : Parsed) → Ends s at used 0 r → used + (length s - at) + 1 ≤ 4096 → Fits r
+code-fits s at used (Got g) e h = omega (arith, e .room)
+code-fits s at used Wrong e h = tt
+code-fits s at used Deep e h = tt
+
+pub fits-got : (r : Parsed) (g : Place) → r ≡ Got g → Fits r → g .used < 4096
+fits-got r g e h = subst Fits e h
+
+-- the place behind a code and the array with it, by what the code did
+pub code-written : (r : Parsed) (g : Place) → r ≡ Got g → (code used : ℕ) (out out′ : List ℕ)
+    → (used ≡ g .used + 1) × (out′ ≡ sets out (g .used) (replicate 1 code))
+    → (Got (record { at = g .at; used = used; slip = g .slip }) ≡ oneCode r) × (out′ ≡ codeStored code r out)
+unfolding oneCode codeStored
+code-written r g e code used out out′ (u, w) = (rw (e, u), rw e w)
+
+pub code-left : (r : Parsed) → Failed r → (code : ℕ) (out : List ℕ) → (r ≡ oneCode r) × (out ≡ codeStored code r out)
+unfolding oneCode codeStored
+code-left (Got g) f code out = absurd f
+code-left Wrong f code out = (refl, refl)
+code-left Deep f code out = (refl, refl)
+
+-- a tree, and a tree with a code behind it
+module _ {A : Type 0} (D : List Token → Found A) (codes : Query → A → List ℕ) (uses : A → List Use) (s names : List ℕ) (n : ℕ) (p : Place)
+    (before mid : List ℕ) where
+  pub tree-read : (r : Parsed) → Outcome (Is D) codes uses s names n p before mid r → Reads D codes uses 0 s names n p before mid r
+  tree-read (Got g) o = (
+    record { onward = o .moved .onward; within = o .moved .within; room = omega (arith, o .moved .room) },
+    (λ q k. let c = o .told q k in record { tree = o .tree; read = o .read; written = c .written; used = c .used; slip = c .slip }),
+  )
+  tree-read Wrong o = (tt, λ q k. o)
+  tree-read Deep o = (tt, λ q k. o)
+
+  pub code-read : (r : Parsed) → Reads D codes uses 0 s names n p before mid r → (code : ℕ) (x : Parsed) (after : List ℕ)
+      → (x ≡ oneCode r) × (after ≡ codeStored code r mid) → Reads D (ending code codes) uses 1 s names n p before after x
+  unfolding oneCode codeStored
+  code-read r w code x after (e, f) = subst⁻¹ (Reads D (ending code codes) uses 1 s names n p before after) e (go r w f)
+    where
+      go : (r : Parsed) → Reads D codes uses 0 s names n p before mid r → after ≡ codeStored code r mid
+          → Reads D (ending code codes) uses 1 s names n p before after (oneCode r)
+      go (Got g) (a, b) f = (
+        record { onward = a .onward; within = a .within; room = omega (arith, a .room) },
+        (λ q k. let o = b q k in
             record {
               tree = o .tree;
               read = o .read;
-              written = stores-then before (p .used) (codes q (o .tree)) (code ∷ []) mid after (g .used) (c .written) (c .used) t;
-              used = omega (arith, u, c .used, length-append (codes q (o .tree)) (code ∷ []));
-              slip = c .slip;
+              written = stores-then before (p .used) (codes q (o .tree)) (code ∷ []) mid after (g .used) (o .written) (o .used) f;
+              used = omega (arith, o .used, length-append (codes q (o .tree)) (code ∷ []));
+              slip = o .slip;
             }),
       )
+      go Wrong (a, b) f = (tt, b)
+      go Deep (a, b) f = (tt, b)
 
-  pub then-wrong : (r : Parsed) → r ≡ Wrong → Outcome Reads codes uses s names n p before mid r → (code : ℕ) (after : List ℕ) → Then code after Wrong
-  then-wrong r e w code after = (tt, λ q k. subst (Outcome Reads codes uses s names n p before mid) e w)
+-- A line made of one tree, which was read from a later place on where the slip i was remembered. What is wanted of the line: its sort, its
+-- slip, and its codes where no name has a slip.
+pub record Makes {A : Type 0} (codes′ : Query → A → List ℕ) (uses′ : A → List Use) (K : Line → Type 0) (i : ℕ) (q : Query) (l : Line) (a : A) : Type 0 where
+  pub sort : K l
+  pub slip : firstOf i (slipNumber (firstSlip q (uses′ a))) ≡ slipNumber (firstSlip q (uses l))
+  pub codes : firstOf i (slipNumber (firstSlip q (uses′ a))) ≡ 0 → codes′ q a ≡ lineCodes q l
+  pub count : length (codes′ q a) ≡ length (lineCodes q l)
 
-  pub then-deep : (r : Parsed) → r ≡ Deep → Outcome Reads codes uses s names n p before mid r → (code : ℕ) (after : List ℕ) → Then code after Deep
-  then-deep r e w code after = (tt, λ q k. subst (Outcome Reads codes uses s names n p before mid) e w)
+pub tree-line : {A : Type 0} (R : List Token → Found A) (codes : Query → A → List ℕ) (uses′ : A → List Use) (D : List Token → Found Line)
+    (K : Line → Type 0) (kind : A → Line) (s names : List ℕ) (n at later used i : ℕ) (before after : List ℕ)
+    → D (tokens (drop at s)) ≡ mapped kind (R (tokens (drop later s))) → at ≤ later
+    → ((q : Query) → Knows names n q → (a : A) → Makes codes uses′ K i q (kind a) a)
+    → (r : Parsed) → Reads R codes uses′ 1 s names n (record { at = later; used = used; slip = i }) before after r
+    → BodyOutcome D K s names n at used before after r
+tree-line R codes uses′ D K kind s names n at later used i before after e h makes (Got g) (a, b) = (
+  record { onward = omega (arith, a .onward); within = a .within; room = omega (arith, a .room) },
+  (λ q k. let o = b q k in
+      let m = makes q k (o .tree) in
+      record {
+        line = kind (o .tree);
+        sort = m .sort;
+        read = e ∙ ap (mapped kind) (o .read);
+        slip = o .slip ∙ m .slip;
+        written = λ z. o .written ∙ ap (sets before used) (m .codes (sym (o .slip) ∙ z));
+        used = o .used ∙ ap (λ j. used + j) (m .count);
+      }),
+)
+tree-line R codes uses′ D K kind s names n at later used i before after e h makes Wrong (a, b) = (tt, λ q k. e ∙ ap (mapped kind) (b q k))
+tree-line R codes uses′ D K kind s names n at later used i before after e h makes Deep (a, b) = (tt, λ q k. e ∙ ap (mapped kind) (b q k))
 
 -- a T in square brackets
 pub bracket-missing : (ts : List Token) → goesOn 91 ts ≡ false → bracketed ts ≡ wrong
@@ -84,111 +152,73 @@ module _ (s names : List ℕ) (n : ℕ) (p : Place) (next : ℕ) (m : ScannedMar
       bracket-opened (tokens (drop (p .at) s)) (goes-on s (p .at) 91 next m)
       ∙ ap (λ ts. andThen (condition ts) (λ t us. closes (byte "]") t us)) (passed s (p .at) 91 next m)
 
-  module _ (before after : List ℕ) (r : Parsed) (w : TestThen 6 s names n inside before after r) where
-    answer : (x : Parsed) → r ≡ x → (q : Query) → Knows names n q
-        → Answers (Is condition) (λ t. testCodes q t ++ (6 ∷ [])) testUses q s inside before after x
-    answer x e q k = subst (Answers (Is condition) (λ t. testCodes q t ++ (6 ∷ [])) testUses q s inside before after) e (w .1 q k)
+  pub bracket-failed : (before after : List ℕ) (r : Parsed) → TestThen 6 s names n inside before after r → Failed r
+      → Bracketed s names n p before after r
+  bracket-failed before after (Got g) w f = absurd f
+  bracket-failed before after Wrong (a, b) f = (tt, λ q k. opened ∙ ap (λ x. andThen x (λ t us. closes (byte "]") t us)) (b q k))
+  bracket-failed before after Deep (a, b) f = (tt, λ q k. opened ∙ ap (λ x. andThen x (λ t us. closes (byte "]") t us)) (b q k))
 
-    pub bracket-wrong : r ≡ Wrong → Bracketed s names n p before after Wrong
-    bracket-wrong e = (tt, λ q k. opened ∙ ap (λ x. andThen x (λ t us. closes (byte "]") t us)) (answer Wrong e q k))
+  module _ (before after : List ℕ) (r : Parsed) (g : Place) (e : r ≡ Got g) (w : TestThen 6 s names n inside before after r) where
+    found : TestThen 6 s names n inside before after (Got g)
+    found = subst (TestThen 6 s names n inside before after) e w
 
-    pub bracket-deep : r ≡ Deep → Bracketed s names n p before after Deep
-    bracket-deep e = (tt, λ q k. opened ∙ ap (λ x. andThen x (λ t us. closes (byte "]") t us)) (answer Deep e q k))
+    read-inside : (q : Query) (k : Knows names n q)
+        → bracketed (tokens (drop (p .at) s)) ≡ closes (byte "]") (found .1 q k .tree) (tokens (drop (g .at) s))
+    read-inside q k = opened ∙ ap (λ x. andThen x (λ t us. closes (byte "]") t us)) (found .1 q k .read)
 
-    module _ (g : Place) (e : r ≡ Got g) where
-      read-inside : (q : Query) (k : Knows names n q)
-          → bracketed (tokens (drop (p .at) s)) ≡ closes (byte "]") (answer (Got g) e q k .tree) (tokens (drop (g .at) s))
-      read-inside q k = opened ∙ ap (λ x. andThen x (λ t us. closes (byte "]") t us)) (answer (Got g) e q k .read)
+    pub bracket-unclosed : goesOn 93 (tokens (drop (g .at) s)) ≡ false → Bracketed s names n p before after Wrong
+    unfolding closes
+    bracket-unclosed h = (tt, λ q k. read-inside q k ∙ rw (h, closes))
 
-      pub bracket-unclosed : goesOn 93 (tokens (drop (g .at) s)) ≡ false → Bracketed s names n p before after Wrong
-      unfolding closes
-      bracket-unclosed h = (tt, λ q k. read-inside q k ∙ rw (h, closes))
-
-      pub bracket-got : (end : ℕ) → ScannedMark s (g .at) 93 end
-          → Bracketed s names n p before after (Got (record { at = end; used = g .used; slip = g .slip }))
-      unfolding closes
-      bracket-got end h = (ends, reads)
-        where
-          ends : Behind s (p .at) (p .used) 0 (record { at = end; used = g .used; slip = g .slip })
-          ends =
-              let b = behind-of s next (p .used) 1 r g e (w .0) in
-              record {
-                onward = omega (arith, m .after, b .onward, h .after);
-                within = h .within;
-                room = omega (arith, m .after, m .within, b .room, b .within, h .after, h .within);
-              }
-
-          reads : (q : Query) → Knows names n q
-              → ReadTree (Is bracketed) (λ t. testCodes q t ++ (6 ∷ [])) testUses q s p before after (record { at = end; used = g .used; slip = g .slip })
-          reads q k =
-              let o = answer (Got g) e q k in
+    pub bracket-got : (end : ℕ) → ScannedMark s (g .at) 93 end
+        → Bracketed s names n p before after (Got (record { at = end; used = g .used; slip = g .slip }))
+    bracket-got end h =
+        let b = found .0 in (
+          record {
+            onward = omega (arith, m .after, b .onward, h .after);
+            within = h .within;
+            room = omega (arith, m .after, m .within, b .room, b .within, h .after, h .within);
+          },
+          (λ q k. let o = found .1 q k in
               record {
                 tree = o .tree;
-                read = read-inside q k ∙ closed-by (o .tree) (tokens (drop (g .at) s)) (goes-on s (g .at) 93 end h) ∙ ap (got (o .tree)) (passed s (g .at) 93 end h);
+                read =
+                    read-inside q k ∙ closed-by (o .tree) (tokens (drop (g .at) s)) (goes-on s (g .at) 93 end h)
+                    ∙ ap (got (o .tree)) (passed s (g .at) 93 end h);
                 written = o .written;
                 used = o .used;
                 slip = o .slip;
-              }
+              }),
+        )
 
--- two of them, and a code behind
-module _ (s names : List ℕ) (n : ℕ) (p : Place) (before first : List ℕ) (r : Parsed) (w : Bracketed s names n p before first r) where
-  one : (x : Parsed) → r ≡ x → (q : Query) → Knows names n q
-      → Answers (Is bracketed) (λ t. testCodes q t ++ (6 ∷ [])) testUses q s p before first x
-  one x e q k = subst (Answers (Is bracketed) (λ t. testCodes q t ++ (6 ∷ [])) testUses q s p before first) e (w .1 q k)
-
-  pub limits-wrong : r ≡ Wrong → (code : ℕ) (after : List ℕ) → LimitsThen code s names n p before after Wrong
+-- two of them
+module _ (s names : List ℕ) (n : ℕ) (p : Place) (before first : List ℕ) where
+  pub limits-failed : (r : Parsed) → Bracketed s names n p before first r → Failed r → (code : ℕ) → LimitsThen code s names n p before first r
   unfolding limitsReader
-  limits-wrong e code after = (tt, λ q k. rw (one Wrong e q k))
+  limits-failed (Got g) w f code = absurd f
+  limits-failed Wrong (a, b) f code = (tt, λ q k. rw (b q k))
+  limits-failed Deep (a, b) f code = (tt, λ q k. rw (b q k))
 
-  pub limits-deep : r ≡ Deep → (code : ℕ) (after : List ℕ) → LimitsThen code s names n p before after Deep
+  pub limits-read : (r : Parsed) (g : Place) → r ≡ Got g → Bracketed s names n p before first r → (second : List ℕ) (u : Parsed)
+      → Bracketed s names n g first second u → Reads limitsReader limitCodes limitUses 0 s names n p before second u
   unfolding limitsReader
-  limits-deep e code after = (tt, λ q k. rw (one Deep e q k))
-
-  module _ (g : Place) (e : r ≡ Got g) (second : List ℕ) (u : Parsed) (v : Bracketed s names n g first second u) where
-    two : (x : Parsed) → u ≡ x → (q : Query) → Knows names n q
-        → Answers (Is bracketed) (λ t. testCodes q t ++ (6 ∷ [])) testUses q s g first second x
-    two x f q k = subst (Answers (Is bracketed) (λ t. testCodes q t ++ (6 ∷ [])) testUses q s g first second) f (v .1 q k)
-
-    pub limits-second-wrong : u ≡ Wrong → (code : ℕ) (after : List ℕ) → LimitsThen code s names n p before after Wrong
-    unfolding limitsReader
-    limits-second-wrong f code after = (tt, λ q k. rw (one (Got g) e q k .read, two Wrong f q k))
-
-    pub limits-second-deep : u ≡ Deep → (code : ℕ) (after : List ℕ) → LimitsThen code s names n p before after Deep
-    unfolding limitsReader
-    limits-second-deep f code after = (tt, λ q k. rw (one (Got g) e q k .read, two Deep f q k))
-
-    pub limits-got : (h : Place) → u ≡ Got h → (code used : ℕ) (after : List ℕ)
-        → (used ≡ h .used + 1) × (after ≡ sets second (h .used) (replicate 1 code))
-        → LimitsThen code s names n p before after (Got (record { at = h .at; used = used; slip = h .slip }))
-    unfolding limitsReader
-    limits-got h f code used after (i, j) = (ends, reads)
-      where
-        ends : Behind s (p .at) (p .used) 1 (record { at = h .at; used = used; slip = h .slip })
-        ends =
-            let a = behind-of s (p .at) (p .used) 0 r g e (w .0) in
-            let b = behind-of s (g .at) (g .used) 0 u h f (v .0) in
+  limits-read r g e w second u v = go u (subst (Bracketed s names n p before first) e w) v
+    where
+      go : (u : Parsed) → Bracketed s names n p before first (Got g) → Bracketed s names n g first second u
+          → Reads limitsReader limitCodes limitUses 0 s names n p before second u
+      go (Got h) (a, b) (c, d) = (
+        record { onward = omega (arith, a .onward, c .onward); within = c .within; room = omega (arith, a .room, c .room) },
+        (λ q k. let x = b q k in
+            let y = d q k in
+            let cs = ending 6 testCodes q (x .tree) in
+            let ds = ending 6 testCodes q (y .tree) in
             record {
-              onward = omega (arith, a .onward, b .onward);
-              within = b .within;
-              room = omega (arith, a .room, b .room, i);
-            }
-
-        reads : (q : Query) → Knows names n q
-            → ReadTree (Is limitsReader) (λ l. (testCodes q (l .from) ++ (6 ∷ [])) ++ ((testCodes q (l .to) ++ (6 ∷ [])) ++ (code ∷ [])))
-            (λ l. testUses (l .from) ++ testUses (l .to)) q s p before after (record { at = h .at; used = used; slip = h .slip })
-        reads q k =
-            let a = one (Got g) e q k in
-            let b = two (Got h) f q k in
-            let cs = testCodes q (a .tree) ++ (6 ∷ []) in
-            let ds = testCodes q (b .tree) ++ (6 ∷ []) in
-            let both = stores-then before (p .used) cs ds first second (g .used) (a .written) (a .used) (b .written) in
-            let long : h .used ≡ p .used + length (cs ++ ds) = omega (arith, a .used, b .used, length-append cs ds) in
-            record {
-              tree = record { from = a .tree; to = b .tree };
-              read = rw (a .read, b .read);
-              written =
-                  stores-then before (p .used) (cs ++ ds) (code ∷ []) second after (h .used) both long j
-                  ∙ ap (sets before (p .used)) (append-assoc cs ds (code ∷ []));
-              used = omega (arith, i, a .used, b .used, length-append cs (ds ++ (code ∷ [])), length-append ds (code ∷ []));
-              slip = slips-then q (testUses (a .tree)) (testUses (b .tree)) (p .slip) (g .slip) (h .slip) (a .slip) (b .slip);
-            }
+              tree = record { from = x .tree; to = y .tree };
+              read = rw (x .read, y .read);
+              written = stores-then before (p .used) cs ds first second (g .used) (x .written) (x .used) (y .written);
+              used = omega (arith, x .used, y .used, length-append cs ds);
+              slip = slips-then q (testUses (x .tree)) (testUses (y .tree)) (p .slip) (g .slip) (h .slip) (x .slip) (y .slip);
+            }),
+      )
+      go Wrong (a, b) (c, d) = (tt, λ q k. rw (b q k .read, d q k))
+      go Deep (a, b) (c, d) = (tt, λ q k. rw (b q k .read, d q k))

@@ -1,6 +1,6 @@
 -- Assumptions and claims: one E behind `empty` or `irreflexive`, or two with `in` between them.
 -- Assumes nothing.
-use Prim.Native.Nat.{ℕ, _+_, _≤_}
+use Prim.Native.Nat.{ℕ, _≤_}
 use native.Mathlib.Omega.{arith}
 use mathlib.Core.Path.{_≡_, refl, sym, ap, _∙_, subst}
 use mathlib.Core.Bool.{Bool, true, false}
@@ -12,20 +12,19 @@ use Rattle.claims.specs.Tokens as Notation
 use Rattle.claims.specs.Tokens.{tokens, reservedWords}
 use Rattle.claims.specs.Grammar.{Found, got, wrong, past, saysNext}
 use Rattle.claims.specs.Tree.{Tree, includes, empty, irreflexive, Line, assumeEmpty, assumeIrreflexive, claimLine}
-use Rattle.claims.specs.Lines.{choose, mapped, expression, includeReader, assumptions, claims}
+use Rattle.claims.specs.Lines.{choose, mapped, expression, includeReader, claims}
 use Rattle.claims.specs.Names.{treeUses, claimUses, uses, firstSlip}
 use Rattle.claims.specs.Query.{Query}
 use Rattle.codes.specs.Codes.{treeCodes, claimCodes, lineCodes}
 use Rattle.read_tests.specs.declared.Place.{Place}
 use Rattle.read_tests.specs.declared.Parsed.{Parsed}
 use Rattle.read_tests.specs.declared.Parsed.the-variants.{Got, Wrong, Deep}
-use Rattle.read_tests.specs.Places.{Is}
 use Rattle.read_names.specs.Keys.{Knows}
 use Rattle.read_names.specs.Slips.{slipNumber}
-use Rattle.read_bodies.specs.Bodies.{Answers, TreeThen, BodyOutcome, Bare, OneSided, oneSide}
+use Rattle.read_bodies.specs.Bodies.{ending, TreeThen, BodyOutcome, Bare, OneSided, oneSide}
 use Rattle.read_tests.proofs.Stores.{stores-then}
 use Rattle.read_names.proofs.Slips.{slips-then}
-use Rattle.read_bodies.proofs.Parts.{behind-of}
+use Rattle.read_bodies.proofs.Parts.{Failed, tree-line}
 use Rattle.read_bodies.proofs.NextWords.{SaysWord, keyword, choose-here, choose-next, choose-none}
 
 -- what is read from a later place on, under another reader
@@ -46,20 +45,14 @@ pub side-passed : (D : List Notation.Token → Found Line) (kind : Tree → Line
     → D (tokens (drop at s)) ≡ mapped kind (expression (tokens (drop later s))) → at ≤ later → (r : Parsed)
     → TreeThen code s names n (record { at = later; used = used; slip = 0 }) before after r
     → BodyOutcome D (Bare c) s names n at used before after r
-side-passed D kind code c i s names n at later used before after e h (Got g) (a, b) = (
-  record { onward = omega (arith, a .onward); within = a .within; room = omega (arith, a .room) },
-  (λ q m. let o = b q m in
-      record {
-        line = kind (o .tree);
-        sort = i .plain (o .tree);
-        read = e ∙ ap (mapped kind) (o .read);
-        slip = o .slip ∙ ap (λ us. slipNumber (firstSlip q us)) (sym (i .names (o .tree)));
-        written = λ z. o .written ∙ ap (sets before used) (sym (i .codes q (o .tree)));
-        used = o .used ∙ ap (λ cs. used + length cs) (sym (i .codes q (o .tree)));
-      }),
-)
-side-passed D kind code c i s names n at later used before after e h Wrong (a, b) = (tt, λ q m. e ∙ ap (mapped kind) (b q m))
-side-passed D kind code c i s names n at later used before after e h Deep (a, b) = (tt, λ q m. e ∙ ap (mapped kind) (b q m))
+side-passed D kind code c i s names n at later used before after e h =
+    tree-line expression (ending code treeCodes) treeUses D (Bare c) kind s names n at later used 0 before after e h
+    (λ q m x. record {
+      sort = i .plain x;
+      slip = ap (λ us. slipNumber (firstSlip q us)) (sym (i .names x));
+      codes = λ z. sym (i .codes q x);
+      count = ap length (sym (i .codes q x));
+    })
 
 module _ (f g : Tree → Line) (s : List ℕ) (at : ℕ) where
   pub side-empty : (e : ℕ) → SaysWord s at (keyword 9) e → choose (oneSide f g) (tokens (drop at s)) ≡ mapped f (expression (tokens (drop e s)))
@@ -93,10 +86,6 @@ pub claims-irreflexive : OneSided (λ e. claimLine (irreflexive e)) 138 true
 unfolding lineCodes claimCodes uses claimUses
 claims-irreflexive = record { codes = λ q e. refl; names = λ e. refl; plain = λ e. refl }
 
-pub assumptions-sides : assumptions ≡ oneSide assumeEmpty assumeIrreflexive
-unfolding assumptions oneSide
-assumptions-sides = refl
-
 -- a claim by its first word
 module _ (s : List ℕ) (at : ℕ) where
   pub claim-include : (e : ℕ) → SaysWord s at (keyword 10) e → choose claims (tokens (drop at s)) ≡ includeReader (tokens (drop e s))
@@ -129,32 +118,33 @@ abbrev start : ℕ → ℕ → Place
 start at used = record { at = at; used = used; slip = 0 }
 
 module _ (s names : List ℕ) (n at used : ℕ) (before mid : List ℕ) (r : Parsed) (w : TreeThen 135 s names n (start at used) before mid r) where
-  left : (x : Parsed) → r ≡ x → (q : Query) → Knows names n q
-      → Answers (Is expression) (λ e. treeCodes q e ++ (135 ∷ [])) treeUses q s (start at used) before mid x
-  left x e q m = subst (Answers (Is expression) (λ e. treeCodes q e ++ (135 ∷ [])) treeUses q s (start at used) before mid) e (w .1 q m)
-
-  pub include-wrong : r ≡ Wrong → (after : List ℕ) → BodyOutcome includeReader (Bare true) s names n at used before after Wrong
+  pub include-failed : Failed r → BodyOutcome includeReader (Bare true) s names n at used before mid r
   unfolding includeReader
-  include-wrong e after = (tt, λ q m. rw (left Wrong e q m, includeReader))
-
-  pub include-deep : r ≡ Deep → (after : List ℕ) → BodyOutcome includeReader (Bare true) s names n at used before after Deep
-  unfolding includeReader
-  include-deep e after = (tt, λ q m. rw (left Deep e q m, includeReader))
+  include-failed f = go r f w
+    where
+      go : (x : Parsed) → Failed x → TreeThen 135 s names n (start at used) before mid x
+          → BodyOutcome includeReader (Bare true) s names n at used before mid x
+      go (Got g) f w = absurd f
+      go Wrong f (a, b) = (tt, λ q m. rw (b q m, includeReader))
+      go Deep f (a, b) = (tt, λ q m. rw (b q m, includeReader))
 
   module _ (g : Place) (e : r ≡ Got g) where
+    left : TreeThen 135 s names n (start at used) before mid (Got g)
+    left = subst (TreeThen 135 s names n (start at used) before mid) e w
+
     pub include-missing : saysNext (keyword 8) (tokens (drop (g .at) s)) ≡ false → (after : List ℕ)
         → BodyOutcome includeReader (Bare true) s names n at used before after Wrong
     include-missing h after =
-        (tt, λ q m. let o = left (Got g) e q m in include-no (tokens (drop at s)) (tokens (drop (g .at) s)) (o .tree) (o .read) h)
+        (tt, λ q m. let o = left .1 q m in include-no (tokens (drop at s)) (tokens (drop (g .at) s)) (o .tree) (o .read) h)
 
     module _ (next : ℕ) (i : SaysWord s (g .at) (keyword 8) next) where
       joined : (q : Query) (m : Knows names n q)
           → includeReader (tokens (drop at s))
-          ≡ mapped (λ f. claimLine (includes (left (Got g) e q m .tree) f)) (expression (tokens (drop next s)))
+          ≡ mapped (λ f. claimLine (includes (left .1 q m .tree) f)) (expression (tokens (drop next s)))
       joined q m =
-          let o = left (Got g) e q m in
+          let o = left .1 q m in
           include-in (tokens (drop at s)) (tokens (drop (g .at) s)) (o .tree) (o .read) (i .says)
-          ∙ (ap (λ ts. mapped (λ f. claimLine (includes (left (Got g) e q m .tree) f)) (expression ts)) (i .passed))
+          ∙ (ap (λ ts. mapped (λ f. claimLine (includes (left .1 q m .tree) f)) (expression ts)) (i .passed))
 
       around : (xs ys : List ℕ) → (xs ++ (135 ∷ [])) ++ (ys ++ (136 ∷ [])) ≡ (xs ++ (135 ∷ ys)) ++ (136 ∷ [])
       around xs ys = simp append-assoc
@@ -164,13 +154,13 @@ module _ (s names : List ℕ) (n at used : ℕ) (before mid : List ℕ) (r : Par
           → BodyOutcome includeReader (Bare true) s names n at used before after x
       unfolding uses claimUses lineCodes claimCodes
       include-passed after (Got h) (a, b) =
-          let f = behind-of s at used 1 r g e (w .0) in (
+          let f = left .0 in (
             record {
               onward = omega (arith, f .onward, i .after, a .onward);
               within = a .within;
               room = omega (arith, f .room, f .within, i .after, i .within, a .room);
             },
-            (λ q m. let o = left (Got g) e q m in
+            (λ q m. let o = left .1 q m in
                 let p = b q m in
                 record {
                   line = claimLine (includes (o .tree) (p .tree));
@@ -192,6 +182,6 @@ module _ (s names : List ℕ) (n at used : ℕ) (before mid : List ℕ) (r : Par
                 }),
           )
       include-passed after Wrong (a, b) =
-          (tt, λ q m. joined q m ∙ ap (mapped (λ f. claimLine (includes (left (Got g) e q m .tree) f))) (b q m))
+          (tt, λ q m. joined q m ∙ ap (mapped (λ f. claimLine (includes (left .1 q m .tree) f))) (b q m))
       include-passed after Deep (a, b) =
-          (tt, λ q m. joined q m ∙ ap (mapped (λ f. claimLine (includes (left (Got g) e q m .tree) f))) (b q m))
+          (tt, λ q m. joined q m ∙ ap (mapped (λ f. claimLine (includes (left .1 q m .tree) f))) (b q m))

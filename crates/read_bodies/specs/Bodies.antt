@@ -23,7 +23,6 @@ use Rattle.read_names.specs.Keys.{Knows as Found-in}
 use Rattle.read_tests.specs.declared.Place.{Place}
 use Rattle.read_tests.specs.declared.Parsed.{Parsed}
 use Rattle.read_tests.specs.declared.Parsed.the-variants.{Got, Wrong, Deep}
-use Rattle.read_tests.specs.Places.{Is}
 use Rattle.read_names.specs.Slips.{firstOf, slipNumber}
 
 -- the place r behind what begins at `at` with `used` codes written: what is left of the line has room, with so many codes more
@@ -37,52 +36,71 @@ Ends s at used more (Got r) = Behind s at used more r
 Ends s at used more Wrong = Unit {0}
 Ends s at used more Deep = Unit {0}
 
--- What was read from the place p to the place r, in the lines q: the tree, its codes, and the first slip. `Reads ts x` says what the grammar
--- finds in the tokens ts.
-pub record ReadTree {A : Type 0} (Reads : List Piece → Found A → Type 0) (codes : A → List ℕ) (uses : A → List Use) (q : Query) (s : List ℕ)
+-- What the reader D of the grammar found from the place p to the place r, in the lines q: the tree, its codes, and the first slip.
+pub record ReadTree {A : Type 0} (D : List Piece → Found A) (codes : A → List ℕ) (uses : A → List Use) (q : Query) (s : List ℕ)
     (p : Place) (before after : List ℕ) (r : Place) : Type 0 where
   pub tree : A
-  pub read : Reads (tokens (drop (p .at) s)) (got tree (tokens (drop (r .at) s)))
+  pub read : D (tokens (drop (p .at) s)) ≡ got tree (tokens (drop (r .at) s))
   pub written : after ≡ sets before (p .used) (codes tree)
   pub used : r .used ≡ p .used + length (codes tree)
   pub slip : r .slip ≡ firstOf (p .slip) (slipNumber (firstSlip q (uses tree)))
 
-module _ {A : Type 0} (Reads : List Piece → Found A → Type 0) (codes : A → List ℕ) (uses : A → List Use) (q : Query) (s : List ℕ)
-    (p : Place) (before after : List ℕ) where
-  abbrev pub Answers : Parsed → Type 0
-  Answers (Got r) = ReadTree Reads codes uses q s p before after r
-  Answers Wrong = Reads (tokens (drop (p .at) s)) wrong
-  Answers Deep = Reads (tokens (drop (p .at) s)) deep
+module _ {A : Type 0} (D : List Piece → Found A) where
+  abbrev pub Answers : (A → List ℕ) → (A → List Use) → Query → List ℕ → Place → List ℕ → List ℕ → Parsed → Type 0
+  Answers codes uses q s p before after (Got r) = ReadTree D codes uses q s p before after r
+  Answers codes uses q s p before after Wrong = D (tokens (drop (p .at) s)) ≡ wrong
+  Answers codes uses q s p before after Deep = D (tokens (drop (p .at) s)) ≡ deep
+
+  -- so it is for every query whose names stand in the table; there may be so many codes more than bytes read
+  abbrev pub Reads : (Query → A → List ℕ) → (A → List Use) → ℕ → List ℕ → List ℕ → ℕ → Place → List ℕ → List ℕ → Parsed → Type 0
+  Reads codes uses more s names n p before after r =
+      Ends s (p .at) (p .used) more r × ((q : Query) → Found-in names n q → Answers (codes q) uses q s p before after r)
+
+-- a tree's codes with a code behind them
+abbrev pub ending : {A : Type 0} → ℕ → (Query → A → List ℕ) → Query → A → List ℕ
+ending code codes q a = codes q a ++ (code ∷ [])
+
+-- there is room for a code behind what was read; the place behind it, and the array with it
+abbrev pub Fits : Parsed → Type 0
+Fits (Got g) = g .used < 4096
+Fits Wrong = Unit {0}
+Fits Deep = Unit {0}
+
+unfoldable pub oneCode : Parsed → Parsed
+oneCode (Got g) = Got (record { at = g .at; used = g .used + 1; slip = g .slip })
+oneCode Wrong = Wrong
+oneCode Deep = Deep
+
+unfoldable pub codeStored : ℕ → Parsed → List ℕ → List ℕ
+codeStored code (Got g) out = sets out (g .used) (code ∷ [])
+codeStored code Wrong out = out
+codeStored code Deep out = out
 
 -- an E with a code behind it
 abbrev pub TreeThen : ℕ → List ℕ → List ℕ → ℕ → Place → List ℕ → List ℕ → Parsed → Type 0
-TreeThen code s names n p before after r =
-    Ends s (p .at) (p .used) 1 r
-    × ((q : Query) → Found-in names n q → Answers (Is expression) (λ e. treeCodes q e ++ (code ∷ [])) treeUses q s p before after r)
+TreeThen code s names n p before after r = Reads expression (ending code treeCodes) treeUses 1 s names n p before after r
 
 -- a T with a code behind it
 abbrev pub TestThen : ℕ → List ℕ → List ℕ → ℕ → Place → List ℕ → List ℕ → Parsed → Type 0
-TestThen code s names n p before after r =
-    Ends s (p .at) (p .used) 1 r
-    × ((q : Query) → Found-in names n q → Answers (Is condition) (λ t. testCodes q t ++ (code ∷ [])) testUses q s p before after r)
+TestThen code s names n p before after r = Reads condition (ending code testCodes) testUses 1 s names n p before after r
 
 -- a T in square brackets
 abbrev pub Bracketed : List ℕ → List ℕ → ℕ → Place → List ℕ → List ℕ → Parsed → Type 0
-Bracketed s names n p before after r =
-    Ends s (p .at) (p .used) 0 r
-    × ((q : Query) → Found-in names n q → Answers (Is bracketed) (λ t. testCodes q t ++ (TESTED ∷ [])) testUses q s p before after r)
+Bracketed s names n p before after r = Reads bracketed (ending TESTED testCodes) testUses 0 s names n p before after r
 
 -- `[T] [U]`
 unfoldable pub limitsReader : List Piece → Found Limit
 limitsReader ts = andThen (bracketed ts) (λ t us. mapped (λ u. record { from = t; to = u }) (bracketed us))
 
+abbrev pub limitCodes : Query → Limit → List ℕ
+limitCodes q l = ending TESTED testCodes q (l .from) ++ ending TESTED testCodes q (l .to)
+
+abbrev pub limitUses : Limit → List Use
+limitUses l = testUses (l .from) ++ testUses (l .to)
+
 -- both of them, and then a code
 abbrev pub LimitsThen : ℕ → List ℕ → List ℕ → ℕ → Place → List ℕ → List ℕ → Parsed → Type 0
-LimitsThen code s names n p before after r =
-    Ends s (p .at) (p .used) 1 r
-    × ((q : Query) → Found-in names n q
-    → Answers (Is limitsReader) (λ l. (testCodes q (l .from) ++ (TESTED ∷ [])) ++ ((testCodes q (l .to) ++ (TESTED ∷ [])) ++ (code ∷ [])))
-    (λ l. testUses (l .from) ++ testUses (l .to)) q s p before after r)
+LimitsThen code s names n p before after r = Reads limitsReader (ending code limitCodes) limitUses 1 s names n p before after r
 
 -- The reader D found a line of the sort in the tokens from `at` on, and the place r stands behind it. The codes are those of the line
 -- where no name has a slip.

@@ -2,6 +2,7 @@
 use read_tests::Parsed;
 use read_tests::Place;
 use read_tokens::Token;
+ghost use mathlib.Core.Path.{_≡_};
 ghost use mathlib.Core.Bool.{Bool, true, false};
 ghost use Prim.Native.Nat.{_+_, _-_, _≤_};
 ghost use lib.ListN.{length};
@@ -9,7 +10,7 @@ ghost use Rattle.claims.specs.Grammar.{nameNext};
 ghost use Rattle.claims.specs.Tree.{Name, Tree, Line, closedLine};
 ghost use Rattle.claims.specs.Lines.{declared, mapped, choose, letReader, withinReader, includeReader, claims};
 ghost use Rattle.read_tests.specs.Places.{Room};
-ghost use Rattle.read_bodies.specs.Bodies.{TestThen, TreeThen, Bracketed, LimitsThen, BodyOutcome, Bare, Declaration, Declares, DeclaresLet, OneSided, oneSide};
+ghost use Rattle.read_bodies.specs.Bodies.{Fits, oneCode, codeStored, TestThen, TreeThen, Bracketed, LimitsThen, BodyOutcome, Bare, Declaration, Declares, DeclaresLet, OneSided, oneSide};
 
 // A name that is declared, and the line's code.
 pub fn declaration(
@@ -25,20 +26,32 @@ pub fn declaration(
     ensures { λ r. ⌜ ((kind : Name → Line) → Declaration kind code → BodyOutcome (λ ts. mapped kind (declared ts)) (Declares kind (now (s .entry)) at) (now (s .entry)) (now (names .entry)) n at used (now (out .entry)) (now (out .exit)) r) ⌝ }
 {
     let t = read_tokens::token_at(s, at);
-    match t {
-        Token::Word(k, next) => {
-            let slip = read_names::declaration_slip(k, names, n);
-            let end = read_tests::write(out, used, 1, code);
-            Parsed::Got(Place {
-                at: next,
-                used: end,
-                slip,
-            })
-        }
-        Token::Mark(_, _) => Parsed::Wrong,
-        Token::Bad => Parsed::Wrong,
-        Token::End => Parsed::Wrong,
-    }
+    let Token::Word(k, next) = t else {
+        return Parsed::Wrong;
+    };
+    let slip = read_names::declaration_slip(k, names, n);
+    let end = read_tests::write(out, used, 1, code);
+    Parsed::Got(Place {
+        at: next,
+        used: end,
+        slip,
+    })
+}
+
+// A code behind what was read.
+fn code_behind(r: Parsed, code: u64, out: &mut [u64; 4096]) -> Parsed
+    requires { ⌜ Fits r ⌝ }
+    ensures { λ x. ⌜ (x ≡ oneCode r) × (now (out .exit) ≡ codeStored code r (now (out .entry))) ⌝ }
+{
+    let Parsed::Got(g) = r else {
+        return r;
+    };
+    let used = read_tests::write(out, g.used, 1, code);
+    Parsed::Got(Place {
+        at: g.at,
+        used,
+        slip: g.slip,
+    })
 }
 
 // A T, and a code behind it.
@@ -54,22 +67,11 @@ pub fn condition_then(
     ensures { λ r. ⌜ TestThen code (now (s .entry)) (now (names .entry)) n p (now (out .entry)) (now (out .exit)) r ⌝ }
 {
     let r = read_tests::condition(s, names, n, p, out);
-    match r {
-        Parsed::Got(g) => {
-            let used = read_tests::write(out, g.used, 1, code);
-            Parsed::Got(Place {
-                at: g.at,
-                used,
-                slip: g.slip,
-            })
-        }
-        Parsed::Wrong => Parsed::Wrong,
-        Parsed::Deep => Parsed::Deep,
-    }
+    code_behind(r, code, out)
 }
 
 // An E, and a code behind it.
-pub fn expression_then(
+fn expression_then(
     s: &[u8],
     names: &[u64],
     n: usize,
@@ -81,22 +83,11 @@ pub fn expression_then(
     ensures { λ r. ⌜ TreeThen code (now (s .entry)) (now (names .entry)) n p (now (out .entry)) (now (out .exit)) r ⌝ }
 {
     let r = read_exprs::expression(s, names, n, p, out);
-    match r {
-        Parsed::Got(g) => {
-            let used = read_tests::write(out, g.used, 1, code);
-            Parsed::Got(Place {
-                at: g.at,
-                used,
-                slip: g.slip,
-            })
-        }
-        Parsed::Wrong => Parsed::Wrong,
-        Parsed::Deep => Parsed::Deep,
-    }
+    code_behind(r, code, out)
 }
 
 // A T in square brackets.
-pub fn bracketed(s: &[u8], names: &[u64], n: usize, p: Place, out: &mut [u64; 4096]) -> Parsed
+fn bracketed(s: &[u8], names: &[u64], n: usize, p: Place, out: &mut [u64; 4096]) -> Parsed
     requires { ⌜ Room (now s) p ⌝ }
     ensures { λ r. ⌜ Bracketed (now (s .entry)) (now (names .entry)) n p (now (out .entry)) (now (out .exit)) r ⌝ }
 {
@@ -116,21 +107,18 @@ pub fn bracketed(s: &[u8], names: &[u64], n: usize, p: Place, out: &mut [u64; 40
         codes::TESTED,
         out,
     );
-    match r {
-        Parsed::Got(g) => {
-            let end = read_tests::mark_next(s, g.at, b']');
-            if end == 0 {
-                return Parsed::Wrong;
-            }
-            Parsed::Got(Place {
-                at: end,
-                used: g.used,
-                slip: g.slip,
-            })
-        }
-        Parsed::Wrong => Parsed::Wrong,
-        Parsed::Deep => Parsed::Deep,
+    let Parsed::Got(g) = r else {
+        return r;
+    };
+    let end = read_tests::mark_next(s, g.at, b']');
+    if end == 0 {
+        return Parsed::Wrong;
     }
+    Parsed::Got(Place {
+        at: end,
+        used: g.used,
+        slip: g.slip,
+    })
 }
 
 // `N = E`.
@@ -146,64 +134,39 @@ pub fn let_body(
     ensures { λ r. ⌜ BodyOutcome letReader (DeclaresLet (now (s .entry)) at) (now (s .entry)) (now (names .entry)) n at used (now (out .entry)) (now (out .exit)) r ⌝ }
 {
     let t = read_tokens::token_at(s, at);
-    match t {
-        Token::Word(k, next) => {
-            let start = read_tests::mark_next(s, next, b'=');
-            if start == 0 {
-                return Parsed::Wrong;
-            }
-            let slip = read_names::declaration_slip(k, names, n);
-            expression_then(
-                s,
-                names,
-                n,
-                Place {
-                    at: start,
-                    used,
-                    slip,
-                },
-                codes::LET_LINE,
-                out,
-            )
-        }
-        Token::Mark(_, _) => Parsed::Wrong,
-        Token::Bad => Parsed::Wrong,
-        Token::End => Parsed::Wrong,
+    let Token::Word(k, next) = t else {
+        return Parsed::Wrong;
+    };
+    let start = read_tests::mark_next(s, next, b'=');
+    if start == 0 {
+        return Parsed::Wrong;
     }
+    let slip = read_names::declaration_slip(k, names, n);
+    expression_then(
+        s,
+        names,
+        n,
+        Place {
+            at: start,
+            used,
+            slip,
+        },
+        codes::LET_LINE,
+        out,
+    )
 }
 
 // Two bracketed T, and a code behind them.
-pub fn limits(
-    s: &[u8],
-    names: &[u64],
-    n: usize,
-    p: Place,
-    code: u64,
-    out: &mut [u64; 4096],
-) -> Parsed
+fn limits(s: &[u8], names: &[u64], n: usize, p: Place, code: u64, out: &mut [u64; 4096]) -> Parsed
     requires { ⌜ p .used + (length (now s) - p .at) + 1 ≤ 4096 ⌝ }
     ensures { λ r. ⌜ LimitsThen code (now (s .entry)) (now (names .entry)) n p (now (out .entry)) (now (out .exit)) r ⌝ }
 {
     let t = bracketed(s, names, n, p, out);
-    match t {
-        Parsed::Got(g) => {
-            let u = bracketed(s, names, n, g, out);
-            match u {
-                Parsed::Got(h) => {
-                    let used = read_tests::write(out, h.used, 1, code);
-                    Parsed::Got(Place {
-                        at: h.at,
-                        used,
-                        slip: h.slip,
-                    })
-                }
-                Parsed::Wrong => Parsed::Wrong,
-                Parsed::Deep => Parsed::Deep,
-            }
-        }
-        Parsed::Wrong => Parsed::Wrong,
-        Parsed::Deep => Parsed::Deep,
-    }
+    let Parsed::Got(g) = t else {
+        return t;
+    };
+    let u = bracketed(s, names, n, g, out);
+    code_behind(u, code, out)
 }
 
 // `N [T] [U]`.
@@ -219,30 +182,26 @@ pub fn within_body(
     ensures { λ r. ⌜ BodyOutcome withinReader (Bare false) (now (s .entry)) (now (names .entry)) n at used (now (out .entry)) (now (out .exit)) r ⌝ }
 {
     let t = read_tokens::token_at(s, at);
-    match t {
-        Token::Word(k, next) => {
-            if read_names::reserved(k) {
-                return Parsed::Wrong;
-            }
-            let c = read_names::find(names, n, k);
-            let p = Place {
-                at: next,
-                used,
-                slip: read_names::slip_of(c, codes::A_RELATION, codes::A_LET),
-            };
-            limits(
-                s,
-                names,
-                n,
-                p,
-                codes::WITHIN_LINE + read_names::relation_number(c),
-                out,
-            )
-        }
-        Token::Mark(_, _) => Parsed::Wrong,
-        Token::Bad => Parsed::Wrong,
-        Token::End => Parsed::Wrong,
+    let Token::Word(k, next) = t else {
+        return Parsed::Wrong;
+    };
+    if read_names::reserved(k) {
+        return Parsed::Wrong;
     }
+    let c = read_names::find(names, n, k);
+    let p = Place {
+        at: next,
+        used,
+        slip: read_names::slip_of(c, codes::A_RELATION, codes::A_LET),
+    };
+    limits(
+        s,
+        names,
+        n,
+        p,
+        codes::WITHIN_LINE + read_names::relation_number(c),
+        out,
+    )
 }
 
 // `N`, a relation.
@@ -258,28 +217,24 @@ pub fn closed_body(
     ensures { λ r. ⌜ BodyOutcome (λ ts. nameNext closedLine ts) (Bare false) (now (s .entry)) (now (names .entry)) n at used (now (out .entry)) (now (out .exit)) r ⌝ }
 {
     let t = read_tokens::token_at(s, at);
-    match t {
-        Token::Word(k, next) => {
-            if read_names::reserved(k) {
-                return Parsed::Wrong;
-            }
-            let c = read_names::find(names, n, k);
-            let end = read_tests::write(
-                out,
-                used,
-                1,
-                codes::CLOSED_LINE + read_names::relation_number(c),
-            );
-            Parsed::Got(Place {
-                at: next,
-                used: end,
-                slip: read_names::slip_of(c, codes::A_RELATION, codes::A_LET),
-            })
-        }
-        Token::Mark(_, _) => Parsed::Wrong,
-        Token::Bad => Parsed::Wrong,
-        Token::End => Parsed::Wrong,
+    let Token::Word(k, next) = t else {
+        return Parsed::Wrong;
+    };
+    if read_names::reserved(k) {
+        return Parsed::Wrong;
     }
+    let c = read_names::find(names, n, k);
+    let end = read_tests::write(
+        out,
+        used,
+        1,
+        codes::CLOSED_LINE + read_names::relation_number(c),
+    );
+    Parsed::Got(Place {
+        at: next,
+        used: end,
+        slip: read_names::slip_of(c, codes::A_RELATION, codes::A_LET),
+    })
 }
 
 // `empty E` or `irreflexive E`, with a code for each.
@@ -330,7 +285,7 @@ pub fn one_side(
 }
 
 // `E in E`.
-pub fn two_sides(
+fn two_sides(
     s: &[u8],
     at: usize,
     names: &[u64],
@@ -349,28 +304,25 @@ pub fn two_sides(
         codes::INCLUDED,
         out,
     );
-    match r {
-        Parsed::Got(g) => {
-            let next = read_tests::word_next(s, g.at, read_names::word_key(read_names::IN));
-            if next == 0 {
-                return Parsed::Wrong;
-            }
-            expression_then(
-                s,
-                names,
-                n,
-                Place {
-                    at: next,
-                    used: g.used,
-                    slip: g.slip,
-                },
-                codes::CLAIM_INCLUDE,
-                out,
-            )
-        }
-        Parsed::Wrong => Parsed::Wrong,
-        Parsed::Deep => Parsed::Deep,
+    let Parsed::Got(g) = r else {
+        return r;
+    };
+    let next = read_tests::word_next(s, g.at, read_names::word_key(read_names::IN));
+    if next == 0 {
+        return Parsed::Wrong;
     }
+    expression_then(
+        s,
+        names,
+        n,
+        Place {
+            at: next,
+            used: g.used,
+            slip: g.slip,
+        },
+        codes::CLAIM_INCLUDE,
+        out,
+    )
 }
 
 // `include E in E`, `empty E` or `irreflexive E`.

@@ -10,17 +10,19 @@ use mathlib.Core.List.{List, [], _∷_, _++_, append-nil, append-assoc}
 use mathlib.Core.Option.{some, none}
 use lib.ListN.{length, set, length-append}
 use lib.Seq.{sets}
-use Rattle.claims.specs.Tree.{Name, TestTree, Tree, Claim, Line, testLine, relLine, letLine, neverLine, withinLine, closedLine, assumeEmpty, assumeIrreflexive, claimLine}
-use Rattle.claims.specs.Names.{declares?, kindOf}
+use Rattle.claims.specs.Tree.{Name, Claim, Line, testLine, relLine, letLine, neverLine, withinLine, closedLine, assumeEmpty, assumeIrreflexive, claimLine}
+use Rattle.claims.specs.Names.{declares?, uses, firstSlip}
 use Rattle.claims.specs.Query.{Query, each, tests, relations, lets, testNames, relationNames, claimsOf}
-use Rattle.claims.specs.Reading.{claimOf}
+use Rattle.claims.specs.Reading.{claimOf, crowded}
 use Rattle.claims.proofs.ClaimLast.{claims-none}
 use Rattle.codes.specs.Codes.{queryCodes, linesCodes, lineCodes}
 use Rattle.read_tokens.specs.Scan.{keyOf, Spelled}
+use Rattle.read_bodies.specs.Bodies.{Bare}
 use Rattle.read_lines.specs.State.{hasClaim, After, Knows}
+use Rattle.read_lines.specs.Declaring.{numberOf, oneMore, DeclaresName}
 use Rattle.read_names.specs.Keys.{entered}
 use Rattle.read_lines.specs.declared.State.{State}
-use Rattle.codes.proofs.NameKinds.{each-more, code-test, code-relation, code-let, other-test, other-relation, other-let}
+use Rattle.codes.proofs.NameKinds.{each-more}
 use Rattle.read_lines.proofs.NameTable.{knows-entered, knows-kept}
 
 -- the codes of a line more stand behind those before it
@@ -31,12 +33,12 @@ lines-more p (x ∷ q) l =
     ap (λ r. lineCodes p x ++ r) (lines-more (p ++ (x ∷ [])) q l ∙ ap (λ r. linesCodes (p ++ (x ∷ [])) q ++ lineCodes r l) (append-assoc p (x ∷ []) q))
     ∙ sym (append-assoc (lineCodes p x) (linesCodes (p ++ (x ∷ [])) q) (lineCodes (p ++ (x ∷ q)) l))
 
-pub codes-more : (q : Query) (l : Line) → queryCodes (q ++ (l ∷ [])) ≡ queryCodes q ++ lineCodes q l
+codes-more : (q : Query) (l : Line) → queryCodes (q ++ (l ∷ [])) ≡ queryCodes q ++ lineCodes q l
 unfolding queryCodes
 codes-more q l = lines-more [] q l
 
 -- a claim, if there was one or the line is one
-abbrev pub anyClaim : List Claim → Bool
+abbrev anyClaim : List Claim → Bool
 anyClaim [] = false
 anyClaim (c ∷ cs) = true
 
@@ -67,36 +69,26 @@ sets-append (x ∷ xs) ys b i =
     let e : suc i + length xs ≡ i + suc (length xs) = omega arith in
     sets-append xs ys (set b i x) (suc i) ∙ ap (λ j. sets (sets (set b i x) (suc i) xs) j ys) e
 
--- a line that declares no name
-pub record Plain (l : Line) : Type 0 where
+-- a line that declares no name; c says whether it is a claim
+pub record Plain (c : Bool) (l : Line) : Type 0 where
   pub tests : testNames l ≡ []
   pub relations : relationNames l ≡ []
   pub lets : lets l ≡ []
   pub none : (w : Name) → declares? l w ≡ none
+  pub claim : anyClaim (claimsOf l) ≡ c
+  pub free : (q : Query) → crowded q l ≡ false
 
-pub plain-never : (t : TestTree) → Plain (neverLine t)
-unfolding testNames relationNames lets declares?
-plain-never t = record { tests = refl; relations = refl; lets = refl; none = λ w. refl }
-
-pub plain-within : (n : Name) (t u : TestTree) → Plain (withinLine n t u)
-unfolding testNames relationNames lets declares?
-plain-within n t u = record { tests = refl; relations = refl; lets = refl; none = λ w. refl }
-
-pub plain-closed : (n : Name) → Plain (closedLine n)
-unfolding testNames relationNames lets declares?
-plain-closed n = record { tests = refl; relations = refl; lets = refl; none = λ w. refl }
-
-pub plain-empty : (e : Tree) → Plain (assumeEmpty e)
-unfolding testNames relationNames lets declares?
-plain-empty e = record { tests = refl; relations = refl; lets = refl; none = λ w. refl }
-
-pub plain-irreflexive : (e : Tree) → Plain (assumeIrreflexive e)
-unfolding testNames relationNames lets declares?
-plain-irreflexive e = record { tests = refl; relations = refl; lets = refl; none = λ w. refl }
-
-pub plain-claim : (c : Claim) → Plain (claimLine c)
-unfolding testNames relationNames lets declares?
-plain-claim c = record { tests = refl; relations = refl; lets = refl; none = λ w. refl }
+pub bare-plain : (c : Bool) (l : Line) → Bare c l → Plain c l
+unfolding testNames relationNames lets declares? claimsOf crowded
+bare-plain c (testLine n) h = absurd h
+bare-plain c (relLine n) h = absurd h
+bare-plain c (letLine n e) h = absurd h
+bare-plain c (neverLine t) h = record { tests = refl; relations = refl; lets = refl; none = λ w. refl; claim = sym h; free = λ q. refl }
+bare-plain c (withinLine n t u) h = record { tests = refl; relations = refl; lets = refl; none = λ w. refl; claim = sym h; free = λ q. refl }
+bare-plain c (closedLine n) h = record { tests = refl; relations = refl; lets = refl; none = λ w. refl; claim = sym h; free = λ q. refl }
+bare-plain c (assumeEmpty e) h = record { tests = refl; relations = refl; lets = refl; none = λ w. refl; claim = sym h; free = λ q. refl }
+bare-plain c (assumeIrreflexive e) h = record { tests = refl; relations = refl; lets = refl; none = λ w. refl; claim = sym h; free = λ q. refl }
+bare-plain c (claimLine x) h = record { tests = refl; relations = refl; lets = refl; none = λ w. refl; claim = sym h; free = λ q. refl }
 
 -- the state after a line more, by what the line declares
 module _ (q : Query) (st : State) (before out : List ℕ) (a : After q st before out) where
@@ -124,60 +116,31 @@ module _ (q : Query) (st : State) (before out : List ℕ) (a : After q st before
         claimed = c ∙ ap (λ b. b || anyClaim (claimsOf l)) (a .claimed) ∙ sym (claimed-more q l);
       }
 
-  -- a line that declares a test, a relation or a let
-  pub after-test : (w : Name) (u : ℕ) (out′ : List ℕ) → out′ ≡ sets out (st .used) (lineCodes q (testLine w))
-      → u ≡ st .used + length (lineCodes q (testLine w))
-      → After (q ++ (testLine w ∷ []))
-      (record { used = u; names = st .names + 1; tests = st .tests + 1; relations = st .relations; lets = st .lets; claimed = st .claimed })
-      before out′
-  unfolding testNames relationNames lets claimsOf
-  after-test w u out′ e f =
-      after-line (testLine w) _ out′ e f refl (sym (add-zero (st .relations))) (sym (add-zero (st .lets))) refl (sym (or-false (st .claimed)))
-
-  pub after-relation : (w : Name) (u : ℕ) (out′ : List ℕ) → out′ ≡ sets out (st .used) (lineCodes q (relLine w))
-      → u ≡ st .used + length (lineCodes q (relLine w))
-      → After (q ++ (relLine w ∷ []))
-      (record { used = u; names = st .names + 1; tests = st .tests; relations = st .relations + 1; lets = st .lets; claimed = st .claimed })
-      before out′
-  unfolding testNames relationNames lets claimsOf
-  after-relation w u out′ e f =
-      after-line (relLine w) _ out′ e f (sym (add-zero (st .tests))) refl (sym (add-zero (st .lets))) refl (sym (or-false (st .claimed)))
-
-  pub after-let : (w : Name) (t : Tree) (u : ℕ) (out′ : List ℕ) → out′ ≡ sets out (st .used) (lineCodes q (letLine w t))
-      → u ≡ st .used + length (lineCodes q (letLine w t))
-      → After (q ++ (letLine w t ∷ []))
-      (record { used = u; names = st .names + 1; tests = st .tests; relations = st .relations; lets = st .lets + 1; claimed = st .claimed })
-      before out′
-  unfolding testNames relationNames lets claimsOf
-  after-let w t u out′ e f =
-      after-line (letLine w t) _ out′ e f (sym (add-zero (st .tests))) (sym (add-zero (st .relations))) refl refl (sym (or-false (st .claimed)))
+  -- a line that declares a name of the kind `of`
+  pub after-declared : (of : ℕ) (w : Name) (l : Line) → DeclaresName of w l → (u : ℕ) (out′ : List ℕ) → out′ ≡ sets out (st .used) (lineCodes q l)
+      → u ≡ st .used + length (lineCodes q l) → After (q ++ (l ∷ [])) (oneMore of u st) before out′
+  unfolding oneMore
+  after-declared of w l d u out′ e f =
+      after-line l _ out′ e f (ap (λ i. st .tests + i) (sym (d .tests))) (ap (λ i. st .relations + i) (sym (d .relations)))
+      (ap (λ i. st .lets + i) (sym (d .lets))) (omega (arith, d .tests, d .relations, d .lets, d .one))
+      (sym (or-false (st .claimed)) ∙ ap (λ cs. st .claimed || anyClaim cs) (sym (d .unclaimed)))
 
   -- a line that declares nothing, which may be the claim
-  pub after-plain : (l : Line) (c : Bool) (u : ℕ) (out′ : List ℕ) → Plain l → c ≡ (st .claimed || anyClaim (claimsOf l))
-      → out′ ≡ sets out (st .used) (lineCodes q l) → u ≡ st .used + length (lineCodes q l)
+  pub after-plain : (c : Bool) (l : Line) → Plain c l → (u : ℕ) (out′ : List ℕ) → out′ ≡ sets out (st .used) (lineCodes q l)
+      → u ≡ st .used + length (lineCodes q l)
       → After (q ++ (l ∷ []))
-      (record { used = u; names = st .names; tests = st .tests; relations = st .relations; lets = st .lets; claimed = c })
+      (record { used = u; names = st .names; tests = st .tests; relations = st .relations; lets = st .lets; claimed = st .claimed || c })
       before out′
-  after-plain l c u out′ p i e f =
+  after-plain c l p u out′ e f =
       after-line l _ out′ e f (omega (arith, ap length (p .tests))) (omega (arith, ap length (p .relations))) (omega (arith, ap length (p .lets)))
-      (omega (arith, ap length (p .tests), ap length (p .relations), ap length (p .lets))) i
+      (omega (arith, ap length (p .tests), ap length (p .relations), ap length (p .lets))) (ap (λ x. st .claimed || x) (sym (p .claim)))
 
 -- the table of names after a line more
 module _ (names : List ℕ) (n : ℕ) (q : Query) (k : Knows names n q) where
-  pub knows-test : (w : Name) (c : ℕ) → Spelled w → n < 64 → kindOf q w ≡ none → c ≡ 16 + length (tests q)
-      → Knows (entered names n (keyOf w) c) (n + 1) (q ++ (testLine w ∷ []))
-  knows-test w c s h e f =
-      knows-entered names n q (testLine w) w c k s h e (λ v. other-test w v) (code-test q w e ∙ sym f) (omega arith)
+  pub knows-declared : (of : ℕ) (w : Name) (l : Line) → DeclaresName of w l → (c : ℕ) → Spelled w → n < 64 → firstSlip q (uses l) ≡ none
+      → c ≡ of + numberOf of q → Knows (entered names n (keyOf w) c) (n + 1) (q ++ (l ∷ []))
+  knows-declared of w l d c s h e f =
+      knows-entered names n q l w c k s h (d .fresh q e) (d .others) (d .coded q (d .fresh q e) ∙ sym f) (omega (arith, d .code))
 
-  pub knows-relation : (w : Name) (c : ℕ) → Spelled w → n < 64 → kindOf q w ≡ none → c ≡ 32 + length (relations q)
-      → Knows (entered names n (keyOf w) c) (n + 1) (q ++ (relLine w ∷ []))
-  knows-relation w c s h e f =
-      knows-entered names n q (relLine w) w c k s h e (λ v. other-relation w v) (code-relation q w e ∙ sym f) (omega arith)
-
-  pub knows-let : (w : Name) (t : Tree) (c : ℕ) → Spelled w → n < 64 → kindOf q w ≡ none → c ≡ 64 + length (each lets q)
-      → Knows (entered names n (keyOf w) c) (n + 1) (q ++ (letLine w t ∷ []))
-  knows-let w t c s h e f =
-      knows-entered names n q (letLine w t) w c k s h e (λ v. other-let w v t) (code-let q w t e ∙ sym f) (omega arith)
-
-  pub knows-plain : (l : Line) → Plain l → Knows names n (q ++ (l ∷ []))
-  knows-plain l p = knows-kept names n q l k (p .none)
+  pub knows-plain : (c : Bool) (l : Line) → Plain c l → Knows names n (q ++ (l ∷ []))
+  knows-plain c l p = knows-kept names n q l k (p .none)

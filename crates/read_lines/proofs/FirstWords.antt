@@ -1,27 +1,30 @@
--- A line by its first word, and the fate of a line as a whole.
+-- A line by its first word, and the fate of a line as a whole. The idea: the place of a word among the line words, found by its key, is the
+-- place of what the word chooses in the table of line kinds.
 -- Assumes nothing.
-use Prim.Native.Nat.{ℕ, _+_, _-_, _<_}
+use Prim.Native.Nat.{ℕ, zero, suc, _+_, _-_, _≤_, _<_}
 use native.Mathlib.Omega.{arith}
+use native.Mathlib.Nat.{add-zero, zero-add}
+use native.Mathlib.Numerals.{add-one}
 use mathlib.Core.Path.{_≡_, refl, sym, ap, _∙_, subst}
-use mathlib.Core.Bool.{Bool, true, false}
-use mathlib.Core.List.{List, _∷_}
+use mathlib.Core.Bool.{Bool, true, false, cond}
+use mathlib.Core.List.{List, [], _∷_, _++_, map}
 use mathlib.Core.Option.{Option, some, none}
-use lib.ListN.{length, drop}
+use lib.ListN.{length, drop, getD}
 use Rattle.claims.specs.Bytes.{RawLine, same}
 use Rattle.claims.specs.Tokens as Notation
 use Rattle.claims.specs.Tokens.{tokens, reservedWords}
-use Rattle.claims.specs.Grammar.{Found, wrong, nameNext}
-use Rattle.claims.specs.Tree.{Name, Claim, Line, testLine, relLine, neverLine, closedLine}
-use Rattle.claims.specs.Lines.{choose, mapped, declared, condition, letReader, withinReader, assumptions, claims, lineKinds, line}
+use Rattle.claims.specs.Grammar.{Found, wrong}
+use Rattle.claims.specs.Tree.{Name, Claim, Line}
+use Rattle.claims.specs.Lines.{Choice, choose, lineKinds, line}
 use Rattle.claims.specs.Query.{Query}
 use Rattle.claims.specs.Reading.{claimOf, readLine}
 use Rattle.claims.specs.Refusals.{afterClaim, Result, refuse}
-use Rattle.claims.proofs.Results.{same-is-equal}
 use Rattle.read_tokens.specs.declared.Key.{Key}
 use Rattle.read_tokens.specs.declared.Token.{Token}
 use Rattle.read_tokens.specs.declared.Token.the-variants.{Word, Mark, Bad, End}
 use Rattle.read_tokens.specs.Scan.{keyOf, tokenAt, Spelled}
 use Rattle.read_names.specs.Keys.{sameKey, wordKey}
+use Rattle.read_names.proofs.Names.{same-key, reserved-name}
 use Rattle.read_tokens.proofs.Tokens.{Scanned, ScannedWord}
 use Rattle.refusals.specs.declared.Reason.the-variants.{Notation as BadNotation, AfterClaim}
 use Rattle.read_lines.specs.declared.State.{State}
@@ -29,78 +32,95 @@ use Rattle.read_lines.specs.declared.LineRead.{LineRead}
 use Rattle.read_lines.specs.declared.LineRead.the-variants.{Taken, Refused}
 use Rattle.read_lines.specs.State.{lineFate, hasClaim, After, ReadsLine}
 use Rattle.refusals.specs.Causes.{causeOf}
-use Rattle.read_lines.specs.Kinds.{wholeLine, KindSays, KindOutcome}
-use Rattle.read_bodies.proofs.NextWords.{keyword, key-is, choose-next, choose-none, NoWord, token-found}
+use Rattle.read_lines.specs.Kinds.{wholeLine, KindSays, KindOutcome, kindPlace, readsAt}
+use Rattle.read_bodies.proofs.NextWords.{choose-here, choose-next, choose-none, NoWord, token-found}
 use Rattle.read_lines.proofs.Fates.{fate-wrong}
-
--- whether a word is the nth that is no name, by the code's test
-pub says-kind : (i : ℕ) (x k : Key) (b v : Bool) (w : Name) → i < 14 → x ≡ wordKey i → b ≡ sameKey x k → b ≡ v → k ≡ keyOf w → Spelled w
-    → same (keyword i) w ≡ v
-says-kind i x k b v w h e f g ke sp = sym (key-is i x k w h e ke sp) ∙ sym f ∙ g
 
 -- what a line with the word w in front is read by
 abbrev pub After-word : Name → List Notation.Token → Found Line
 After-word w ts = choose lineKinds (Notation.word w ∷ ts)
 
-chosen : (i : ℕ) (w : Name) (D : List Notation.Token → Found Line) → ((ts : List Notation.Token) → After-word (keyword i) ts ≡ D ts)
-    → same (keyword i) w ≡ true → (ts : List Notation.Token) → After-word w ts ≡ D ts
-chosen i w D h e ts = ap (λ x. After-word x ts) (sym (same-is-equal (keyword i) w e)) ∙ h ts
+-- the words of the choices
+abbrev wordsOf : List Choice → List Name
+wordsOf cs = map (λ (c : Choice). c .says) cs
 
-module _ (w : Name) where
-  pub chosen-test : same (keyword 0) w ≡ true → (ts : List Notation.Token) → After-word w ts ≡ mapped testLine (declared ts)
-  unfolding choose lineKinds reservedWords
-  chosen-test = chosen 0 w (λ ts. mapped testLine (declared ts)) (λ ts. refl)
+-- the place of a word among the choices, by its key: what it chooses stands there
+abbrev AllSpelled : List Choice → Type 0
+AllSpelled cs = (n : ℕ) → n < length cs → Spelled (getD (wordsOf cs) n [])
 
-  pub chosen-relation : same (keyword 1) w ≡ true → (ts : List Notation.Token) → After-word w ts ≡ mapped relLine (declared ts)
-  unfolding choose lineKinds reservedWords
-  chosen-relation = chosen 1 w (λ ts. mapped relLine (declared ts)) (λ ts. refl)
+place-chosen : (w : Name) → Spelled w → (ts : List Notation.Token) (cs : List Choice) → AllSpelled cs
+    → choose cs (Notation.word w ∷ ts) ≡ readsAt cs (kindPlace cs (keyOf w)) ts
+unfolding kindPlace readsAt
+place-chosen w sp ts [] h = choose-none (Notation.word w ∷ ts)
+place-chosen w sp ts (c ∷ cs) h =
+    go (sameKey (keyOf (c .says)) (keyOf w)) (sym (same-key (c .says) w (h 0 (omega arith)) sp))
+    (place-chosen w sp ts cs (λ n i. h (suc n) (omega arith)))
+  where
+    go : (b : Bool) → same (c .says) w ≡ b → choose cs (Notation.word w ∷ ts) ≡ readsAt cs (kindPlace cs (keyOf w)) ts
+        → choose (c ∷ cs) (Notation.word w ∷ ts) ≡ readsAt (c ∷ cs) (cond b 0 (suc (kindPlace cs (keyOf w)))) ts
+    go true e f = choose-here c cs (Notation.word w ∷ ts) e
+    go false e f = choose-next c cs (Notation.word w ∷ ts) e ∙ f
 
-  pub chosen-let : same (keyword 2) w ≡ true → (ts : List Notation.Token) → After-word w ts ≡ letReader ts
-  unfolding choose lineKinds reservedWords
-  chosen-let = chosen 2 w letReader (λ ts. refl)
+-- the search for the place, from the nth line word on
+place-from : (k : Key) (cs : List Choice) (n : ℕ) → n < length cs
+    → kindPlace (drop n cs) k ≡ cond (sameKey (keyOf (getD (wordsOf cs) n [])) k) 0 (suc (kindPlace (drop (suc n) cs) k))
+unfolding kindPlace
+place-from k [] n h = absurd (omega arith)
+place-from k (c ∷ cs) zero h = refl
+place-from k (c ∷ cs) (suc n) h = place-from k cs n (omega arith)
 
-  pub chosen-never : same (keyword 3) w ≡ true → (ts : List Notation.Token) → After-word w ts ≡ mapped neverLine (condition ts)
-  unfolding choose lineKinds reservedWords
-  chosen-never = chosen 3 w (λ ts. mapped neverLine (condition ts)) (λ ts. refl)
+front-word : (xs ys : List Name) (n : ℕ) → n < length xs → getD (xs ++ ys) n [] ≡ getD xs n []
+front-word [] ys n h = absurd (omega arith)
+front-word (x ∷ xs) ys zero h = refl
+front-word (x ∷ xs) ys (suc n) h = front-word xs ys n (omega arith)
 
-  pub chosen-within : same (keyword 4) w ≡ true → (ts : List Notation.Token) → After-word w ts ≡ withinReader ts
-  unfolding choose lineKinds reservedWords
-  chosen-within = chosen 4 w withinReader (λ ts. refl)
+line-key : (n : ℕ) → n < 8 → wordKey n ≡ keyOf (getD (wordsOf lineKinds) n [])
+unfolding wordKey lineKinds reservedWords
+line-key n h = ap keyOf (front-word (wordsOf lineKinds) (drop 8 reservedWords) n h)
 
-  pub chosen-closed : same (keyword 5) w ≡ true → (ts : List Notation.Token) → After-word w ts ≡ nameNext closedLine ts
-  unfolding choose lineKinds reservedWords
-  chosen-closed = chosen 5 w (λ ts. nameNext closedLine ts) (λ ts. refl)
+kinds-spelled : AllSpelled lineKinds
+unfolding lineKinds reservedWords
+kinds-spelled n h = subst Spelled (front-word (wordsOf lineKinds) (drop 8 reservedWords) n h) (reserved-name n (omega arith))
 
-  pub chosen-assume : same (keyword 6) w ≡ true → (ts : List Notation.Token) → After-word w ts ≡ choose assumptions ts
-  unfolding choose lineKinds reservedWords
-  chosen-assume = chosen 6 w (choose assumptions) (λ ts. refl)
+module _ (k : Key) (n : ℕ) (h : n < 8) (x : Key) (b : Bool) (word : x ≡ wordKey n) (test : b ≡ sameKey x k) where
+  place-now : kindPlace (drop n lineKinds) k ≡ cond b 0 (suc (kindPlace (drop (suc n) lineKinds) k))
+  unfolding lineKinds
+  place-now =
+      place-from k lineKinds n h
+      ∙ ap (λ y. cond y 0 (suc (kindPlace (drop (suc n) lineKinds) k))) (ap (λ y. sameKey y k) (sym (line-key n h)) ∙ ap (λ y. sameKey y k) (sym word) ∙ sym test)
 
-  pub chosen-claim : same (keyword 7) w ≡ true → (ts : List Notation.Token) → After-word w ts ≡ choose claims ts
-  unfolding choose lineKinds reservedWords
-  chosen-claim = chosen 7 w (choose claims) (λ ts. refl)
+  pub place-here : b ≡ true → n + kindPlace (drop n lineKinds) k ≡ n
+  place-here e = ap (λ i. n + i) (place-now ∙ rw e) ∙ add-zero n
 
-  pub chosen-none : same (keyword 0) w ≡ false → same (keyword 1) w ≡ false → same (keyword 2) w ≡ false → same (keyword 3) w ≡ false
-      → same (keyword 4) w ≡ false → same (keyword 5) w ≡ false → same (keyword 6) w ≡ false → same (keyword 7) w ≡ false
-      → (ts : List Notation.Token) → After-word w ts ≡ wrong
-  unfolding lineKinds reservedWords
-  chosen-none a b c d e f g h ts =
-      let us : List Notation.Token = Notation.word w ∷ ts in
-      choose-next _ _ us a ∙ choose-next _ _ us b ∙ choose-next _ _ us c ∙ choose-next _ _ us d ∙ choose-next _ _ us e ∙ choose-next _ _ us f
-      ∙ choose-next _ _ us g ∙ choose-next _ _ us h ∙ choose-none us
+  pub place-next : b ≡ false → (n + 1) + kindPlace (drop (n + 1) lineKinds) k ≡ n + kindPlace (drop n lineKinds) k
+  place-next e =
+      let f : kindPlace (drop n lineKinds) k ≡ suc (kindPlace (drop (suc n) lineKinds) k) = place-now ∙ rw e in
+      rw (add-one n) (omega (arith, f))
+
+pub place-start : (k : Key) → 0 + kindPlace (drop 0 lineKinds) k ≡ kindPlace lineKinds k
+place-start k = zero-add (kindPlace lineKinds k)
+
+pub place-end : (k : Key) (n : ℕ) → n ≤ 8 → 8 ≤ n → n + kindPlace (drop n lineKinds) k ≡ 8
+unfolding lineKinds kindPlace
+place-end k n h i = let e : n ≡ 8 = omega arith in rw e
 
 -- the same line under another reader
-pub via-kind : (D E : List Notation.Token → Found Line) (s : List ℕ) (at : ℕ) (ended : Bool) (st : State) (names out : List ℕ) (l : LineRead)
+via-kind : (D E : List Notation.Token → Found Line) (s : List ℕ) (at : ℕ) (ended : Bool) (st : State) (names out : List ℕ) (l : LineRead)
     (names′ out′ : List ℕ) → ((ts : List Notation.Token) → E ts ≡ D ts) → KindOutcome D s at ended st names out l names′ out′
     → KindOutcome E s at ended st names out l names′ out′
 via-kind D E s at ended st names out l names′ out′ e h q before a k =
     subst (λ x. KindSays (λ n. readLine q n (wholeLine ended x)) q (st .used + (length s - at) + 1) before names′ out′ l)
     (sym (e (tokens (drop at s)))) (h q before a k)
 
-pub kind-refused : (E : List Notation.Token → Found Line) (s : List ℕ) (at : ℕ) (ended : Bool) (st : State) (names out names′ out′ : List ℕ)
-    → ((ts : List Notation.Token) → E ts ≡ wrong) → KindOutcome E s at ended st names out (Refused BadNotation) names′ out′
-unfolding causeOf
-kind-refused E s at ended st names out names′ out′ e q before a k n =
-    fate-wrong q ended n (E (tokens (drop at s))) (e (tokens (drop at s)))
+-- so for the reader that the word w chooses, where x is the place of its key
+pub kind-at : (k : Key) (x : ℕ) → x ≡ kindPlace lineKinds k → (w : Name) → Spelled w → k ≡ keyOf w → (s : List ℕ) (at : ℕ) (ended : Bool) (st : State)
+    (names out : List ℕ) (l : LineRead) (names′ out′ : List ℕ) → KindOutcome (readsAt lineKinds x) s at ended st names out l names′ out′
+    → KindOutcome (After-word w) s at ended st names out l names′ out′
+kind-at k x place w sp key s at ended st names out l names′ out′ h =
+    via-kind (readsAt lineKinds x) (After-word w) s at ended st names out l names′ out′
+    (λ ts. place-chosen w sp ts lineKinds kinds-spelled
+    ∙ ap (λ i. readsAt lineKinds i ts) (ap (kindPlace lineKinds) (sym key) ∙ sym place))
+    h
 
 -- the fate of a line, where there was a claim and where there was none
 claim-there : (q : Query) (n : ℕ) (raw : RawLine) → hasClaim q ≡ true → lineFate q n raw ≡ refuse afterClaim n
@@ -146,11 +166,11 @@ module _ (s : List ℕ) (ended : Bool) (st : State) (names out : List ℕ) where
     no-kind Bad n h = ap (choose lineKinds) (h .1)
     no-kind End n h = ap (choose lineKinds) h
 
-    pub no-word-first : (t u : Token) → t ≡ tokenAt s 0 → t ≡ u → NoWord u → (names′ out′ : List ℕ)
+    pub no-word-first : (t : Token) → t ≡ tokenAt s 0 → NoWord t → (names′ out′ : List ℕ)
         → ReadsLine raw st names out (Refused BadNotation) names′ out′
     unfolding causeOf
-    no-word-first t u e h w names′ out′ q before a k n =
-        fate-is q before a n wrong (no-kind u w (token-found s 0 t u e h)) ∙ fate-wrong q ended n wrong refl
+    no-word-first t e w names′ out′ q before a k n =
+        fate-is q before a n wrong (no-kind t w (token-found s 0 t t e refl)) ∙ fate-wrong q ended n wrong refl
 
     pub word-first : (k : Key) (at : ℕ) (f : ScannedWord s 0 k at) (l : LineRead) (names′ out′ : List ℕ)
         → KindOutcome (After-word (f .spelling)) s at ended st names out l names′ out′ → ReadsLine raw st names out l names′ out′

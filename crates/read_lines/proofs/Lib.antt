@@ -4,6 +4,8 @@ pub mod Declared
 -- The end of a line, and its fate.
 pub mod LineEnds
 pub mod Fates
--- Lines that are taken, and the first word of a line.
+-- Lines that declare a name, lines that are taken, and the first word of a line.
+pub mod Declaring
 pub mod Taken
+pub mod Sorts
 pub mod FirstWords

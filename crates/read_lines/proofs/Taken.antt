@@ -1,25 +1,25 @@
--- A line is taken or refused: what the state, the table of names and the codes are after it, by its kind.
+-- A line is taken or refused: what the state, the table of names and the codes are after it. The idea: the check of the line decides, and what
+-- its body promises is carried over by two laws, one for lines that declare a name and one for those that declare none.
 -- Assumes nothing.
 use Prim.Native.Nat.{ℕ, _+_, _-_, _≤_, _<_}
 use native.Mathlib.Omega.{arith}
-use mathlib.Core.Path.{_≡_, refl, sym, ap, _∙_, subst}
-use mathlib.Core.Bool.{Bool, true, false, _||_}
+use mathlib.Core.Path.{_≡_, refl, sym, ap, _∙_, subst, subst⁻¹}
+use mathlib.Core.Bool.{Bool, true, false, cond}
+use lib.Dec.{eqb, leb}
 use mathlib.Core.List.{List, [], _∷_, _++_}
 use mathlib.Core.Option.{none}
 use lib.ListN.{length, drop, length-map}
 use lib.Seq.{sets}
-use borrow.Author.Tests.{le-leb, lt-leb}
+use borrow.Author.Tests.{leb-false}
 use Rattle.claims.specs.Tokens as Notation
 use Rattle.claims.specs.Tokens.{tokens}
 use Rattle.claims.specs.Grammar.{Found}
-use Rattle.claims.specs.Tree.{Tree, Line, testLine, relLine, letLine, neverLine, withinLine, closedLine, assumeEmpty, assumeIrreflexive, claimLine}
-use Rattle.claims.specs.Lines.{mapped, declared, letReader}
-use Rattle.claims.specs.Names.{treeUses, uses, firstSlip}
-use Rattle.claims.specs.Query.{Query, Bound, each, tests, relations, lets, claimsOf}
+use Rattle.claims.specs.Tree.{Tree, Line}
+use Rattle.claims.specs.Names.{uses, firstSlip}
+use Rattle.claims.specs.Query.{Query, Bound, each, tests, relations, lets}
 use Rattle.claims.specs.Reading.{crowded, readLine}
 use Rattle.claims.specs.Refusals.{Result, ok, refuse}
 use Rattle.codes.specs.Codes.{letNames, lineCodes}
-use Rattle.read_tokens.specs.declared.Key.{Key}
 use Rattle.read_tokens.specs.Scan.{tokenAt}
 use Rattle.read_tests.specs.declared.Parsed.{Parsed}
 use Rattle.read_lines.specs.declared.Checked.{Checked}
@@ -33,46 +33,12 @@ use Rattle.read_names.specs.Keys as Keys
 use Rattle.read_lines.specs.State.{After, Small, Knows}
 use Rattle.refusals.specs.Causes.{causeOf}
 use Rattle.read_names.specs.Keys.{entered}
-use Rattle.read_lines.specs.Kinds.{checked, plainRead, wholeLine, Takes, KindSays, KindOutcome}
-use Rattle.read_bodies.specs.Bodies.{Body, BodySays, BodyOutcome, Bare, wordOf, Declares, DeclaresLet}
+use Rattle.read_lines.specs.Declaring.{countOf, numberOf, mostOf, oneIf, oneMore, declaredRead, declaredNames, DeclaresNext}
+use Rattle.read_lines.specs.Kinds.{checked, plainRead, wholeLine, KindSays, KindOutcome}
+use Rattle.read_bodies.specs.Bodies.{Body, BodySays, BodyOutcome, Bare, wordOf}
 use Rattle.read_bodies.proofs.Parts.{behind-of}
-use Rattle.read_lines.proofs.Declared.{anyClaim, Plain, plain-never, plain-within, plain-closed, plain-empty, plain-irreflexive, plain-claim, after-test, after-relation, after-let, after-plain, knows-test, knows-relation, knows-let, knows-plain}
-use Rattle.read_lines.proofs.Fates.{Whole, fine-whole, faulty-fate, fate-crowded, fate-taken, clean-slips, fresh-name}
-
-bare-plain : (c : Bool) (l : Line) → Bare c l → Plain l
-bare-plain c (testLine n) h = absurd h
-bare-plain c (relLine n) h = absurd h
-bare-plain c (letLine n e) h = absurd h
-bare-plain c (neverLine t) h = plain-never t
-bare-plain c (withinLine n t u) h = plain-within n t u
-bare-plain c (closedLine n) h = plain-closed n
-bare-plain c (assumeEmpty e) h = plain-empty e
-bare-plain c (assumeIrreflexive e) h = plain-irreflexive e
-bare-plain c (claimLine x) h = plain-claim x
-
-bare-claim : (c : Bool) (l : Line) → Bare c l → anyClaim (claimsOf l) ≡ c
-unfolding claimsOf
-bare-claim c (testLine n) h = absurd h
-bare-claim c (relLine n) h = absurd h
-bare-claim c (letLine n e) h = absurd h
-bare-claim c (neverLine t) h = sym h
-bare-claim c (withinLine n t u) h = sym h
-bare-claim c (closedLine n) h = sym h
-bare-claim c (assumeEmpty e) h = sym h
-bare-claim c (assumeIrreflexive e) h = sym h
-bare-claim c (claimLine x) h = sym h
-
-bare-free : (q : Query) (c : Bool) (l : Line) → Bare c l → crowded q l ≡ false
-unfolding crowded
-bare-free q c (testLine n) h = absurd h
-bare-free q c (relLine n) h = absurd h
-bare-free q c (letLine n e) h = absurd h
-bare-free q c (neverLine t) h = refl
-bare-free q c (withinLine n t u) h = refl
-bare-free q c (closedLine n) h = refl
-bare-free q c (assumeEmpty e) h = refl
-bare-free q c (assumeIrreflexive e) h = refl
-bare-free q c (claimLine x) h = refl
+use Rattle.read_lines.proofs.Declared.{bare-plain, after-declared, after-plain, knows-declared, knows-plain}
+use Rattle.read_lines.proofs.Fates.{Whole, fine-whole, faulty-fate, fate-crowded, fate-taken, clean-slips}
 
 -- the table of names, as the readers of T and E want it
 known : (q : Query) (st : State) (before out names : List ℕ) → After q st before out → Small st → Knows names (st .names) q
@@ -85,6 +51,38 @@ known q st before out names a m k =
       fewRelations = omega (arith, a .relations, m .relations);
       fewLets = omega (arith, a .lets, m .lets, length-map (each lets q) (λ (b : Bound Tree). b .called));
     }
+
+-- the state counts the names of a kind; where there may be more of them, one more is not too many
+counted : (of : ℕ) (q : Query) (st : State) (before out : List ℕ) → After q st before out → countOf of st ≡ numberOf of q
+unfolding countOf numberOf
+counted of q st before out a = go (eqb of 16) (eqb of 32)
+  where
+    go : (b c : Bool)
+        → cond b (st .tests) (cond c (st .relations) (st .lets)) ≡ cond b (length (tests q)) (cond c (length (relations q)) (length (each lets q)))
+    go true c = a .tests
+    go false true = a .relations
+    go false false = a .lets
+
+small-more : (of u : ℕ) (st : State) → Small st → st .names ≡ st .tests + st .relations + st .lets
+    → oneIf of 16 + oneIf of 32 + oneIf of 64 ≡ 1 → countOf of st < mostOf of → Small (oneMore of u st)
+unfolding countOf mostOf oneMore
+small-more of u st m n = go (eqb of 16) (eqb of 32) (eqb of 64)
+  where
+    fits : (i j k : ℕ) → i + j + k ≡ 1 → st .tests + i ≤ 6 → st .relations + j ≤ 16 → st .lets + k ≤ 32
+        → Small (record { used = u; names = st .names + 1; tests = st .tests + i; relations = st .relations + j; lets = st .lets + k; claimed = st .claimed })
+    fits i j k o e f g = record { tests = e; relations = f; lets = g; names = omega arith }
+
+    go : (a b c : Bool) → cond a 1 0 + cond b 1 0 + cond c 1 0 ≡ 1
+        → cond a (st .tests) (cond b (st .relations) (st .lets)) < cond a 6 (cond b 16 32)
+        → Small (record { used = u; names = st .names + 1; tests = st .tests + cond a 1 0; relations = st .relations + cond b 1 0; lets = st .lets + cond c 1 0; claimed = st .claimed })
+    go true false false e h = fits 1 0 0 refl (omega arith) (omega (arith, m .relations)) (omega (arith, m .lets))
+    go false true false e h = fits 0 1 0 refl (omega (arith, m .tests)) (omega arith) (omega (arith, m .lets))
+    go false false true e h = fits 0 0 1 refl (omega (arith, m .tests)) (omega (arith, m .relations)) (omega arith)
+    go true true true e h = absurd (omega arith)
+    go true true false e h = absurd (omega arith)
+    go true false true e h = absurd (omega arith)
+    go false true true e h = absurd (omega arith)
+    go false false false e h = absurd (omega arith)
 
 module _ (D : List Notation.Token → Found Line) (K : Line → Type 0) (s : List ℕ) (at : ℕ) (ended : Bool) (st : State) (names out out′ : List ℕ)
     (r : Parsed) (small : Small st) (body : BodyOutcome D K s names (st .names) at (st .used) out out′ r) where
@@ -131,153 +129,64 @@ module _ (D : List Notation.Token → Found Line) (K : Line → Type 0) (s : Lis
       taken h n =
           fate-taken q ended n (D (tokens (drop at s))) (read .line) (tokens (drop (whole .place .at) s)) (read .read) (whole .ends) clean h
 
-      -- the line is l, and the state behind it is `next`
-      take-line : (l : Line) → read .line ≡ l → crowded q l ≡ false → (next : State) → next .used ≡ u → Small next
-          → (out′ ≡ sets out (st .used) (lineCodes q l) → u ≡ st .used + length (lineCodes q l) → After (q ++ (l ∷ [])) next before out′)
-          → (names′ : List ℕ) → (firstSlip q (uses l) ≡ none → Knows names′ (next .names) (q ++ (l ∷ [])))
-          → Takes (fate q) q next most before names′ out′
-      take-line l e f next i m after names′ knows =
-          record {
-            line = l;
-            fated = λ n. taken (ap (crowded q) e ∙ f) n ∙ ap ok e;
-            after = after (stored ∙ ap (λ x. sets out (st .used) (lineCodes q x)) e) (grown ∙ ap (λ x. st .used + length (lineCodes q x)) e);
-            knows = knows (ap (λ x. firstSlip q (uses x)) (sym e) ∙ clean);
-            small = m;
-            short = omega (arith, i, short);
-          }
-
-  pub line-refused : (c : Checked) (w : Reason) → c ≡ checked s ended r → c ≡ Faulty w → (names′ : List ℕ)
-      → KindOutcome D s at ended st names out (Refused w) names′ out′
-  line-refused c w e h names′ q before a k n = refuses q before a k w (sym e ∙ h) n
-
--- a claim there is, if there was one or the line is one
-pub claimed-still : (b : Bool) → b ≡ (b || false)
-claimed-still true = refl
-claimed-still false = refl
-
-pub claimed-now : (b : Bool) → true ≡ (b || true)
-claimed-now true = refl
-claimed-now false = refl
-
--- a line that declares nothing
-pub plain-outcome : (D : List Notation.Token → Found Line) (c : Bool) (s : List ℕ) (at : ℕ) (ended : Bool) (st : State) (names out out′ : List ℕ)
-    (r : Parsed) → Small st → BodyOutcome D (Bare c) s names (st .names) at (st .used) out out′ r → (b : Bool) → b ≡ (st .claimed || c)
-    → (l : LineRead) → l ≡ plainRead st b (checked s ended r) → KindOutcome D s at ended st names out l names out′
-unfolding plainRead
-plain-outcome D c s at ended st names out out′ r small body b be l le q before a k =
-    subst (KindSays (fate D (Bare c) s at ended st names out out′ r small body q) q (st .used + (length s - at) + 1) before names out′)
-    (sym le) (go (checked s ended r) refl)
-  where
-    go : (x : Checked) → checked s ended r ≡ x
-        → KindSays (fate D (Bare c) s at ended st names out out′ r small body q) q (st .used + (length s - at) + 1) before names out′ (plainRead st b x)
-    go (Faulty w) e = refuses D (Bare c) s at ended st names out out′ r small body q before a k w e
-    go (Fine u) e =
-        let o = read D (Bare c) s at ended st names out out′ r small body q before a k u e in
+    -- a line that declares nothing, by its check
+    plain-says : (c : Bool) → ((l : Line) → K l → Bare c l) → (x : Checked) → checked s ended r ≡ x
+        → KindSays (fate q) q most before names out′ (plainRead st c x)
+    unfolding plainRead
+    plain-says c bare (Faulty w) e = refuses w e
+    plain-says c bare (Fine u) e =
+        let l = read u e .line in
+        let p = bare-plain c l (bare l (read u e .sort)) in
         record {
-          line = o .line;
-          fated = taken D (Bare c) s at ended st names out out′ r small body q before a k u e (bare-free q c (o .line) (o .sort));
-          after =
-              after-plain q st before out a (o .line) b u out′ (bare-plain c (o .line) (o .sort))
-              (be ∙ ap (λ x. st .claimed || x) (sym (bare-claim c (o .line) (o .sort))))
-              (stored D (Bare c) s at ended st names out out′ r small body q before a k u e)
-              (grown D (Bare c) s at ended st names out out′ r small body q before a k u e);
-          knows = knows-plain names (st .names) q k (o .line) (bare-plain c (o .line) (o .sort));
+          line = l;
+          fated = taken u e (p .free q);
+          after = after-plain q st before out a c l p u out′ (stored u e) (grown u e);
+          knows = knows-plain names (st .names) q k c l p;
           small = record { tests = small .tests; relations = small .relations; lets = small .lets; names = small .names };
-          short = short D (Bare c) s at ended st names out out′ r small body q before a k u e;
+          short = short u e;
         }
 
--- a line that declares a name: one too many, or an entry more in the table
-module _ (s : List ℕ) (at : ℕ) (ended : Bool) (st : State) (names out out′ : List ℕ) (r : Parsed) (small : Small st)
-    (c : Checked) (u : ℕ) (checks : c ≡ checked s ended r) (fine : c ≡ Fine u) where
-  whole-line : checked s ended r ≡ Fine u
-  whole-line = sym checks ∙ fine
+    -- a line that declares a name: one too many, or an entry more in the table
+    module _ (of : ℕ) (names? : (l : Line) → K l → DeclaresNext of s at l) where
+      name-says : (u : ℕ) → checked s ended r ≡ Fine u → (b : Bool) → leb (mostOf of) (countOf of st) ≡ b
+          → KindSays (fate q) q most before (cond b names (entered names (st .names) (wordOf (tokenAt s at)) (of + countOf of st))) out′
+          (cond b (Refused TooMany) (Taken (oneMore of u st)))
+      unfolding oneMore
+      name-says u e true h =
+          let l = read u e .line in
+          let (w, d, i) = names? l (read u e .sort) in
+          crowds u e (d .crowds q ∙ ap (leb (mostOf of)) (sym (counted of q st before out a)) ∙ h)
+      name-says u e false h =
+          let l = read u e .line in
+          let (w, d, i) = names? l (read u e .sort) in
+          let m = leb-false (mostOf of) (countOf of st) h in
+          record {
+            line = l;
+            fated = taken u e (d .crowds q ∙ ap (leb (mostOf of)) (sym (counted of q st before out a)) ∙ h);
+            after = after-declared q st before out a of w l d u out′ (stored u e) (grown u e);
+            knows =
+                subst⁻¹ (λ x. Knows (entered names (st .names) x (of + countOf of st)) (st .names + 1) (q ++ (l ∷ []))) (i .key)
+                (knows-declared names (st .names) q k of w l d (of + countOf of st) (i .spelled) (omega (arith, small .names)) (clean u e)
+                (ap (λ x. of + x) (counted of q st before out a)));
+            small = small-more of u st small (a .names) (d .one) (omega (arith, m));
+            short = short u e;
+          }
 
-  -- `test N`
-  module _ (body : BodyOutcome (λ ts. mapped testLine (declared ts)) (Declares testLine s at) s names (st .names) at (st .used) out out′ r) where
-    pub test-crowd : 6 ≤ st .tests → (names′ : List ℕ) → KindOutcome (λ ts. mapped testLine (declared ts)) s at ended st names out (Refused TooMany) names′ out′
-    unfolding crowded
-    test-crowd h names′ q before a k =
-        let o = read (λ ts. mapped testLine (declared ts)) (Declares testLine s at) s at ended st names out out′ r small body q before a k u whole-line in
-        crowds (λ ts. mapped testLine (declared ts)) (Declares testLine s at) s at ended st names out out′ r small body q before a k u whole-line
-        (ap (crowded q) (o .sort .1) ∙ le-leb 6 (length (tests q)) (omega (arith, a .tests)))
+      declared-says : (x : Checked) → checked s ended r ≡ x
+          → KindSays (fate q) q most before (declaredNames (wordOf (tokenAt s at)) of st x names) out′ (declaredRead of st x)
+      unfolding declaredNames declaredRead
+      declared-says (Faulty w) e = refuses w e
+      declared-says (Fine u) e = name-says u e (leb (mostOf of) (countOf of st)) refl
 
-    pub test-taken : st .tests < 6 → (key : Key) → key ≡ wordOf (tokenAt s at) → (names′ : List ℕ)
-        → names′ ≡ entered names (st .names) key (16 + st .tests)
-        → KindOutcome (λ ts. mapped testLine (declared ts)) s at ended st names out (Taken (record { used = u; names = st .names + 1; tests = st .tests + 1; relations = st .relations; lets = st .lets; claimed = st .claimed })) names′ out′
-    unfolding crowded uses
-    test-taken h key ke names′ ne q before a k =
-        let o = read (λ ts. mapped testLine (declared ts)) (Declares testLine s at) s at ended st names out out′ r small body q before a k u whole-line in
-        let w = o .sort .0 in
-        take-line (λ ts. mapped testLine (declared ts)) (Declares testLine s at) s at ended st names out out′ r small body q before a k u whole-line (testLine w) (o .sort .1)
-        (lt-leb 6 (length (tests q)) (omega (arith, a .tests))) _ refl
-        (record {
-          tests = omega arith;
-          relations = small .relations;
-          lets = small .lets;
-          names = omega (arith, a .names, small .relations, small .lets);
-        })
-        (after-test q st before out a w u out′) names′
-        (λ f. subst (λ t. Knows t (st .names + 1) (q ++ (testLine w ∷ [])))
-        (sym (ne ∙ ap (λ x. entered names (st .names) x (16 + st .tests)) (ke ∙ o .sort .2 .key)))
-        (knows-test names (st .names) q k w (16 + st .tests) (o .sort .2 .spelled) (omega (arith, small .names))
-        (fresh-name q w [] f) (ap (λ i. 16 + i) (a .tests))))
+  pub plain-outcome : (c : Bool) → ((l : Line) → K l → Bare c l) → (l : LineRead) → l ≡ plainRead st c (checked s ended r)
+      → KindOutcome D s at ended st names out l names out′
+  plain-outcome c bare l le q before a k =
+      subst⁻¹ (KindSays (fate q) q most before names out′) le (plain-says q before a k c bare (checked s ended r) refl)
 
-  -- `rel N`
-  module _ (body : BodyOutcome (λ ts. mapped relLine (declared ts)) (Declares relLine s at) s names (st .names) at (st .used) out out′ r) where
-    pub relation-crowd : 16 ≤ st .relations → (names′ : List ℕ) → KindOutcome (λ ts. mapped relLine (declared ts)) s at ended st names out (Refused TooMany) names′ out′
-    unfolding crowded
-    relation-crowd h names′ q before a k =
-        let o = read (λ ts. mapped relLine (declared ts)) (Declares relLine s at) s at ended st names out out′ r small body q before a k u whole-line in
-        crowds (λ ts. mapped relLine (declared ts)) (Declares relLine s at) s at ended st names out out′ r small body q before a k u whole-line
-        (ap (crowded q) (o .sort .1) ∙ le-leb 16 (length (relations q)) (omega (arith, a .relations)))
-
-    pub relation-taken : st .relations < 16 → (key : Key) → key ≡ wordOf (tokenAt s at) → (names′ : List ℕ)
-        → names′ ≡ entered names (st .names) key (32 + st .relations)
-        → KindOutcome (λ ts. mapped relLine (declared ts)) s at ended st names out (Taken (record { used = u; names = st .names + 1; tests = st .tests; relations = st .relations + 1; lets = st .lets; claimed = st .claimed })) names′ out′
-    unfolding crowded uses
-    relation-taken h key ke names′ ne q before a k =
-        let o = read (λ ts. mapped relLine (declared ts)) (Declares relLine s at) s at ended st names out out′ r small body q before a k u whole-line in
-        let w = o .sort .0 in
-        take-line (λ ts. mapped relLine (declared ts)) (Declares relLine s at) s at ended st names out out′ r small body q before a k u whole-line (relLine w) (o .sort .1)
-        (lt-leb 16 (length (relations q)) (omega (arith, a .relations))) _ refl
-        (record {
-          tests = small .tests;
-          relations = omega arith;
-          lets = small .lets;
-          names = omega (arith, a .names, small .tests, small .lets);
-        })
-        (after-relation q st before out a w u out′) names′
-        (λ f. subst (λ t. Knows t (st .names + 1) (q ++ (relLine w ∷ [])))
-        (sym (ne ∙ ap (λ x. entered names (st .names) x (32 + st .relations)) (ke ∙ o .sort .2 .key)))
-        (knows-relation names (st .names) q k w (32 + st .relations) (o .sort .2 .spelled) (omega (arith, small .names))
-        (fresh-name q w [] f) (ap (λ i. 32 + i) (a .relations))))
-
-  -- `let N = E`
-  module _ (body : BodyOutcome (letReader) (DeclaresLet s at) s names (st .names) at (st .used) out out′ r) where
-    pub let-crowd : 32 ≤ st .lets → (names′ : List ℕ) → KindOutcome (letReader) s at ended st names out (Refused TooMany) names′ out′
-    unfolding crowded
-    let-crowd h names′ q before a k =
-        let o = read (letReader) (DeclaresLet s at) s at ended st names out out′ r small body q before a k u whole-line in
-        crowds (letReader) (DeclaresLet s at) s at ended st names out out′ r small body q before a k u whole-line
-        (ap (crowded q) (o .sort .2) ∙ le-leb 32 (length (each lets q)) (omega (arith, a .lets)))
-
-    pub let-taken : st .lets < 32 → (key : Key) → key ≡ wordOf (tokenAt s at) → (names′ : List ℕ)
-        → names′ ≡ entered names (st .names) key (64 + st .lets)
-        → KindOutcome (letReader) s at ended st names out (Taken (record { used = u; names = st .names + 1; tests = st .tests; relations = st .relations; lets = st .lets + 1; claimed = st .claimed })) names′ out′
-    unfolding crowded uses
-    let-taken h key ke names′ ne q before a k =
-        let o = read (letReader) (DeclaresLet s at) s at ended st names out out′ r small body q before a k u whole-line in
-        let w = o .sort .0 in
-        take-line (letReader) (DeclaresLet s at) s at ended st names out out′ r small body q before a k u whole-line (letLine w (o .sort .1)) (o .sort .2)
-        (lt-leb 32 (length (each lets q)) (omega (arith, a .lets))) _ refl
-        (record {
-          tests = small .tests;
-          relations = small .relations;
-          lets = omega arith;
-          names = omega (arith, a .names, small .tests, small .relations);
-        })
-        (after-let q st before out a w (o .sort .1) u out′) names′
-        (λ f. subst (λ t. Knows t (st .names + 1) (q ++ (letLine w (o .sort .1) ∷ [])))
-        (sym (ne ∙ ap (λ x. entered names (st .names) x (64 + st .lets)) (ke ∙ o .sort .3 .key)))
-        (knows-let names (st .names) q k w (o .sort .1) (64 + st .lets) (o .sort .3 .spelled) (omega (arith, small .names))
-        (fresh-name q w (treeUses (o .sort .1)) f) (ap (λ i. 64 + i) (a .lets))))
+  pub declared-outcome : (of : ℕ) → ((l : Line) → K l → DeclaresNext of s at l) → (l : LineRead) (names′ : List ℕ)
+      → (l ≡ declaredRead of st (checked s ended r)) × (names′ ≡ declaredNames (wordOf (tokenAt s at)) of st (checked s ended r) names)
+      → KindOutcome D s at ended st names out l names′ out′
+  declared-outcome of names? l names′ (le, ne) q before a k =
+      subst⁻¹ (KindSays (fate q) q most before names′ out′) le
+      (subst⁻¹ (λ x. KindSays (fate q) q most before x out′ (declaredRead of st (checked s ended r))) ne
+      (declared-says q before a k of names? (checked s ended r) refl))

@@ -1,19 +1,22 @@
 -- What the readers of the line kinds leave behind. (Document 01, "The query" and "Refusals with an example each".) What stands behind a
 -- line's first word is read whole, and its codes are written, before the line's end and its names are judged.
 -- Assumes nothing.
-use Prim.Native.Nat.{ℕ, _+_, _-_, _≤_}
+use Prim.Native.Nat.{ℕ, zero, suc, _+_, _-_, _≤_}
 use mathlib.Core.Path.{_≡_}
-use mathlib.Core.Bool.{Bool, true, false, cond, _&&_}
+use mathlib.Core.Bool.{Bool, true, false, cond, _&&_, _||_}
 use mathlib.Core.List.{List, [], _∷_, _++_}
 use lib.Dec.{eqb}
 use lib.ListN.{length, drop}
 use Rattle.claims.specs.Tokens.{Token as Piece, tokens}
 use Rattle.claims.specs.Grammar.{Found, got, wrong, andThen}
 use Rattle.claims.specs.Tree.{Line}
-use Rattle.claims.specs.Lines.{atEnd}
+use Rattle.claims.specs.Lines.{Choice, atEnd}
 use Rattle.claims.specs.Query.{Query}
 use Rattle.claims.specs.Reading.{readLine}
 use Rattle.claims.specs.Refusals.{Result, ok, refuse}
+use Rattle.read_tokens.specs.declared.Key.{Key}
+use Rattle.read_tokens.specs.Scan.{keyOf}
+use Rattle.read_names.specs.Keys.{sameKey}
 use Rattle.read_tests.specs.declared.Parsed.{Parsed}
 use Rattle.read_tests.specs.declared.Parsed.the-variants.{Got, Wrong, Deep}
 use Rattle.refusals.specs.declared.Reason.{Reason}
@@ -23,6 +26,9 @@ use Rattle.read_lines.specs.declared.Checked.the-variants.{Fine, Faulty}
 use Rattle.read_lines.specs.declared.State.{State}
 use Rattle.read_lines.specs.declared.LineRead.{LineRead}
 use Rattle.read_lines.specs.declared.LineRead.the-variants.{Taken, Refused}
+use Rattle.read_bodies.specs.Bodies.{Bare}
+use Rattle.codes.specs.Codes.{A-TEST, A-RELATION, A-LET}
+use Rattle.read_lines.specs.Declaring.{DeclaresNext}
 use Rattle.read_lines.specs.State.{After, Small, Knows}
 use Rattle.refusals.specs.Causes.{causeOf}
 
@@ -37,10 +43,10 @@ checked s ended (Got p) =
 checked s ended Wrong = Faulty Notation
 checked s ended Deep = Faulty TooDeep
 
--- a line that declares nothing, by its check
+-- a line that declares nothing, by its check; c says whether it is a claim
 unfoldable pub plainRead : State → Bool → Checked → LineRead
 plainRead st c (Fine u) =
-    Taken (record { used = u; names = st .names; tests = st .tests; relations = st .relations; lets = st .lets; claimed = c })
+    Taken (record { used = u; names = st .names; tests = st .tests; relations = st .relations; lets = st .lets; claimed = st .claimed || c })
 plainRead st c (Faulty w) = Refused w
 
 -- a line as the notation reads it, by what was found behind its first word
@@ -65,3 +71,22 @@ abbrev pub KindOutcome : (List Piece → Found Line) → List ℕ → ℕ → Bo
 KindOutcome D s at ended st names out r namesAfter outAfter =
     (q : Query) (before : List ℕ) → After q st before out → Knows names (st .names) q
     → KindSays (λ n. readLine q n (wholeLine ended (D (tokens (drop at s))))) q (st .used + (length s - at) + 1) before namesAfter outAfter r
+
+-- the place of the first word with the key k among those that the choices name; their number, if there is none
+unfoldable pub kindPlace : List Choice → Key → ℕ
+kindPlace [] k = 0
+kindPlace (c ∷ cs) k = cond (sameKey (keyOf (c .says)) k) 0 (suc (kindPlace cs k))
+
+-- what the nth choice reads
+unfoldable pub readsAt : List Choice → ℕ → List Piece → Found Line
+readsAt [] n ts = wrong
+readsAt (c ∷ cs) zero ts = c .reads ts
+readsAt (c ∷ cs) (suc n) ts = readsAt cs n ts
+
+-- the sort of line that the nth line word begins: it declares a test, a relation or a let, or it declares nothing; the word with number 7
+-- begins the claim
+abbrev pub SortOf : ℕ → List ℕ → ℕ → Line → Type 0
+SortOf zero s at l = DeclaresNext A-TEST s at l
+SortOf (suc zero) s at l = DeclaresNext A-RELATION s at l
+SortOf (suc (suc zero)) s at l = DeclaresNext A-LET s at l
+SortOf (suc (suc (suc n))) s at l = Bare (eqb (suc (suc (suc n))) 7) l

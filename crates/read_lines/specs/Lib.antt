@@ -1,4 +1,5 @@
 -- The state between two lines, and what a line does to it.
 pub mod State
--- The line of each kind.
+-- A line that declares a name, and the line of each kind.
+pub mod Declaring
 pub mod Kinds

@@ -12,14 +12,14 @@ ghost use Prim.Native.Nat.{_+_, _-_, _≤_};
 ghost use lib.ListN.{length, drop};
 ghost use Rattle.claims.specs.Tokens as Notation;
 ghost use Rattle.claims.specs.Tokens.{tokens};
-ghost use Rattle.claims.specs.Grammar.{nameNext};
-ghost use Rattle.claims.specs.Tree.{Name, testLine, relLine, neverLine, closedLine};
-ghost use Rattle.claims.specs.Lines as reads;
-ghost use Rattle.claims.specs.Lines.{declared, mapped, choose, letReader, withinReader, assumptions, claims, lineKinds, atEnd};
+ghost use Rattle.claims.specs.Tree.{Name};
+ghost use Rattle.claims.specs.Lines.{choose, lineKinds, atEnd};
+ghost use Rattle.codes.specs.Codes.{A-LET, MOST-LETS};
 ghost use Rattle.read_tokens.specs.Scan.{keyOf, tokenAt, Spelled};
+ghost use Rattle.read_bodies.specs.Bodies.{BodyOutcome, wordOf};
 ghost use Rattle.read_lines.specs.State.{Small, ReadsLine};
-ghost use Rattle.read_lines.specs.Kinds.{KindOutcome, slipReason, checked, plainRead};
-ghost use Rattle.read_bodies.specs.Bodies.{wordOf};
+ghost use Rattle.read_lines.specs.Declaring.{countOf, mostOf, oneIf, oneMore, declaredRead, declaredNames};
+ghost use Rattle.read_lines.specs.Kinds.{KindOutcome, slipReason, checked, plainRead, kindPlace, readsAt, SortOf};
 
 // What the lines read so far declare, and how many codes they have.
 pub struct State {
@@ -48,12 +48,10 @@ fn ends(s: &[u8], at: usize, ended: bool) -> bool
     ensures { λ r. ⌜ r ≡ (atEnd (tokens (drop at (now (s .entry)))) && ended) ⌝ }
 {
     let t = read_tokens::token_at(s, at);
-    match t {
-        Token::Word(_, _) => false,
-        Token::Mark(_, _) => false,
-        Token::Bad => false,
-        Token::End => ended,
-    }
+    let Token::End = t else {
+        return false;
+    };
+    ended
 }
 
 // The reason that a slip is.
@@ -87,9 +85,9 @@ fn check(s: &[u8], r: Parsed, ended: bool) -> Checked
     }
 }
 
-// A line that declares nothing.
-fn plain(s: &[u8], r: Parsed, ended: bool, st: State, claimed: bool) -> LineRead
-    ensures { λ l. ⌜ l ≡ plainRead st claimed (checked (now (s .entry)) ended r) ⌝ }
+// A line that declares nothing, which may be the claim.
+fn plain(s: &[u8], r: Parsed, ended: bool, st: State, claim: bool) -> LineRead
+    ensures { λ l. ⌜ l ≡ plainRead st claim (checked (now (s .entry)) ended r) ⌝ }
 {
     let c = check(s, r, ended);
     match c {
@@ -99,7 +97,7 @@ fn plain(s: &[u8], r: Parsed, ended: bool, st: State, claimed: bool) -> LineRead
             tests: st.tests,
             relations: st.relations,
             lets: st.lets,
-            claimed,
+            claimed: st.claimed | claim,
         }),
         Checked::Faulty(why) => LineRead::Refused(why),
     }
@@ -110,226 +108,146 @@ fn word_at(s: &[u8], at: usize) -> Key
     ensures { λ r. ⌜ r ≡ wordOf (tokenAt (now (s .entry)) at) ⌝ }
 {
     let t = read_tokens::token_at(s, at);
-    match t {
-        Token::Word(k, _) => k,
-        Token::Mark(_, _) => Key { high: 0, low: 0 },
-        Token::Bad => Key { high: 0, low: 0 },
-        Token::End => Key { high: 0, low: 0 },
+    let Token::Word(k, _) = t else {
+        return Key { high: 0, low: 0 };
+    };
+    k
+}
+
+// How many names of the kind `of` are declared. A kind is known by the code of its first name: A_TEST, A_RELATION or A_LET.
+fn count_of(st: State, of: u64) -> usize
+    ensures { λ r. ⌜ r ≡ countOf of st ⌝ }
+{
+    match of {
+        codes::A_TEST => st.tests,
+        codes::A_RELATION => st.relations,
+        _ => st.lets,
     }
 }
 
-// `test N`, at most 6.
-fn test_line(
+// How many names of the kind may be declared.
+fn most_of(of: u64) -> usize
+    ensures { λ r. ⌜ (r ≡ mostOf of) × (r ≤ MOST-LETS) ⌝ }
+{
+    match of {
+        codes::A_TEST => codes::MOST_TESTS,
+        codes::A_RELATION => codes::MOST_RELATIONS,
+        _ => codes::MOST_LETS,
+    }
+}
+
+// 1 for two equal numbers, 0 for others.
+fn one_if(a: u64, b: u64) -> usize
+    ensures { λ r. ⌜ (r ≡ oneIf a b) × (r ≤ 1) ⌝ }
+{
+    if a == b {
+        return 1;
+    }
+    0
+}
+
+// The state with a name more of the kind.
+fn one_more(st: State, of: u64, used: usize) -> State
+    requires { ⌜ Small st ⌝ }
+    ensures { λ r. ⌜ r ≡ oneMore of used st ⌝ }
+{
+    State {
+        used,
+        names: st.names + 1,
+        tests: st.tests + one_if(of, codes::A_TEST),
+        relations: st.relations + one_if(of, codes::A_RELATION),
+        lets: st.lets + one_if(of, codes::A_LET),
+        claimed: st.claimed,
+    }
+}
+
+// A line that declares the name at `at`, of the kind `of`: the name is entered if there may be one more.
+fn declare(
     s: &[u8],
     at: usize,
+    r: Parsed,
     ended: bool,
     st: State,
+    of: u64,
     names: &mut [u64; 192],
-    out: &mut [u64; 4096],
 ) -> LineRead
-    requires { ⌜ Small st × (st .used + (length (now s) - at) + 1 ≤ 4096) ⌝ }
-    ensures { λ r. ⌜ KindOutcome (λ ts. mapped testLine (declared ts)) (now (s .entry)) at ended st (now (names .entry)) (now (out .entry)) r (now (names .exit)) (now (out .exit)) ⌝ }
+    requires { ⌜ Small st × (of ≤ A-LET) ⌝ }
+    ensures { λ l. ⌜ (l ≡ declaredRead of st (checked (now (s .entry)) ended r)) × (now (names .exit) ≡ declaredNames (wordOf (tokenAt (now (s .entry)) at)) of st (checked (now (s .entry)) ended r) (now (names .entry))) ⌝ }
 {
-    let r = read_bodies::declaration(s, at, names, st.names, st.used, codes::TEST_LINE, out);
     let c = check(s, r, ended);
     match c {
         Checked::Fine(used) => {
-            if codes::MOST_TESTS <= st.tests {
+            let n = count_of(st, of);
+            if most_of(of) <= n {
                 return LineRead::Refused(Reason::TooMany);
             }
-            read_names::enter(
-                names,
-                st.names,
-                word_at(s, at),
-                codes::A_TEST + (st.tests as u64),
-            );
-            LineRead::Taken(State {
-                used,
-                names: st.names + 1,
-                tests: st.tests + 1,
-                relations: st.relations,
-                lets: st.lets,
-                claimed: st.claimed,
-            })
+            read_names::enter(names, st.names, word_at(s, at), of + (n as u64));
+            LineRead::Taken(one_more(st, of, used))
         }
         Checked::Faulty(why) => LineRead::Refused(why),
     }
 }
 
-// `rel N`, at most 16.
-fn rel_line(
-    s: &[u8],
-    at: usize,
-    ended: bool,
-    st: State,
-    names: &mut [u64; 192],
-    out: &mut [u64; 4096],
-) -> LineRead
-    requires { ⌜ Small st × (st .used + (length (now s) - at) + 1 ≤ 4096) ⌝ }
-    ensures { λ r. ⌜ KindOutcome (λ ts. mapped relLine (declared ts)) (now (s .entry)) at ended st (now (names .entry)) (now (out .entry)) r (now (names .exit)) (now (out .exit)) ⌝ }
+// How many line words there are: `test` to `claim`.
+const LINE_WORDS: usize = 8;
+
+// The place of the line word with the key k among all of them; behind the last, if it is none.
+fn line_word(k: Key) -> usize
+    ensures { λ r. ⌜ r ≡ kindPlace lineKinds k ⌝ }
 {
-    let r = read_bodies::declaration(s, at, names, st.names, st.used, codes::REL_LINE, out);
-    let c = check(s, r, ended);
-    match c {
-        Checked::Fine(used) => {
-            if codes::MOST_RELATIONS <= st.relations {
-                return LineRead::Refused(Reason::TooMany);
-            }
-            read_names::enter(
-                names,
-                st.names,
-                word_at(s, at),
-                codes::A_RELATION + (st.relations as u64),
-            );
-            LineRead::Taken(State {
-                used,
-                names: st.names + 1,
-                tests: st.tests,
-                relations: st.relations + 1,
-                lets: st.lets,
-                claimed: st.claimed,
-            })
+    let mut n = 0;
+    while n < LINE_WORDS {
+        if read_names::same_key(read_names::word_key(n), k) {
+            return n;
         }
-        Checked::Faulty(why) => LineRead::Refused(why),
+        n += 1;
     }
+    LINE_WORDS
 }
 
-// `let N = E`, at most 32.
-fn let_line(
+// What stands behind the line word at this place, and its codes. The lines are `test N`, `rel N`, `let N = E`, `never T`, `within N [T] [U]`,
+// `closed N`, `assume empty E`, `assume irreflexive E`, `claim include E in E`, `claim empty E` and `claim irreflexive E`.
+fn body(
     s: &[u8],
     at: usize,
-    ended: bool,
-    st: State,
-    names: &mut [u64; 192],
+    place: usize,
+    names: &[u64],
+    n: usize,
+    used: usize,
     out: &mut [u64; 4096],
-) -> LineRead
-    requires { ⌜ Small st × (st .used + (length (now s) - at) + 1 ≤ 4096) ⌝ }
-    ensures { λ r. ⌜ KindOutcome (letReader) (now (s .entry)) at ended st (now (names .entry)) (now (out .entry)) r (now (names .exit)) (now (out .exit)) ⌝ }
+) -> Parsed
+    requires { ⌜ used + (length (now s) - at) + 1 ≤ 4096 ⌝ }
+    ensures { λ r. ⌜ BodyOutcome (readsAt lineKinds place) (SortOf place (now (s .entry)) at) (now (s .entry)) (now (names .entry)) n at used (now (out .entry)) (now (out .exit)) r ⌝ }
 {
-    let r = read_bodies::let_body(s, at, names, st.names, st.used, out);
-    let c = check(s, r, ended);
-    match c {
-        Checked::Fine(used) => {
-            if codes::MOST_LETS <= st.lets {
-                return LineRead::Refused(Reason::TooMany);
-            }
-            read_names::enter(
-                names,
-                st.names,
-                word_at(s, at),
-                codes::A_LET + (st.lets as u64),
-            );
-            LineRead::Taken(State {
-                used,
-                names: st.names + 1,
-                tests: st.tests,
-                relations: st.relations,
-                lets: st.lets + 1,
-                claimed: st.claimed,
-            })
+    match place {
+        read_names::TEST => {
+            read_bodies::declaration(s, at, names, n, used, codes::TEST_LINE, out)
         }
-        Checked::Faulty(why) => LineRead::Refused(why),
-    }
-}
-
-// `never T`.
-fn never_line(
-    s: &[u8],
-    at: usize,
-    ended: bool,
-    st: State,
-    names: &mut [u64; 192],
-    out: &mut [u64; 4096],
-) -> LineRead
-    requires { ⌜ Small st × (st .used + (length (now s) - at) + 1 ≤ 4096) ⌝ }
-    ensures { λ r. ⌜ KindOutcome (λ ts. mapped neverLine (reads.condition ts)) (now (s .entry)) at ended st (now (names .entry)) (now (out .entry)) r (now (names .exit)) (now (out .exit)) ⌝ }
-{
-    let r = read_bodies::condition_then(
-        s,
-        names,
-        st.names,
-        Place {
+        read_names::REL => read_bodies::declaration(s, at, names, n, used, codes::REL_LINE, out),
+        read_names::LET => read_bodies::let_body(s, at, names, n, used, out),
+        read_names::NEVER => read_bodies::condition_then(
+            s,
+            names,
+            n,
+            Place { at, used, slip: 0 },
+            codes::NEVER_LINE,
+            out,
+        ),
+        read_names::WITHIN => read_bodies::within_body(s, at, names, n, used, out),
+        read_names::CLOSED => read_bodies::closed_body(s, at, names, n, used, out),
+        read_names::ASSUME => read_bodies::one_side(
+            s,
             at,
-            used: st.used,
-            slip: 0,
-        },
-        codes::NEVER_LINE,
-        out,
-    );
-    plain(s, r, ended, st, st.claimed)
-}
-
-// `within N [T] [U]`.
-fn within_line(
-    s: &[u8],
-    at: usize,
-    ended: bool,
-    st: State,
-    names: &mut [u64; 192],
-    out: &mut [u64; 4096],
-) -> LineRead
-    requires { ⌜ Small st × (st .used + (length (now s) - at) + 1 ≤ 4096) ⌝ }
-    ensures { λ r. ⌜ KindOutcome (withinReader) (now (s .entry)) at ended st (now (names .entry)) (now (out .entry)) r (now (names .exit)) (now (out .exit)) ⌝ }
-{
-    let r = read_bodies::within_body(s, at, names, st.names, st.used, out);
-    plain(s, r, ended, st, st.claimed)
-}
-
-// `closed N`.
-fn closed_line(
-    s: &[u8],
-    at: usize,
-    ended: bool,
-    st: State,
-    names: &mut [u64; 192],
-    out: &mut [u64; 4096],
-) -> LineRead
-    requires { ⌜ Small st × (st .used + (length (now s) - at) + 1 ≤ 4096) ⌝ }
-    ensures { λ r. ⌜ KindOutcome (λ ts. nameNext closedLine ts) (now (s .entry)) at ended st (now (names .entry)) (now (out .entry)) r (now (names .exit)) (now (out .exit)) ⌝ }
-{
-    let r = read_bodies::closed_body(s, at, names, st.names, st.used, out);
-    plain(s, r, ended, st, st.claimed)
-}
-
-// `assume empty E`, `assume irreflexive E`.
-fn assume_line(
-    s: &[u8],
-    at: usize,
-    ended: bool,
-    st: State,
-    names: &mut [u64; 192],
-    out: &mut [u64; 4096],
-) -> LineRead
-    requires { ⌜ Small st × (st .used + (length (now s) - at) + 1 ≤ 4096) ⌝ }
-    ensures { λ r. ⌜ KindOutcome (choose assumptions) (now (s .entry)) at ended st (now (names .entry)) (now (out .entry)) r (now (names .exit)) (now (out .exit)) ⌝ }
-{
-    let r = read_bodies::one_side(
-        s,
-        at,
-        names,
-        st.names,
-        st.used,
-        codes::ASSUME_EMPTY,
-        codes::ASSUME_IRREFLEXIVE,
-        out,
-    );
-    plain(s, r, ended, st, st.claimed)
-}
-
-// `claim include E in E`, `claim empty E`, `claim irreflexive E`.
-fn claim_line(
-    s: &[u8],
-    at: usize,
-    ended: bool,
-    st: State,
-    names: &mut [u64; 192],
-    out: &mut [u64; 4096],
-) -> LineRead
-    requires { ⌜ Small st × (st .used + (length (now s) - at) + 1 ≤ 4096) ⌝ }
-    ensures { λ r. ⌜ KindOutcome (choose claims) (now (s .entry)) at ended st (now (names .entry)) (now (out .entry)) r (now (names .exit)) (now (out .exit)) ⌝ }
-{
-    let r = read_bodies::claim_body(s, at, names, st.names, st.used, out);
-    plain(s, r, ended, st, true)
+            names,
+            n,
+            used,
+            codes::ASSUME_EMPTY,
+            codes::ASSUME_IRREFLEXIVE,
+            out,
+        ),
+        read_names::CLAIM => read_bodies::claim_body(s, at, names, n, used, out),
+        _ => Parsed::Wrong,
+    }
 }
 
 // The line that begins with a word of the key k, which ends at `at`.
@@ -345,31 +263,14 @@ fn kind_line(
     requires { ⌜ Small st × (st .used + (length (now s) - at) + 1 ≤ 4096) ⌝ }
     ensures { λ r. ⌜ ((w : Name) → Spelled w → k ≡ keyOf w → KindOutcome (λ ts. choose lineKinds (Notation.word w ∷ ts)) (now (s .entry)) at ended st (now (names .entry)) (now (out .entry)) r (now (names .exit)) (now (out .exit))) ⌝ }
 {
-    if read_names::same_key(read_names::word_key(read_names::TEST), k) {
-        return test_line(s, at, ended, st, names, out);
+    let place = line_word(k);
+    let r = body(s, at, place, names, st.names, st.used, out);
+    match place {
+        read_names::TEST => declare(s, at, r, ended, st, codes::A_TEST, names),
+        read_names::REL => declare(s, at, r, ended, st, codes::A_RELATION, names),
+        read_names::LET => declare(s, at, r, ended, st, codes::A_LET, names),
+        _ => plain(s, r, ended, st, place == read_names::CLAIM),
     }
-    if read_names::same_key(read_names::word_key(read_names::REL), k) {
-        return rel_line(s, at, ended, st, names, out);
-    }
-    if read_names::same_key(read_names::word_key(read_names::LET), k) {
-        return let_line(s, at, ended, st, names, out);
-    }
-    if read_names::same_key(read_names::word_key(read_names::NEVER), k) {
-        return never_line(s, at, ended, st, names, out);
-    }
-    if read_names::same_key(read_names::word_key(read_names::WITHIN), k) {
-        return within_line(s, at, ended, st, names, out);
-    }
-    if read_names::same_key(read_names::word_key(read_names::CLOSED), k) {
-        return closed_line(s, at, ended, st, names, out);
-    }
-    if read_names::same_key(read_names::word_key(read_names::ASSUME), k) {
-        return assume_line(s, at, ended, st, names, out);
-    }
-    if read_names::same_key(read_names::word_key(read_names::CLAIM), k) {
-        return claim_line(s, at, ended, st, names, out);
-    }
-    LineRead::Refused(Reason::Notation)
 }
 
 // The line of the bytes `s`, after the lines that `st` is the state of. Where it is taken, its names are added to the table and its codes
@@ -388,10 +289,8 @@ pub fn read_line(
         return LineRead::Refused(Reason::AfterClaim);
     }
     let t = read_tokens::token_at(s, 0);
-    match t {
-        Token::Word(k, at) => kind_line(s, at, k, ended, st, names, out),
-        Token::Mark(_, _) => LineRead::Refused(Reason::Notation),
-        Token::Bad => LineRead::Refused(Reason::Notation),
-        Token::End => LineRead::Refused(Reason::Notation),
-    }
+    let Token::Word(k, at) = t else {
+        return LineRead::Refused(Reason::Notation);
+    };
+    kind_line(s, at, k, ended, st, names, out)
 }

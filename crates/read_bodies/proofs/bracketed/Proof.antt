@@ -1,4 +1,6 @@
-use Rattle.read_bodies.proofs.Parts.{bracket-missing, bracket-wrong, bracket-deep, bracket-unclosed, bracket-got}
+-- `read_bodies::bracketed` meets its contract: a bracket that is not there is a fault of the notation, and between the two stands a T.
+-- Assumes nothing.
+use Rattle.read_bodies.proofs.Parts.{failed, bracket-missing, bracket-failed, bracket-unclosed, bracket-got}
 use Rattle.read_tests.proofs.Next.{mark-stands, mark-missing}
 use native.Mathlib.Omega.{arith}
 use borrow.Author.Needs.{needs}
@@ -19,26 +21,23 @@ condition-then-requires c κs =
 enum-known-r : tie.Need-enum-known-r
 enum-known-r c = search needs
 
+returns-2 : tie.Need-returns-2
+returns-2 c =
+    let r = c .before .condition-then in
+    bracket-failed _ _ _ _ _ (mark-stands _ _ _ _ (c .before .before .before .before .mark-next .ensures) (c .before .before .before .if1 .left)) _ _ (r .result) (r .ensures) (failed (r .result) (c .match .keys2))
+
 mark-next-requires-2 : tie.Need-mark-next-requires-2
 mark-next-requires-2 c κs = search needs
 
-returns-2 : tie.Need-returns-2
-returns-2 c = bracket-unclosed _ _ _ _ _ (mark-stands _ _ _ _ (c .before .before .before .before .before .before .before .before .mark-next .ensures) (c .before .before .before .before .before .before .before .if1 .left)) _ _ _ (c .before .before .before .before .before .condition-then .ensures) _ (c .before .before .before .r .given .1) (mark-missing _ _ _ _ (c .before .mark-next2 .ensures) (c .if2 .taken))
-
-enum-told : tie.Need-enum-told
-enum-told c = search needs
-
-enum-told-2 : tie.Need-enum-told-2
-enum-told-2 c = search needs
-
 returns-3 : tie.Need-returns-3
-returns-3 c = bracket-got _ _ _ _ _ (mark-stands _ _ _ _ (c .before .before .before .before .before .before .before .before .mark-next .ensures) (c .before .before .before .before .before .before .before .if1 .left)) _ _ _ (c .before .before .before .before .before .condition-then .ensures) _ (c .before .before .before .r .given .1) _ (mark-stands _ _ _ _ (c .before .mark-next2 .ensures) (c .if2 .left))
+returns-3 c =
+    let r = c .before .before .before .before .before .condition-then in
+    bracket-unclosed _ _ _ _ _ (mark-stands _ _ _ _ (c .before .before .before .before .before .before .before .before .mark-next .ensures) (c .before .before .before .before .before .before .before .if1 .left)) _ _ (r .result) _ (c .before .before .before .r .given .1) (r .ensures) (mark-missing _ _ _ _ (c .before .mark-next2 .ensures) (c .if2 .taken))
 
 returns-4 : tie.Need-returns-4
-returns-4 c = bracket-wrong _ _ _ _ _ (mark-stands _ _ _ _ (c .before .before .before .before .before .mark-next .ensures) (c .before .before .before .before .if1 .left)) _ _ _ (c .before .before .condition-then .ensures) (c .enum-told .given .1)
-
-returns-5 : tie.Need-returns-5
-returns-5 c = bracket-deep _ _ _ _ _ (mark-stands _ _ _ _ (c .before .before .before .before .before .mark-next .ensures) (c .before .before .before .before .if1 .left)) _ _ _ (c .before .before .condition-then .ensures) (c .enum-told2 .given .1)
+returns-4 c =
+    let r = c .before .before .before .before .before .condition-then in
+    bracket-got _ _ _ _ _ (mark-stands _ _ _ _ (c .before .before .before .before .before .before .before .before .mark-next .ensures) (c .before .before .before .before .before .before .before .if1 .left)) _ _ (r .result) _ (c .before .before .before .r .given .1) (r .ensures) _ (mark-stands _ _ _ _ (c .before .mark-next2 .ensures) (c .if2 .left))
 
 pub bracketed-spec : {M : Type 1} → statement M
 bracketed-spec =
@@ -48,10 +47,7 @@ bracketed-spec =
     returns
     condition-then-requires
     enum-known-r
-    mark-next-requires-2
     returns-2
-    enum-told
-    enum-told-2
+    mark-next-requires-2
     returns-3
-    returns-4
-    returns-5)
+    returns-4)

@@ -1,3 +1,5 @@
+-- `read_bodies::claim_body` meets its contract: `include` begins an inclusion, and every other word one side.
+-- Assumes nothing.
 use Rattle.read_bodies.proofs.Sides.{body-via, claims-empty, claims-irreflexive, claim-include, claim-side}
 use Rattle.read_bodies.proofs.NextWords.{word-stands, word-missing}
 use Rattle.read_bodies.specs.Bodies.{Bare, oneSide}

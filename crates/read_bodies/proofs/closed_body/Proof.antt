@@ -1,5 +1,7 @@
+-- `read_bodies::closed_body` meets its contract: a relation's name.
+-- Assumes nothing.
 use Rattle.read_bodies.proofs.Bodies.{closed-reserved, closed-got}
-use Rattle.read_bodies.proofs.NextWords.{token-found, name-missing}
+use Rattle.read_bodies.proofs.NextWords.{no-word, token-found, name-missing}
 use Rattle.claims.specs.Tree.{closedLine}
 use mathlib.Core.List.{[]}
 use borrow.Author.Needs.{needs}
@@ -12,11 +14,14 @@ token-at-requires c κs = search needs
 enum-known-t : tie.Need-enum-known-t
 enum-known-t c = search needs
 
+returns : tie.Need-returns
+returns c = (tt, λ q m. name-missing _ _ _ (c .before .token-at .ensures) (no-word (c .before .token-at .result) (c .match .keys2)) closedLine)
+
 reserved-requires : tie.Need-reserved-requires
 reserved-requires c κs = search needs
 
-returns : tie.Need-returns
-returns c = closed-reserved _ _ _ _ 0 _ _ (token-found _ _ _ _ (c .before .before .before .before .before .token-at .ensures) (c .before .before .before .t .given .1)) _ (c .before .reserved .ensures) (c .if1 .taken) [] []
+returns-2 : tie.Need-returns-2
+returns-2 c = closed-reserved _ _ _ _ 0 _ _ (token-found _ _ _ _ (c .before .before .before .before .before .token-at .ensures) (c .before .before .before .t .given .1)) _ (c .before .reserved .ensures) (c .if1 .taken) [] []
 
 find-requires : tie.Need-find-requires
 find-requires c κs = search needs
@@ -33,28 +38,10 @@ write-requires c κs = search needs
 slip-of-requires : tie.Need-slip-of-requires
 slip-of-requires c κs = search needs
 
-enum-told : tie.Need-enum-told
-enum-told c = search needs
-
-enum-told-2 : tie.Need-enum-told-2
-enum-told-2 c = search needs
-
-enum-told-3 : tie.Need-enum-told-3
-enum-told-3 c = search needs
-
-returns-2 : tie.Need-returns-2
-returns-2 c =
+returns-3 : tie.Need-returns-3
+returns-3 c =
     closed-got _ _ _ _ _ _ _ (token-found _ _ _ _ (c .before .before .before .before .before .before .before .before .before .before .token-at .ensures) (c .before .before .before .before .before .before .before .before .t .given .1)) _ (c .before .before .before .before .before .before .reserved .ensures) (c .before .before .before .before .before .if1 .left) _ _ _
     (c .before .before .before .before .find .ensures) (c .slip-of .ensures) (c .before .before .relation-number .ensures .0) _ _ _ (c .before .write .ensures)
-
-returns-3 : tie.Need-returns-3
-returns-3 c = (tt, λ q m. name-missing _ _ _ _ (c .before .before .token-at .ensures) (c .enum-told .given .1) closedLine tt)
-
-returns-4 : tie.Need-returns-4
-returns-4 c = (tt, λ q m. name-missing _ _ _ _ (c .before .before .token-at .ensures) (c .enum-told2 .given .1) closedLine tt)
-
-returns-5 : tie.Need-returns-5
-returns-5 c = (tt, λ q m. name-missing _ _ _ _ (c .before .before .token-at .ensures) (c .enum-told3 .given .1) closedLine tt)
 
 pub closed-body-spec : {M : Type 1} → statement M
 closed-body-spec =
@@ -62,17 +49,12 @@ closed-body-spec =
     (tie.spec
     token-at-requires
     enum-known-t
-    reserved-requires
     returns
+    reserved-requires
+    returns-2
     find-requires
     relation-number-requires
     add-write
     write-requires
     slip-of-requires
-    enum-told
-    enum-told-2
-    enum-told-3
-    returns-2
-    returns-3
-    returns-4
-    returns-5)
+    returns-3)

@@ -1,3 +1,5 @@
+-- `read_bodies::one_side` meets its contract: the next word says which code stands behind the E.
+-- Assumes nothing.
 use Rattle.read_bodies.proofs.Sides.{side-passed, side-empty, side-irreflexive, side-none}
 use Rattle.read_bodies.proofs.NextWords.{word-stands, word-missing}
 use native.Mathlib.Omega.{arith}

@@ -1,6 +1,8 @@
-use Rattle.read_bodies.proofs.Sides.{include-wrong, include-deep, include-missing, include-passed}
+-- `read_bodies::two_sides` meets its contract: an E, the word `in`, and an E.
+-- Assumes nothing.
+use Rattle.read_bodies.proofs.Sides.{include-failed, include-missing, include-passed}
 use Rattle.read_bodies.proofs.NextWords.{word-stands, word-missing}
-use Rattle.read_bodies.proofs.Parts.{behind-of}
+use Rattle.read_bodies.proofs.Parts.{behind-of, failed}
 use mathlib.Core.List.{[]}
 use native.Mathlib.Omega.{arith}
 use borrow.Author.Needs.{needs}
@@ -13,14 +15,19 @@ expression-then-requires c κs = search needs
 enum-known-r : tie.Need-enum-known-r
 enum-known-r c = search needs
 
+returns : tie.Need-returns
+returns c =
+    let r = c .before .expression-then in
+    include-failed _ _ _ _ _ _ _ (r .result) (r .ensures) (failed (r .result) (c .match .keys2))
+
 word-key-requires : tie.Need-word-key-requires
 word-key-requires c κs = search needs
 
 word-next-requires : tie.Need-word-next-requires
 word-next-requires c κs = search needs
 
-returns : tie.Need-returns
-returns c = include-missing _ _ _ _ _ _ _ _ (c .before .before .before .before .before .before .expression-then .ensures) _ (c .before .before .before .before .r .given .1) (word-missing _ _ 8 (omega arith) _ (c .before .before .word-key .ensures) _ (c .before .word-next .ensures) (c .if1 .taken)) []
+returns-2 : tie.Need-returns-2
+returns-2 c = include-missing _ _ _ _ _ _ _ _ (c .before .before .before .before .before .before .expression-then .ensures) _ (c .before .before .before .before .r .given .1) (word-missing _ _ 8 (omega arith) _ (c .before .before .word-key .ensures) _ (c .before .word-next .ensures) (c .if1 .taken)) []
 
 expression-then-requires-2 : tie.Need-expression-then-requires-2
 expression-then-requires-2 c κs =
@@ -28,20 +35,8 @@ expression-then-requires-2 c κs =
     let w = word-stands _ _ 8 (omega arith) _ (c .before .before .before .word-key .ensures) _ (c .before .before .word-next .ensures) (c .before .if1 .left) in
     omega (arith, f .room, f .within, w .after, w .within, c .before .before .before .before .before .before .before .before .before .before .before .pre)
 
-enum-told : tie.Need-enum-told
-enum-told c = search needs
-
-enum-told-2 : tie.Need-enum-told-2
-enum-told-2 c = search needs
-
-returns-2 : tie.Need-returns-2
-returns-2 c = include-passed _ _ _ _ _ _ _ _ (c .before .before .before .before .before .before .before .before .expression-then .ensures) _ (c .before .before .before .before .before .before .r .given .1) _ (word-stands _ _ 8 (omega arith) _ (c .before .before .before .before .word-key .ensures) _ (c .before .before .before .word-next .ensures) (c .before .before .if1 .left)) _ (c .expression-then2 .result) (c .expression-then2 .ensures)
-
 returns-3 : tie.Need-returns-3
-returns-3 c = include-wrong _ _ _ _ _ _ _ _ (c .before .before .expression-then .ensures) (c .enum-told .given .1) []
-
-returns-4 : tie.Need-returns-4
-returns-4 c = include-deep _ _ _ _ _ _ _ _ (c .before .before .expression-then .ensures) (c .enum-told2 .given .1) []
+returns-3 c = include-passed _ _ _ _ _ _ _ _ (c .before .before .before .before .before .before .before .before .expression-then .ensures) _ (c .before .before .before .before .before .before .r .given .1) _ (word-stands _ _ 8 (omega arith) _ (c .before .before .before .before .word-key .ensures) _ (c .before .before .before .word-next .ensures) (c .before .before .if1 .left)) _ (c .expression-then2 .result) (c .expression-then2 .ensures)
 
 pub two-sides-spec : {M : Type 1} → statement M
 two-sides-spec =
@@ -49,12 +44,9 @@ two-sides-spec =
     (tie.spec
     expression-then-requires
     enum-known-r
+    returns
     word-key-requires
     word-next-requires
-    returns
-    expression-then-requires-2
-    enum-told
-    enum-told-2
     returns-2
-    returns-3
-    returns-4)
+    expression-then-requires-2
+    returns-3)

@@ -1,3 +1,5 @@
+-- `read_lines::check` meets its contract: the end of the line is judged first, and then its names.
+-- Assumes nothing.
 use Rattle.read_lines.proofs.LineEnds.{checked-unended, checked-fine, checked-slip}
 use Rattle.read_lines.specs.Kinds.{checked}
 use mathlib.Core.Path.{sym, ap}

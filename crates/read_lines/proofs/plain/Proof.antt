@@ -1,3 +1,5 @@
+-- `read_lines::plain` meets its contract: the check of the line says whether it is taken.
+-- Assumes nothing.
 use Rattle.read_lines.specs.Kinds.{plainRead}
 use mathlib.Core.Path.{sym, ap, _∙_}
 use borrow.Author.Needs.{needs}
@@ -15,7 +17,7 @@ enum-known-c-2 c = search needs
 
 returns : tie.Need-returns
 unfolding plainRead
-returns c = ap (plainRead _ _) (sym (c .before .c .given .1) ∙ c .before .before .before .check .ensures)
+returns c = ap (plainRead _ _) (sym (c .before .before .c .given .1) ∙ c .before .before .before .before .check .ensures)
 
 returns-2 : tie.Need-returns-2
 unfolding plainRead

@@ -1,5 +1,7 @@
+-- `read_lines::read_line` meets its contract: a line behind the claim and one with no word in front are refused, and the first word says the rest.
+-- Assumes nothing.
 use Rattle.read_lines.proofs.FirstWords.{claimed-before, no-word-first, word-first}
-use Rattle.read_bodies.proofs.NextWords.{token-found}
+use Rattle.read_bodies.proofs.NextWords.{no-word, token-found}
 use mathlib.Core.List.{[]}
 use native.Mathlib.Omega.{arith}
 use borrow.Author.Needs.{needs}
@@ -15,34 +17,22 @@ token-at-requires c κs = search needs
 enum-known-t : tie.Need-enum-known-t
 enum-known-t c = search needs
 
+returns-2 : tie.Need-returns-2
+returns-2 c =
+    let t = c .before .token-at in
+    no-word-first _ _ _ _ _ (c .before .before .if1 .left) (t .result) (t .ensures) (no-word (t .result) (c .match .keys2)) [] []
+
 kind-line-requires : tie.Need-kind-line-requires
 kind-line-requires c κs =
     let f = token-found _ _ _ _ (c .before .before .before .before .before .token-at .ensures) (c .before .before .before .t .given .1) in
-    (c .before .before .before .before .before .before .before .before .pre .0, omega (arith, f .after, f .within, c .before .before .before .before .before .before .before .before .pre .1))
+    let p = c .before .before .before .before .before .before .before .before .pre in
+    (p .0, omega (arith, f .after, f .within, p .1))
 
-enum-told : tie.Need-enum-told
-enum-told c = search needs
-
-enum-told-2 : tie.Need-enum-told-2
-enum-told-2 c = search needs
-
-enum-told-3 : tie.Need-enum-told-3
-enum-told-3 c = search needs
-
-returns-2 : tie.Need-returns-2
-returns-2 c =
+returns-3 : tie.Need-returns-3
+returns-3 c =
     let f = token-found _ _ _ _ (c .before .before .before .before .before .before .token-at .ensures) (c .before .before .before .before .t .given .1) in
     let l = c .kind-line in
     word-first _ _ _ _ _ (c .before .before .before .before .before .before .before .if1 .left) _ _ f (l .result) (l .last .1 .1 .1 .1 .1 .0) (l .last .1 .1 .1 .1 .1 .1 .0) (l .ensures (f .spelling) (f .spelled) (f .key))
-
-returns-3 : tie.Need-returns-3
-returns-3 c = no-word-first _ _ _ _ _ (c .before .before .before .if1 .left) _ _ (c .before .before .token-at .ensures) (c .enum-told .given .1) tt [] []
-
-returns-4 : tie.Need-returns-4
-returns-4 c = no-word-first _ _ _ _ _ (c .before .before .before .if1 .left) _ _ (c .before .before .token-at .ensures) (c .enum-told2 .given .1) tt [] []
-
-returns-5 : tie.Need-returns-5
-returns-5 c = no-word-first _ _ _ _ _ (c .before .before .before .if1 .left) _ _ (c .before .before .token-at .ensures) (c .enum-told3 .given .1) tt [] []
 
 pub read-line-spec : {M : Type 1} → statement M
 read-line-spec =
@@ -51,11 +41,6 @@ read-line-spec =
     returns
     token-at-requires
     enum-known-t
-    kind-line-requires
-    enum-told
-    enum-told-2
-    enum-told-3
     returns-2
-    returns-3
-    returns-4
-    returns-5)
+    kind-line-requires
+    returns-3)

@@ -1,3 +1,5 @@
+-- `read_lines::slip_reason` meets its contract: each arm gives what the definition's tests give.
+-- Assumes nothing.
 use Rattle.read_lines.specs.Kinds.{slipReason}
 use borrow.Author.Tests.{ne-eqb}
 use Rattle.read_lines.proofs.slip_reason.Statement.{statement}
