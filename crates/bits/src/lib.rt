@@ -7,6 +7,9 @@ ghost use Rattle.claims.specs.Query.{bit};
 ghost use Rattle.bits.specs.Sets.{including, allBelow, unionRows, meetsRows, anyMember};
 ghost use mathlib.Core.Bool.{cond};
 
+// All numbers below 64.
+pub const ALL: u64 = 0xffff_ffff_ffff_ffff;
+
 // Whether k is in s.
 pub fn member(s: u64, k: usize) -> bool
     ensures { λ r. ⌜ r ≡ bit k s ⌝ }
@@ -25,11 +28,7 @@ pub fn with(s: u64, k: usize) -> u64
 pub fn below(n: usize) -> u64
     ensures { λ r. ⌜ r ≡ allBelow 64 n ⌝ }
 {
-    if n < 64 {
-        (1u64 << n) - 1
-    } else {
-        0xffff_ffff_ffff_ffff
-    }
+    if n < 64 { (1u64 << n) - 1 } else { ALL }
 }
 
 // The set w with p in it, if p is to be in it.

@@ -15,7 +15,7 @@ pub mod Decided
 -- Rings.
 pub mod Turns
 pub mod Growing
-pub mod Prefixes
 pub mod Words
+pub mod Prefixes
 -- Tables of pairs.
 pub mod Closure

@@ -14,7 +14,7 @@ use Rattle.side_build.specs.Built.{builtFrom}
 use Rattle.read_text.specs.declared.Summary.{Summary}
 use Rattle.query.specs.declared.Facts.{Facts}
 use Rattle.query.specs.declared.Answer.the-variants.{Accepted, Refused}
-use Rattle.query.specs.Counted.{isRing, factsFrom, LeavesTables, Judged, inLimits, Limited}
+use Rattle.query.specs.inner.Counted.{isRing, factsFrom, LeavesTables, Judged, inLimits, Limited}
 
 is-false : (b : Bool) → not b ≡ true → b ≡ false
 is-false true e = sym e

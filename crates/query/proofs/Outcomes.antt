@@ -31,7 +31,7 @@ use Rattle.side_relations.proofs.Removed.{below-sixty-four}
 use Rattle.query.specs.declared.Answer.{Answer}
 use Rattle.query.specs.declared.Answer.the-variants.{Accepted, Refused}
 use Rattle.query.specs.Answer.{factsOf, Says, claimTable, tableAfter, leftAfter, rightAfter}
-use Rattle.query.specs.Counted.{isRing, factsFrom, LeavesTables, Judged, inLimits, Limited}
+use Rattle.query.specs.inner.Counted.{isRing, factsFrom, LeavesTables, Judged, inLimits, Limited}
 use Rattle.query.proofs.Readings.{Accepts, accepts, taken-claimed, ring-told, read-within, read-over, read-refused}
 
 -- the answer and every lent word are what the reading says

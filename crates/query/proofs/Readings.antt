@@ -26,7 +26,7 @@ use Rattle.read_text.proofs.Answers.{readable-then-limits}
 use Rattle.side_limits.specs.Sizes.{sizesOf, withinTest}
 use Rattle.side_limits.proofs.Counted.{within-is-within}
 use Rattle.codes.proofs.Claimed.{Claimed, read-claimed, claimEnd, claim-kind}
-use Rattle.query.specs.Counted.{isRing, inLimits}
+use Rattle.query.specs.inner.Counted.{isRing, inLimits}
 
 same-query : (p q : Query) → _≡_ {A = Result Query} (ok p) (ok q) → p ≡ q
 same-query p q e = cc

@@ -11,7 +11,7 @@ ghost use Rattle.claims.specs.Reading.{read as reading};
 ghost use Rattle.read_text.specs.Reading.{leftCodes};
 ghost use Rattle.side_limits.specs.Sizes.{sizesOf};
 ghost use Rattle.query.specs.Answer.{Says, leftAfter, rightAfter};
-ghost use Rattle.query.specs.Counted.{isRing, factsFrom, LeavesTables, Limited};
+ghost use Rattle.query.specs.inner.Counted.{isRing, factsFrom, LeavesTables, Limited};
 
 // What an accepted query leaves: how many codes it has, whether its claim is one of rings, the occurrences of its two sides, the number of
 // its atoms and relations, and the set of the atoms that no `never` removes.

@@ -24,7 +24,8 @@ use Rattle.read_tests.specs.declared.Parsed.the-variants.{Got, Wrong, Deep}
 use Rattle.read_tests.specs.Places.{Outcome, Is}
 use Rattle.read_names.specs.Keys.{Knows}
 use Rattle.read_names.specs.Slips.{firstOf, slipNumber}
-use Rattle.read_bodies.specs.Bodies.{Behind, Ends, Reads, ending, Fits, oneCode, codeStored, TestThen, Bracketed, limitsReader, limitCodes, limitUses, LimitsThen, BodyOutcome}
+use Rattle.read_bodies.specs.Bodies.{Behind, Ends, Reads, ending, TestThen, BodyOutcome}
+use Rattle.read_bodies.specs.inner.Parts.{Fits, oneCode, codeStored, Bracketed, limitsReader, limitCodes, limitUses, LimitsThen}
 use denote.Enum.Declared.{tagOf}
 use Rattle.read_tests.proofs.Parsed.{the-type}
 use Rattle.read_tests.proofs.Stores.{stores-then}

@@ -21,7 +21,8 @@ use Rattle.read_tests.specs.declared.Parsed.{Parsed}
 use Rattle.read_tests.specs.declared.Parsed.the-variants.{Got, Wrong, Deep}
 use Rattle.read_names.specs.Keys.{Knows}
 use Rattle.read_names.specs.Slips.{slipNumber}
-use Rattle.read_bodies.specs.Bodies.{ending, TreeThen, BodyOutcome, Bare, OneSided, oneSide}
+use Rattle.read_bodies.specs.Bodies.{ending, BodyOutcome, Bare, OneSided, oneSide}
+use Rattle.read_bodies.specs.inner.Parts.{TreeThen}
 use Rattle.read_tests.proofs.Stores.{stores-then}
 use Rattle.read_names.proofs.Slips.{slips-then}
 use Rattle.read_bodies.proofs.Parts.{Failed, tree-line}

@@ -8,13 +8,13 @@ use mathlib.Core.List.{List, [], _∷_, _++_}
 use lib.ListN.{length, drop}
 use lib.Seq.{sets}
 use Rattle.claims.specs.Tokens.{Token as Piece, tokens}
-use Rattle.claims.specs.Grammar.{Found, got, wrong, deep, andThen}
+use Rattle.claims.specs.Grammar.{Found, got, wrong, deep}
 use Rattle.claims.specs.Tree.{Name, Tree, Line, testLine, relLine, letLine, neverLine, withinLine, closedLine, assumeEmpty, assumeIrreflexive, claimLine}
 use Rattle.claims.specs.Bytes.{text}
-use Rattle.claims.specs.Lines.{Choice, mapped, expression, condition, bracketed}
+use Rattle.claims.specs.Lines.{Choice, mapped, expression, condition}
 use Rattle.claims.specs.Names.{Use, declares, uses, testUses, treeUses, firstSlip}
-use Rattle.claims.specs.Query.{Query, Limit}
-use Rattle.codes.specs.Codes.{testCodes, treeCodes, lineCodes, TESTED}
+use Rattle.claims.specs.Query.{Query}
+use Rattle.codes.specs.Codes.{testCodes, treeCodes, lineCodes}
 use Rattle.read_tokens.specs.declared.Key.{Key}
 use Rattle.read_tokens.specs.declared.Token.{Token}
 use Rattle.read_tokens.specs.declared.Token.the-variants.{Word, Mark, Bad, End}
@@ -60,47 +60,9 @@ module _ {A : Type 0} (D : List Piece → Found A) where
 abbrev pub ending : {A : Type 0} → ℕ → (Query → A → List ℕ) → Query → A → List ℕ
 ending code codes q a = codes q a ++ (code ∷ [])
 
--- there is room for a code behind what was read; the place behind it, and the array with it
-abbrev pub Fits : Parsed → Type 0
-Fits (Got g) = g .used < 4096
-Fits Wrong = Unit {0}
-Fits Deep = Unit {0}
-
-unfoldable pub oneCode : Parsed → Parsed
-oneCode (Got g) = Got (record { at = g .at; used = g .used + 1; slip = g .slip })
-oneCode Wrong = Wrong
-oneCode Deep = Deep
-
-unfoldable pub codeStored : ℕ → Parsed → List ℕ → List ℕ
-codeStored code (Got g) out = sets out (g .used) (code ∷ [])
-codeStored code Wrong out = out
-codeStored code Deep out = out
-
--- an E with a code behind it
-abbrev pub TreeThen : ℕ → List ℕ → List ℕ → ℕ → Place → List ℕ → List ℕ → Parsed → Type 0
-TreeThen code s names n p before after r = Reads expression (ending code treeCodes) treeUses 1 s names n p before after r
-
 -- a T with a code behind it
 abbrev pub TestThen : ℕ → List ℕ → List ℕ → ℕ → Place → List ℕ → List ℕ → Parsed → Type 0
 TestThen code s names n p before after r = Reads condition (ending code testCodes) testUses 1 s names n p before after r
-
--- a T in square brackets
-abbrev pub Bracketed : List ℕ → List ℕ → ℕ → Place → List ℕ → List ℕ → Parsed → Type 0
-Bracketed s names n p before after r = Reads bracketed (ending TESTED testCodes) testUses 0 s names n p before after r
-
--- `[T] [U]`
-unfoldable pub limitsReader : List Piece → Found Limit
-limitsReader ts = andThen (bracketed ts) (λ t us. mapped (λ u. record { from = t; to = u }) (bracketed us))
-
-abbrev pub limitCodes : Query → Limit → List ℕ
-limitCodes q l = ending TESTED testCodes q (l .from) ++ ending TESTED testCodes q (l .to)
-
-abbrev pub limitUses : Limit → List Use
-limitUses l = testUses (l .from) ++ testUses (l .to)
-
--- both of them, and then a code
-abbrev pub LimitsThen : ℕ → List ℕ → List ℕ → ℕ → Place → List ℕ → List ℕ → Parsed → Type 0
-LimitsThen code s names n p before after r = Reads limitsReader (ending code limitCodes) limitUses 1 s names n p before after r
 
 -- The reader D found a line of the sort in the tokens from `at` on, and the place r stands behind it. The codes are those of the line
 -- where no name has a slip.

@@ -10,7 +10,8 @@ ghost use Rattle.claims.specs.Grammar.{nameNext};
 ghost use Rattle.claims.specs.Tree.{Name, Tree, Line, closedLine};
 ghost use Rattle.claims.specs.Lines.{declared, mapped, choose, letReader, withinReader, includeReader, claims};
 ghost use Rattle.read_tests.specs.Places.{Room};
-ghost use Rattle.read_bodies.specs.Bodies.{Fits, oneCode, codeStored, TestThen, TreeThen, Bracketed, LimitsThen, BodyOutcome, Bare, Declaration, Declares, DeclaresLet, OneSided, oneSide};
+ghost use Rattle.read_bodies.specs.Bodies.{TestThen, BodyOutcome, Bare, Declaration, Declares, DeclaresLet, OneSided, oneSide};
+ghost use Rattle.read_bodies.specs.inner.Parts.{Fits, oneCode, codeStored, TreeThen, Bracketed, LimitsThen};
 
 // A name that is declared, and the line's code.
 pub fn declaration(

@@ -20,7 +20,7 @@ use Rattle.read_tests.specs.declared.Parsed.{Parsed}
 use Rattle.read_tests.specs.declared.Parsed.the-variants.{Got}
 use Rattle.read_tests.specs.Next.{markNext}
 use Rattle.read_tests.specs.Places.{Room, Read, TreeOutcome, Finds}
-use Rattle.read_exprs.specs.Postfix.{Wraps, SignStands, SignNext, PostfixesNext}
+use Rattle.read_exprs.specs.inner.Postfix.{Wraps, SignStands, SignNext, PostfixesNext}
 use Rattle.read_tests.proofs.Stores.{stores-then}
 use Rattle.read_tests.proofs.Told.{told-store, told-as}
 use Rattle.read_tests.proofs.Next.{mark-stands, mark-missing, goes-on, passed, one-fewer}

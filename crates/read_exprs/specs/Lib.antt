@@ -1,2 +1,2 @@
--- Postfixes.
-pub mod Postfix
+-- Promises between the functions of this crate.
+pub mod inner

@@ -11,7 +11,7 @@ ghost use Rattle.read_tests.specs.Next.{markNext};
 ghost use Rattle.read_tests.specs.Places.{Room, TreeOutcome, Is, Finds};
 ghost use Rattle.claims.specs.Grammar.{unionOf, sequenceOf, postfixOf, factorOf, nameNext};
 ghost use Rattle.claims.specs.Tree.{name};
-ghost use Rattle.read_exprs.specs.Postfix.{SignNext, PostfixesNext};
+ghost use Rattle.read_exprs.specs.inner.Postfix.{SignNext, PostfixesNext};
 
 // A postfix: its code, 0 for none, and the position behind it.
 struct Sign {

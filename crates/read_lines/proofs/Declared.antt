@@ -19,7 +19,7 @@ use Rattle.codes.specs.Codes.{queryCodes, linesCodes, lineCodes}
 use Rattle.read_tokens.specs.Scan.{keyOf, Spelled}
 use Rattle.read_bodies.specs.Bodies.{Bare}
 use Rattle.read_lines.specs.State.{hasClaim, After, Knows}
-use Rattle.read_lines.specs.Declaring.{numberOf, oneMore, DeclaresName}
+use Rattle.read_lines.specs.inner.Declaring.{numberOf, oneMore, DeclaresName}
 use Rattle.read_names.specs.Keys.{entered}
 use Rattle.read_lines.specs.declared.State.{State}
 use Rattle.codes.proofs.NameKinds.{each-more}

@@ -20,7 +20,7 @@ use Rattle.read_lines.specs.declared.Checked.the-variants.{Fine, Faulty}
 use Rattle.read_lines.specs.declared.State.{State}
 use Rattle.read_lines.specs.declared.LineRead.{LineRead}
 use Rattle.read_lines.specs.declared.LineRead.the-variants.{Taken, Refused}
-use Rattle.read_lines.specs.Declaring.{countOf, numberOf, mostOf, oneIf, oneMore, declaredRead, declaredNames, DeclaresName, DeclaresNext}
+use Rattle.read_lines.specs.inner.Declaring.{countOf, numberOf, mostOf, oneIf, oneMore, declaredRead, declaredNames, DeclaresName, DeclaresNext}
 use Rattle.read_lines.proofs.Fates.{fresh-name}
 
 -- the state with a name more, by three numbers that are 1 or 0

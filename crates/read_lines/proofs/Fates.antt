@@ -26,7 +26,7 @@ use Rattle.refusals.specs.declared.Reason.the-variants.{Notation as BadNotation
 use Rattle.read_lines.specs.declared.Checked.the-variants.{Fine, Faulty}
 use Rattle.read_names.specs.Slips.{slipNumber}
 use Rattle.refusals.specs.Causes.{causeOf}
-use Rattle.read_lines.specs.Kinds.{slipReason, checked, wholeLine}
+use Rattle.read_lines.specs.inner.Kinds.{slipReason, checked, wholeLine}
 use Rattle.read_bodies.specs.Bodies.{BodySays}
 
 -- the causes that a name has

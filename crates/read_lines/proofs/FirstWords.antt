@@ -32,7 +32,7 @@ use Rattle.read_lines.specs.declared.LineRead.{LineRead}
 use Rattle.read_lines.specs.declared.LineRead.the-variants.{Taken, Refused}
 use Rattle.read_lines.specs.State.{lineFate, hasClaim, After, ReadsLine}
 use Rattle.refusals.specs.Causes.{causeOf}
-use Rattle.read_lines.specs.Kinds.{wholeLine, KindSays, KindOutcome, kindPlace, readsAt}
+use Rattle.read_lines.specs.inner.Kinds.{wholeLine, KindSays, KindOutcome, kindPlace, readsAt}
 use Rattle.read_bodies.proofs.NextWords.{choose-here, choose-next, choose-none, NoWord, token-found}
 use Rattle.read_lines.proofs.Fates.{fate-wrong}
 

@@ -24,7 +24,7 @@ use Rattle.read_tests.specs.declared.Parsed.the-variants.{Got}
 use Rattle.refusals.specs.declared.Reason.{Reason}
 use Rattle.refusals.specs.declared.Reason.the-variants.{Notation}
 use Rattle.read_lines.specs.declared.Checked.the-variants.{Fine, Faulty}
-use Rattle.read_lines.specs.Kinds.{slipReason, checked}
+use Rattle.read_lines.specs.inner.Kinds.{slipReason, checked}
 
 -- the line's end, by the token that is found
 abbrev endOf : Bool → Token → Bool

@@ -33,8 +33,8 @@ use Rattle.read_names.specs.Keys as Keys
 use Rattle.read_lines.specs.State.{After, Small, Knows}
 use Rattle.refusals.specs.Causes.{causeOf}
 use Rattle.read_names.specs.Keys.{entered}
-use Rattle.read_lines.specs.Declaring.{countOf, numberOf, mostOf, oneIf, oneMore, declaredRead, declaredNames, DeclaresNext}
-use Rattle.read_lines.specs.Kinds.{checked, plainRead, wholeLine, KindSays, KindOutcome}
+use Rattle.read_lines.specs.inner.Declaring.{countOf, numberOf, mostOf, oneIf, oneMore, declaredRead, declaredNames, DeclaresNext}
+use Rattle.read_lines.specs.inner.Kinds.{checked, plainRead, wholeLine, KindSays, KindOutcome}
 use Rattle.read_bodies.specs.Bodies.{Body, BodySays, BodyOutcome, Bare, wordOf}
 use Rattle.read_bodies.proofs.Parts.{behind-of}
 use Rattle.read_lines.proofs.Declared.{bare-plain, after-declared, after-plain, knows-declared, knows-plain}

@@ -1,5 +1,4 @@
 -- The state between two lines, and what a line does to it.
 pub mod State
--- A line that declares a name, and the line of each kind.
-pub mod Declaring
-pub mod Kinds
+-- Promises between the functions of this crate.
+pub mod inner

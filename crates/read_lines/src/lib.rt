@@ -18,8 +18,8 @@ ghost use Rattle.codes.specs.Codes.{A-LET, MOST-LETS};
 ghost use Rattle.read_tokens.specs.Scan.{keyOf, tokenAt, Spelled};
 ghost use Rattle.read_bodies.specs.Bodies.{BodyOutcome, wordOf};
 ghost use Rattle.read_lines.specs.State.{Small, ReadsLine};
-ghost use Rattle.read_lines.specs.Declaring.{countOf, mostOf, oneIf, oneMore, declaredRead, declaredNames};
-ghost use Rattle.read_lines.specs.Kinds.{KindOutcome, slipReason, checked, plainRead, kindPlace, readsAt, SortOf};
+ghost use Rattle.read_lines.specs.inner.Declaring.{countOf, mostOf, oneIf, oneMore, declaredRead, declaredNames};
+ghost use Rattle.read_lines.specs.inner.Kinds.{KindOutcome, slipReason, checked, plainRead, kindPlace, readsAt, SortOf};
 
 // What the lines read so far declare, and how many codes they have.
 pub struct State {

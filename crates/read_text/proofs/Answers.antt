@@ -15,7 +15,8 @@ use Rattle.claims.specs.Query.{Query}
 use Rattle.claims.specs.Reading.{badLine, claimOf, readLines, limited, read}
 use Rattle.claims.specs.Refusals.{tooLong, badByte, noClaim, Result, ok, refused, refuse, onward}
 use Rattle.codes.specs.Codes.{queryCodes}
-use Rattle.read_text.specs.Reading.{orZero, claimed, inLines, readable, Says, leftCodes, Written}
+use Rattle.read_text.specs.Reading.{claimed, inLines, readable, Says, leftCodes}
+use Rattle.read_text.specs.inner.Steps.{orZero, Written}
 use Rattle.words.specs.Memory.{zeros}
 use Rattle.refusals.specs.Causes.{causeOf}
 use Rattle.refusals.specs.declared.Reason.{Reason}

@@ -22,7 +22,8 @@ use Rattle.claims.specs.Names.{kindOf}
 use Rattle.codes.specs.Codes.{codeOf, kindCode, queryCodes, linesCodes}
 use Rattle.read_tokens.specs.Scan.{front}
 use Rattle.read_names.specs.Keys.{findIn}
-use Rattle.read_text.specs.Reading.{inLine, claimed, inLines, summaryOf, known, Says, Written}
+use Rattle.read_text.specs.Reading.{claimed, inLines, summaryOf, Says}
+use Rattle.read_text.specs.inner.Steps.{inLine, known, Written}
 use Rattle.read_lines.specs.State.{After, Small, Knows, Took, LineSays, ReadsLine, lineFate}
 use Rattle.refusals.specs.Causes.{causeOf}
 use Rattle.refusals.specs.declared.Reason.{Reason}

@@ -18,7 +18,7 @@ use Rattle.claims.specs.Reading.{badLine}
 use Rattle.claims.proofs.FirstFault.{bad-line}
 use Rattle.read_tokens.specs.Scan.{front}
 use Rattle.read_tokens.proofs.Fronts.{front-none, front-one}
-use Rattle.read_text.specs.Reading.{inLine, orZero}
+use Rattle.read_text.specs.inner.Steps.{inLine, orZero}
 
 -- the byte at i of s, in line n: it ends the line, may stand in it, or may not
 module _ (n : ℕ) (s : List ℕ) (i : ℕ) (h : i < length s) where

@@ -3,31 +3,21 @@
 -- Assumes nothing.
 use Prim.Native.Nat.{ℕ, _-_}
 use mathlib.Core.Path.{_≡_}
-use mathlib.Core.Bool.{Bool, true, false, not}
+use mathlib.Core.Bool.{true, false}
 use mathlib.Core.List.{List, [], _++_}
-use mathlib.Core.Option.{Option, some, none}
-use lib.Dec.{eqb, leb}
-use lib.ListN.{length, drop}
+use mathlib.Core.Option.{some, none}
+use lib.Dec.{leb}
+use lib.ListN.{length}
 use Rattle.claims.specs.Bytes.{rawLines}
 use Rattle.claims.specs.Query.{Query, tests, relations}
 use Rattle.claims.specs.Reading.{badLine, claimOf, readLines}
 use Rattle.claims.specs.Refusals.{tooLong, badByte, noClaim, Result, ok, refused, refuse, onward}
 use Rattle.codes.specs.Codes.{queryCodes, claimKind}
-use Rattle.read_lines.specs.declared.State.{State}
 use Rattle.refusals.specs.Causes.{causeOf}
 use Rattle.read_text.specs.declared.Summary.{Summary}
 use Rattle.read_text.specs.declared.Reading.{Reading}
 use Rattle.read_text.specs.declared.Reading.the-variants.{Accepted, Refused}
 use Rattle.words.specs.Memory.{zeros}
-
--- a byte that ends no line
-unfoldable pub inLine : ℕ → Bool
-inLine b = not (eqb b 10)
-
--- a line's number, 0 for none
-unfoldable pub orZero : Option ℕ → ℕ
-orZero none = 0
-orZero (some n) = n
 
 -- a query must have a claim
 unfoldable pub claimed : Query → Result Query
@@ -67,13 +57,3 @@ Says (refused r) (Refused c p) = (causeOf c ≡ r .cause) × (p ≡ r .place)
 unfoldable pub leftCodes : Result Query → List ℕ
 leftCodes (ok q) = queryCodes q ++ zeros (4096 - length (queryCodes q))
 leftCodes (refused r) = zeros 4096
-
--- the array after the lines were read over it: the codes of the query, and behind them what stood there; after a refusal nothing is said
-abbrev pub Written : Result Query → List ℕ → List ℕ → Type 0
-Written (ok q) before out = out ≡ queryCodes q ++ drop (length (queryCodes q)) before
-Written (refused r) before out = Unit {0}
-
--- what the reader's state says after so many lines with these codes
-unfoldable pub known : State → ℕ → List ℕ → Summary
-known st n ks =
-    record { codes = st .used; lines = n; tests = st .tests; relations = st .relations; kind = claimKind ks }

@@ -9,7 +9,8 @@ ghost use Prim.Native.Nat.{_+_, _≤_};
 ghost use lib.ListN.{length, take, drop};
 ghost use Rattle.claims.specs.Reading.{badLine};
 ghost use Rattle.read_tokens.specs.Scan.{front};
-ghost use Rattle.read_text.specs.Reading.{inLine, orZero, inLines, readable, known, Says, leftCodes, Written};
+ghost use Rattle.read_text.specs.Reading.{inLines, readable, Says, leftCodes};
+ghost use Rattle.read_text.specs.inner.Steps.{inLine, orZero, known, Written};
 
 // What the reader knows of a query that it has read: how many codes, lines, tests and relations it has, and the last code, which tells the
 // kind of its claim.

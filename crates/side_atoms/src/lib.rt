@@ -7,8 +7,6 @@ ghost use lib.ListN.{length};
 ghost use lib.Seq.{slice};
 ghost use Rattle.side_atoms.specs.Tests.{top, push, stacked, holding, testStep, runTest, testSet};
 
-const ALL: u64 = 0xffff_ffff_ffff_ffff;
-
 // What is on top of a stack of height n.
 fn peek(stack: &[u64], n: usize) -> u64
     requires { ⌜ n ≤ length (now stack) ⌝ }
@@ -54,11 +52,11 @@ fn test_step(stack: &mut [u64], n: usize, code: u64) -> usize
     let m = words::less(n);
     let b = peek(stack, m);
     match code {
-        codes::TRUE => put(stack, n, ALL),
+        codes::TRUE => put(stack, n, bits::ALL),
         codes::FALSE => put(stack, n, 0),
         codes::OR => put(stack, words::less(m), b | a),
         codes::AND => put(stack, words::less(m), b & a),
-        codes::NOT => put(stack, m, ALL - a),
+        codes::NOT => put(stack, m, bits::ALL - a),
         codes::A_TEST..=codes::LAST_TEST => put(stack, n, holding_atoms(code - codes::A_TEST)),
         _ => n,
     }

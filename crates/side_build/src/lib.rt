@@ -5,8 +5,7 @@ ghost use lib.ListN.{length, take};
 ghost use Rattle.side_items.specs.Items.{argsOf, itemsOf};
 ghost use Rattle.side_relations.specs.Relations.{removedSet, liveSet};
 ghost use Rattle.side_claim.specs.Sides.{leftMachine, rightMachine};
-ghost use Rattle.side_jumps.specs.Jumps.{Jumps, Onward};
-ghost use Rattle.side_jumps.specs.Leaps.{Places};
+ghost use Rattle.side_jumps.specs.Jumps.{Jumps, Onward, Places};
 ghost use Rattle.side_build.specs.Built.{relsOf, sideOf, leftTable, rightTable, builtFrom};
 
 // The occurrences of each side, and the set of the atoms that no `never` removes.

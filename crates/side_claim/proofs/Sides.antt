@@ -19,7 +19,7 @@ use Rattle.claims.proofs.Counts.{total-append}
 use Rattle.claims.proofs.Limits.{WithinLimits, decision-within-limits}
 use Rattle.codes.specs.Codes.{queryCodes, claimKind}
 use Rattle.codes.proofs.Orderly.{Orderly, settled-none, settled-on}
-use Rattle.codes.proofs.Claimed.{Claimed}
+use Rattle.codes.proofs.Claimed.{Claimed, claim-kind}
 use Rattle.bits.proofs.Bit.{bit-ones}
 use Rattle.side_atoms.specs.Atoms.{atomsOf, allAtoms}
 use Rattle.side_atoms.proofs.Atoms.{atoms-none, atoms-all}
@@ -35,7 +35,6 @@ use Rattle.side_parts.proofs.BuildsIterated.{builds-star}
 use Rattle.side_parts.proofs.BuiltAlone.{builds-on-nothing, null-alone}
 use Rattle.side_items.proofs.Placed.{Placed, PlacedAll, Limited}
 use Rattle.side_claim.proofs.Starts.{claimEnding}
-use Rattle.codes.proofs.Claimed.{claim-kind}
 use Rattle.side_claim.proofs.Endings.{empty-placed, irreflexive-placed, claim-placed, placed-before, no-starts}
 use Rattle.side_runs.proofs.Executed.{placed-builds}
 use Rattle.side_claim.proofs.Leaves.{union-occurrences-few, FewLeaves, within-few}

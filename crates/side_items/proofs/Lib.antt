@@ -4,8 +4,8 @@ pub mod Needed
 pub mod Scanned
 pub mod TreeItems
 pub mod LineItems
-pub mod FreeItems
 pub mod Inside
+pub mod FreeItems
 -- Sets of tests, and expressions, in the lines of a query.
 pub mod EarlierTests
 pub mod Placed

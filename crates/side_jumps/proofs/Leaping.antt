@@ -17,8 +17,8 @@ use Rattle.kat.proofs.Bools.{or-cases, and-left, and-right}
 use Rattle.side_parts.specs.Machine.{Machine, stepped}
 use Rattle.side_items.specs.Items.{Item, ofTest, paired}
 use Rattle.side_jumps.specs.Performing.{performed, perform}
-use Rattle.side_jumps.specs.Jumps.{Onward, Jumps}
-use Rattle.side_jumps.specs.Leaps.{postfix, Leap, Leaps, Places}
+use Rattle.side_jumps.specs.Jumps.{Onward, Jumps, Places}
+use Rattle.side_jumps.specs.inner.Leaps.{postfix, Leap, Leaps}
 use Rattle.side_parts.proofs.Postfixes.{postfix-twice, postfix-both, stepped-bounded}
 
 -- codes and what they need, side by side

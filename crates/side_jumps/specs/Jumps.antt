@@ -20,3 +20,10 @@ pub record Jumps (is : List Item) (ops args next : List ℕ) : Type 0 where
   pub jump : (i : ℕ) → i < length ops → (call : ℕ → Machine → Machine) (rels : List ℕ) (m : Machine) → length (m .stack) ≤ 1024
       → perform call rels (drop i is) m
       ≡ perform call rels (record { code = getD ops i 0; arg = getD args i 0 } ∷ drop (getD next i 0) is) m
+
+-- codes, what they need, and memory for what stands at each of their places
+pub record Places (codes given ks xs ps : List ℕ) : Type 0 where
+  pub needed : length given ≡ length codes
+  pub ops : length ks ≡ length codes
+  pub args : length xs ≡ length codes
+  pub next : length ps ≡ length codes

@@ -2,4 +2,5 @@
 pub mod Performing
 -- Where to go on.
 pub mod Jumps
-pub mod Leaps
+-- Promises between the functions of this crate.
+pub mod inner

@@ -8,8 +8,8 @@ ghost use lib.Dec.{eqb};
 ghost use lib.ListN.{length, set};
 ghost use Rattle.codes.specs.Codes.{STAR};
 ghost use Rattle.side_items.specs.Items.{paired};
-ghost use Rattle.side_jumps.specs.Jumps.{Onward, Jumps};
-ghost use Rattle.side_jumps.specs.Leaps.{postfix, Leaps, Places};
+ghost use Rattle.side_jumps.specs.Jumps.{Onward, Jumps, Places};
+ghost use Rattle.side_jumps.specs.inner.Leaps.{postfix, Leaps};
 
 // Whether a code is a postfix.
 fn is_postfix(k: u64) -> bool

@@ -16,7 +16,7 @@ use Rattle.side_limits.specs.declared.Sizes.{Sizes}
 use Rattle.side_limits.specs.declared.Sums.{Sums}
 use Rattle.side_limits.specs.Tally.{Tally, capped, weight, endsLeft, rightEnd, step, nothing, tally, relationLeaves, rightSide}
 use Rattle.side_limits.specs.Sizes.{exactSizes, cappedSize, cappedSizes, sizesOf}
-use Rattle.side_limits.specs.CappedSums.{Agrees, Turned, rightSum}
+use Rattle.side_limits.specs.inner.CappedSums.{Agrees, Turned, rightSum}
 use Rattle.codes.specs.Lets.{kept}
 use Rattle.side_limits.proofs.Walk.{tally-same}
 

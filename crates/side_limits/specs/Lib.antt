@@ -2,5 +2,5 @@
 pub mod Tally
 -- The sizes of both sides, and the limits.
 pub mod Sizes
--- Sums that stop at 1,000.
-pub mod CappedSums
+-- Promises between the functions of this crate.
+pub mod inner

@@ -6,7 +6,7 @@ ghost use Prim.Native.Nat.{ℕ, _+_, _<_, _^_};
 ghost use lib.ListN.{length, getD, replicate};
 ghost use Rattle.side_limits.specs.Tally.{capped, weight as weightOf, endsLeft, rightEnd, times as timesOf, relationLeaves, tally};
 ghost use Rattle.side_limits.specs.Sizes.{sizesOf, withinTest};
-ghost use Rattle.side_limits.specs.CappedSums.{Agrees, Turned, rightSum};
+ghost use Rattle.side_limits.specs.inner.CappedSums.{Agrees, Turned, rightSum};
 
 // Occurrences and leaves of a side, up to 1,000.
 pub struct Size {

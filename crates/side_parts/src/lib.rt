@@ -8,8 +8,6 @@ ghost use lib.ListN.{length, getD};
 ghost use Rattle.side_parts.specs.Machine.{topPart, pushPart, given, fresh, united, inOrder, again, optional, stepped, nothingBuilt};
 ghost use Rattle.side_parts.specs.Memory.{partsIn, machineIn, Fits};
 
-const ALL: u64 = 0xffff_ffff_ffff_ffff;
-
 // How many parts wait, and how many occurrences there are.
 pub struct Top {
     pub height: usize,
@@ -99,7 +97,7 @@ fn make_optional(parts: &mut [u64], top: Top) -> Top
     let n = top.height;
     let low = low_at(parts, n);
     Top {
-        height: push(parts, less(n), low, ALL),
+        height: push(parts, less(n), low, bits::ALL),
         used: top.used,
     }
 }
@@ -230,7 +228,18 @@ pub fn step(
             top
         }
         codes::OPTIONAL => make_optional(parts, top),
-        codes::ANY => add_fresh(first, last, follow, letters, parts, top, ALL, ALL, 0, 65535),
+        codes::ANY => add_fresh(
+            first,
+            last,
+            follow,
+            letters,
+            parts,
+            top,
+            bits::ALL,
+            bits::ALL,
+            0,
+            65535,
+        ),
         codes::A_RELATION..=codes::LAST_RELATION => add_relation(
             (code - codes::A_RELATION) as usize,
             rels,

@@ -11,8 +11,6 @@ ghost use Rattle.words.specs.Memory.{words};
 ghost use Rattle.side_items.specs.Items.{paired};
 ghost use Rattle.side_relations.specs.Relations.{narrowed, limitsFrom, relationAt, relationSets, removedSet, liveSet};
 
-const ALL: u64 = 0xffff_ffff_ffff_ffff;
-
 // The line `closed` of the relation whose set stands at place i of the sets is `CLOSED + i`.
 const CLOSED: u64 = codes::CLOSED_LINE - 32;
 
@@ -117,7 +115,7 @@ pub fn relation_sets(codes: &[u64], args: &[u64], rels: &mut [u64; codes::RELATI
     requires { ⌜ length (now args) ≡ length (now codes) ⌝ }
     ensures { λ r. ⌜ now (rels .exit) ≡ relationSets (paired (now (codes .entry)) (now (args .entry))) ⌝ }
 {
-    let mut limits = [ALL; 32];
+    let mut limits = [bits::ALL; 32];
     narrow_all(codes, args, &mut limits);
     relation_words(codes, &limits, rels);
 }
@@ -141,5 +139,5 @@ pub fn live_set(tests: u64, removed: u64) -> u64
     ensures { λ r. ⌜ r ≡ liveSet tests removed ⌝ }
 {
     let n = atom_count(tests);
-    bits::below(n) & (ALL - removed)
+    bits::below(n) & (bits::ALL - removed)
 }

@@ -17,7 +17,7 @@ use Rattle.side_parts.specs.Memory.{Fits, machineIn}
 use Rattle.side_jumps.specs.Jumps.{Jumps}
 use Rattle.side_parts.specs.declared.Top.{Top}
 use Rattle.side_parts.proofs.PartsInMemory.{parts-length}
-use Rattle.side_runs.specs.Running.{itemAt, letBefore, LineRan, ItemRan}
+use Rattle.side_runs.specs.inner.Running.{itemAt, letBefore, LineRan, ItemRan}
 
 pub fits-bounded : {first last follow letters parts : List ℕ} {t : Top} → Fits first last follow letters parts t
     → length (machineIn first last follow letters parts t .stack) ≤ 1024

@@ -13,7 +13,7 @@ use Rattle.side_parts.specs.Machine.{Machine, stepped}
 use Rattle.side_items.specs.Items.{Item, startsFrom, startsOf}
 use Rattle.side_runs.specs.Execution.{executeAll, unitedTimes, executeUnion}
 use Rattle.side_jumps.specs.Jumps.{Jumps}
-use Rattle.side_runs.specs.Running.{LineRan}
+use Rattle.side_runs.specs.inner.Running.{LineRan}
 
 -- the places from i on, where an expression starts at s
 module _ (k : ℕ) (cs : List ℕ) (i s : ℕ) where

@@ -1,4 +1,4 @@
 -- Lets expanded.
 pub mod Execution
--- The items of a line run in memory.
-pub mod Running
+-- Promises between the functions of this crate.
+pub mod inner

@@ -12,7 +12,7 @@ ghost use Rattle.side_items.specs.Items.{Item, startsOf};
 ghost use Rattle.side_runs.specs.Execution.{executeAll, unitedTimes, executeUnion};
 ghost use Rattle.side_parts.specs.Memory.{Fits, machineIn};
 ghost use Rattle.side_jumps.specs.Jumps.{Jumps, Onward};
-ghost use Rattle.side_runs.specs.Running.{LineRan, ItemRan};
+ghost use Rattle.side_runs.specs.inner.Running.{LineRan, ItemRan};
 
 // The items from a place to the end of its line; a let is built from the place where its line starts, which comes before. No more than 33
 // of these calls stand in one another, since a let names only lets before it.

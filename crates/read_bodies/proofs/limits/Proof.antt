@@ -1,6 +1,6 @@
 -- `read_bodies::limits` meets its contract: two bracketed T, one behind the other, and a code behind both.
 -- Assumes nothing.
-use Rattle.read_bodies.specs.Bodies.{limitsReader, limitCodes, limitUses}
+use Rattle.read_bodies.specs.inner.Parts.{limitsReader, limitCodes, limitUses}
 use Rattle.read_bodies.proofs.Parts.{behind-of, failed, code-fits, code-read, limits-failed, limits-read}
 use native.Mathlib.Omega.{arith}
 use borrow.Author.Needs.{needs}

@@ -1,7 +1,7 @@
 -- `read_lines::check` meets its contract: the end of the line is judged first, and then its names.
 -- Assumes nothing.
 use Rattle.read_lines.proofs.LineEnds.{checked-unended, checked-fine, checked-slip}
-use Rattle.read_lines.specs.Kinds.{checked}
+use Rattle.read_lines.specs.inner.Kinds.{checked}
 use mathlib.Core.Path.{sym, ap}
 use borrow.Author.Needs.{needs}
 use Rattle.read_lines.proofs.check.Statement.{statement}

@@ -1,6 +1,6 @@
 -- `read_lines::count_of` meets its contract: each arm gives what the definition's tests give.
 -- Assumes nothing.
-use Rattle.read_lines.specs.Declaring.{countOf}
+use Rattle.read_lines.specs.inner.Declaring.{countOf}
 use borrow.Author.Tests.{ne-eqb}
 use Rattle.read_lines.proofs.count_of.Statement.{statement}
 use Rattle.read_lines.proofs.count_of.Tie as tie

@@ -1,6 +1,6 @@
 -- `read_lines::most_of` meets its contract: each arm gives what the definition's tests give.
 -- Assumes nothing.
-use Rattle.read_lines.specs.Declaring.{mostOf}
+use Rattle.read_lines.specs.inner.Declaring.{mostOf}
 use borrow.Author.Tests.{ne-eqb}
 use native.Mathlib.Omega.{arith}
 use Rattle.read_lines.proofs.most_of.Statement.{statement}

@@ -1,6 +1,6 @@
 -- `read_lines::plain` meets its contract: the check of the line says whether it is taken.
 -- Assumes nothing.
-use Rattle.read_lines.specs.Kinds.{plainRead}
+use Rattle.read_lines.specs.inner.Kinds.{plainRead}
 use mathlib.Core.Path.{sym, ap, _∙_}
 use borrow.Author.Needs.{needs}
 use Rattle.read_lines.proofs.plain.Statement.{statement}

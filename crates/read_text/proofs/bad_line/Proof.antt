@@ -6,7 +6,7 @@ use mathlib.Core.Path.{_≡_, refl, sym, _∙_, ap}
 use mathlib.Core.Logic.{⊎-elim}
 use lib.ListN.{length, drop}
 use Rattle.claims.specs.Reading.{badLine}
-use Rattle.read_text.specs.Reading.{orZero}
+use Rattle.read_text.specs.inner.Steps.{orZero}
 use Rattle.read_text.proofs.TextLines.{byte-ends, byte-allowed, byte-low, byte-high, bytes-over}
 use Rattle.read_text.proofs.bad_line.Statement.{statement}
 use Rattle.read_text.proofs.bad_line.Tie as tie

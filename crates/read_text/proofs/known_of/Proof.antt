@@ -3,7 +3,7 @@
 use mathlib.Core.Path.{sym}
 use lib.Seq.{length-take-le}
 use borrow.Author.Needs.{needs}
-use Rattle.read_text.specs.Reading.{known}
+use Rattle.read_text.specs.inner.Steps.{known}
 use Rattle.read_text.proofs.known_of.Statement.{statement}
 use Rattle.read_text.proofs.known_of.Tie as tie
 

@@ -9,7 +9,7 @@ use lib.ListN.{length, drop}
 use borrow.Author.Tests.{eq-eqb, ne-eqb}
 use Rattle.read_tokens.specs.Scan.{front}
 use Rattle.read_tokens.proofs.Fronts.{front-more, front-stop, front-end}
-use Rattle.read_text.specs.Reading.{inLine}
+use Rattle.read_text.specs.inner.Steps.{inLine}
 use Rattle.read_text.proofs.line_end.Statement.{statement}
 use Rattle.read_text.proofs.line_end.Tie as tie
 

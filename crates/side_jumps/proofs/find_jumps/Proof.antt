@@ -5,7 +5,8 @@ use native.Mathlib.Omega.{arith}
 use mathlib.Core.Path.{sym, _∙_}
 use lib.ListN.{length}
 use Rattle.side_items.specs.Items.{paired}
-use Rattle.side_jumps.specs.Leaps.{Leaps, Places}
+use Rattle.side_jumps.specs.inner.Leaps.{Leaps}
+use Rattle.side_jumps.specs.Jumps.{Places}
 use Rattle.side_jumps.proofs.Leaping.{leaps-none, leaps-onward, leaps-jumps}
 use Rattle.side_jumps.proofs.find_jumps.Statement.{statement}
 use Rattle.side_jumps.proofs.find_jumps.Tie as tie

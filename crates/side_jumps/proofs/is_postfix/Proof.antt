@@ -1,7 +1,7 @@
 -- `side_jumps::is_postfix` meets its contract.
 -- Assumes nothing.
 use borrow.Author.Tests.{lt-leb, le-leb}
-use Rattle.side_jumps.specs.Leaps.{postfix}
+use Rattle.side_jumps.specs.inner.Leaps.{postfix}
 use Rattle.side_jumps.proofs.is_postfix.Statement.{statement}
 use Rattle.side_jumps.proofs.is_postfix.Tie as tie
 

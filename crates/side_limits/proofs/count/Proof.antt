@@ -9,7 +9,7 @@ use lib.ListN.{length, getD, take}
 use lib.Seq.{take-all}
 use borrow.Author.Needs.{needs}
 use Rattle.side_limits.specs.Tally.{tally, run, weight}
-use Rattle.side_limits.specs.CappedSums.{Agrees}
+use Rattle.side_limits.specs.inner.CappedSums.{Agrees}
 use Rattle.side_limits.proofs.CappedSums.{once, Follows, follows-on, follows-start}
 use Rattle.side_limits.proofs.Walk.{tally-more}
 use Rattle.side_limits.proofs.count.Statement.{statement}

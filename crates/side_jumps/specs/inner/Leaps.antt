@@ -27,10 +27,3 @@ pub record Leap (is : List Item) (i k x p : ℕ) : Type 0 where
 abbrev pub Leaps : List Item → ℕ → List ℕ → List ℕ → List ℕ → Type 0
 Leaps is i ops args next =
     (j : ℕ) → i ≤ j → j < length is → Leap is j (getD ops j 0) (getD args j 0) (getD next j 0)
-
--- codes, what they need, and memory for what stands at each of their places
-pub record Places (codes given ks xs ps : List ℕ) : Type 0 where
-  pub needed : length given ≡ length codes
-  pub ops : length ks ≡ length codes
-  pub args : length xs ≡ length codes
-  pub next : length ps ≡ length codes

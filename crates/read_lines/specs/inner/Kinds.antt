@@ -28,7 +28,7 @@ use Rattle.read_lines.specs.declared.LineRead.{LineRead}
 use Rattle.read_lines.specs.declared.LineRead.the-variants.{Taken, Refused}
 use Rattle.read_bodies.specs.Bodies.{Bare}
 use Rattle.codes.specs.Codes.{A-TEST, A-RELATION, A-LET}
-use Rattle.read_lines.specs.Declaring.{DeclaresNext}
+use Rattle.read_lines.specs.inner.Declaring.{DeclaresNext}
 use Rattle.read_lines.specs.State.{After, Small, Knows}
 use Rattle.refusals.specs.Causes.{causeOf}
 

@@ -1,0 +1,2 @@
+-- The facts from what is known and built, and the limits.
+pub mod Counted

@@ -1,0 +1,2 @@
+-- A code behind what was read, and the limits of a `within` line.
+pub mod Parts

@@ -1,0 +1,2 @@
+-- Postfixes.
+pub mod Postfix

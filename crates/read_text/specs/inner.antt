@@ -1,0 +1,2 @@
+-- The reading while it goes on.
+pub mod Steps

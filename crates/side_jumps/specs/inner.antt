@@ -1,0 +1,2 @@
+-- Where to go on, place by place.
+pub mod Leaps

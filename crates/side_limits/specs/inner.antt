@@ -1,0 +1,2 @@
+-- Sums that stop at 1,000.
+pub mod CappedSums

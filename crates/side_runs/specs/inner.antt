@@ -1,0 +1,2 @@
+-- The items of a line run in memory.
+pub mod Running
