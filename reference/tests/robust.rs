@@ -100,7 +100,7 @@ fn kinds_of_cases_reach_what_they_should() {
             "query" => vec![1, 2, 3, 4, 5, 6, 8, 9, 10],
             "small-query" => (2..=8).collect(),
             "sheet" => (2..=10).collect(),
-            "check" | "small-check" | "draw" => vec![13, 14],
+            "check" | "small-check" | "draw" | "small-draw" => vec![13, 14],
             _ => vec![12],
         };
         assert!(wanted.iter().all(|number| refusals.contains(number)), "{kind}: {refusals:?}");
