@@ -21,7 +21,7 @@ use Rattle.kat.proofs.Bools.{bool-ext, le-or-lt, false-of-not}
 use Rattle.kat.proofs.Sets.{member-in, in-member, filter-in, in-filter, in-upto, upto-in}
 use Rattle.claims.specs.Query.{bit}
 use Rattle.claims.specs.Fields.{setNumber, numberSet}
-use Rattle.claims.proofs.SetBytes.{Rising, filter-rising, setNumber-small, set-read-back, picked, picked-even, picked-odd}
+use Rattle.claims.proofs.SetBytes.{RisingWithin, filter-rising, setNumber-small, set-read-back, picked, picked-even, picked-odd}
 use Rattle.bits.proofs.Bit.{digit, bit-above, bit-or, bit-and, bit-ext}
 use Rattle.bits.proofs.Lists.{filter-same, filter-filter, some-filter, some-same, some-either, some-map}
 
@@ -187,7 +187,7 @@ unfolding numberSet picked
 number-wide lo hi hi′ m h k = picked-wide lo (hi - lo) (hi′ - lo) m (omega arith) k
 
 -- the bits of the number that a set is written as
-pub bit-number : (lo hi : ℕ) (s : List ℕ) → Rising lo hi s → (k : ℕ)
+pub bit-number : (lo hi : ℕ) (s : List ℕ) → RisingWithin lo hi s → (k : ℕ)
     → lo ≤ k → k < hi → bit (k - lo) (setNumber lo s) ≡ member k s
 bit-number lo hi s r k p q = sym (member-number lo hi (setNumber lo s) k p q) ∙ ap (member k) (set-read-back lo hi s r)
 

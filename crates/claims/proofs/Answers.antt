@@ -20,11 +20,10 @@ use Rattle.claims.specs.Standings.{System}
 use Rattle.claims.specs.Passing.{refuting}
 use Rattle.claims.specs.Search.{Entry}
 use Rattle.claims.specs.Verdicts.{relationsIn, NotAfter, GuardedWord, StandingOf, begun, grown, Within, NoneShorter, AtMost, ProvedBy, RefutedBy, SpentAt}
-use Rattle.claims.proofs.Lawful.{Lawful}
-use Rattle.claims.proofs.Pairwise.{Rising}
+use Rattle.claims.specs.Lawful.{Lawful}
+use Rattle.claims.specs.Orders.{Rising, NotLater, letterOf}
 use Rattle.claims.proofs.Distinct.{distinct-no-longer}
-use Rattle.claims.proofs.Order.{NotLater, not-later-trans, earlier-word, lower-word}
-use Rattle.claims.proofs.Letters.{letterOf}
+use Rattle.claims.proofs.Order.{not-later-trans, earlier-word, lower-word}
 use Rattle.claims.proofs.Prefixes
 use Rattle.claims.proofs.Fresh.{standings}
 use Rattle.claims.proofs.Candidates.{Completes}

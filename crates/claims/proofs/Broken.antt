@@ -8,11 +8,11 @@ use mathlib.Core.Path.{_≡_, refl, sym, ap, subst}
 use mathlib.Core.Logic.{_⊎_, _↔_, ⊎-elim}
 use mathlib.Core.Logic._⊎_.{inl, inr}
 use mathlib.Core.Bool.{Bool, true, false, not, _&&_}
-use mathlib.Core.List.{List, [], _∷_, _++_}
+use mathlib.Core.List.{List, [], _∷_}
 use lib.ListN.{length, getD}
 use Rattle.kat.specs.Lists.{In, here, there, some}
 use Rattle.kat.specs.Closure.{entry}
-use Rattle.kat.specs.Graph.{Finite, Graph, graph}
+use Rattle.kat.specs.Graph.{Finite, graph}
 use Rattle.kat.proofs.Bools.{bool-cases, true-not-false, and-left, and-right, and-both, not-true-false, false-not-true}
 use Rattle.kat.proofs.Sets.{in-append-right}
 use Rattle.claims.specs.Tree.{Tree, TestTree, Name, Line, testLine, relLine, letLine, neverLine, withinLine, closedLine, assumeEmpty, assumeIrreflexive, claimLine}
@@ -21,9 +21,10 @@ use Rattle.claims.specs.Sides.{meant, single}
 use Rattle.claims.specs.Judgement.{events, somePair, judged, breaks, firstBroken}
 use Rattle.claims.specs.Meaning.{Related, Meets, MeetsAll}
 use Rattle.claims.proofs.Pairs.{some-event, event-some, pairs-are-related}
+use Rattle.claims.specs.Judgements.{FirstUnmet}
 
 -- the test b says that P fails
-pub record Refutes (b : Bool) (P : Type 0) : Type 0 where
+pub record Denies (b : Bool) (P : Type 0) : Type 0 where
   pub broken : b ≡ true → P → ⊥
   pub met : b ≡ false → P
 
@@ -39,13 +40,13 @@ pub pair-some : (G : Finite) (f : ℕ → ℕ → Bool) (x y : graph G .Event) �
 unfolding somePair
 pair-some G f x y h = event-some G (λ x. some (f x) (events G)) x (event-some G (f (x .0)) y h)
 
-module _ (G : Finite) (q : Query) (known : (r x y : ℕ) → G .edges r x y ≡ true → r < length (relations q)) where
+module _ (G : Finite) (q : Query) (known : (r : ℕ) (x y : graph G .Event) → graph G .edge r x y → r < length (relations q)) where
   pub judged-is-related : (e : Tree) (x y : graph G .Event)
       → (entry (judged G q e) (x .0) (y .0) ≡ true) ↔ Related (graph G) q e x y
   unfolding judged
   judged-is-related e x y = pairs-are-related G (length (relations q)) known (meant q (single q) e) x y
 
-  never-breaks : (t : TestTree) → Refutes (breaks G q (neverLine t)) (Meets (graph G) q (neverLine t))
+  never-breaks : (t : TestTree) → Denies (breaks G q (neverLine t)) (Meets (graph G) q (neverLine t))
   unfolding breaks
   never-breaks t =
       record {
@@ -53,7 +54,7 @@ module _ (G : Finite) (q : Query) (known : (r x y : ℕ) → G .edges r x y ≡ 
         met = λ e x h. true-not-false (event-some G (λ x. holds (tests q) t (getD (G .atoms) x 0)) x h) e;
       }
 
-  within-breaks : (n : Name) (t u : TestTree) → Refutes (breaks G q (withinLine n t u)) (Meets (graph G) q (withinLine n t u))
+  within-breaks : (n : Name) (t u : TestTree) → Denies (breaks G q (withinLine n t u)) (Meets (graph G) q (withinLine n t u))
   unfolding breaks
   within-breaks n t u =
       record {
@@ -81,7 +82,7 @@ module _ (G : Finite) (q : Query) (known : (r x y : ℕ) → G .edges r x y ≡ 
       bad : ℕ → ℕ → Bool
       bad x y = edge x y && not (good x y)
 
-  closed-breaks : (n : Name) → Refutes (breaks G q (closedLine n)) (Meets (graph G) q (closedLine n))
+  closed-breaks : (n : Name) → Denies (breaks G q (closedLine n)) (Meets (graph G) q (closedLine n))
   unfolding breaks
   closed-breaks n =
       record {
@@ -111,7 +112,7 @@ module _ (G : Finite) (q : Query) (known : (r x y : ℕ) → G .edges r x y ≡ 
       bad : ℕ → ℕ → Bool
       bad x y = edge x y && some (open-at x y) (events G)
 
-  empty-breaks : (e : Tree) → Refutes (breaks G q (assumeEmpty e)) (Meets (graph G) q (assumeEmpty e))
+  empty-breaks : (e : Tree) → Denies (breaks G q (assumeEmpty e)) (Meets (graph G) q (assumeEmpty e))
   unfolding breaks
   empty-breaks e =
       record {
@@ -119,7 +120,7 @@ module _ (G : Finite) (q : Query) (known : (r x y : ℕ) → G .edges r x y ≡ 
         met = λ b x y h. true-not-false (pair-some G (entry (judged G q e)) x y (judged-is-related e x y .1 h)) b;
       }
 
-  irreflexive-breaks : (e : Tree) → Refutes (breaks G q (assumeIrreflexive e)) (Meets (graph G) q (assumeIrreflexive e))
+  irreflexive-breaks : (e : Tree) → Denies (breaks G q (assumeIrreflexive e)) (Meets (graph G) q (assumeIrreflexive e))
   unfolding breaks
   irreflexive-breaks e =
       record {
@@ -128,10 +129,10 @@ module _ (G : Finite) (q : Query) (known : (r x y : ℕ) → G .edges r x y ≡ 
       }
 
   -- a line that says nothing of graphs is met
-  always-met : Refutes false (Unit {0})
+  always-met : Denies false (Unit {0})
   always-met = record { broken = λ e m. true-not-false e refl; met = λ e. tt }
 
-  pub breaks-is-broken : (l : Line) → Refutes (breaks G q l) (Meets (graph G) q l)
+  pub breaks-is-broken : (l : Line) → Denies (breaks G q l) (Meets (graph G) q l)
   unfolding breaks
   breaks-is-broken (testLine n) = always-met
   breaks-is-broken (relLine n) = always-met
@@ -143,17 +144,7 @@ module _ (G : Finite) (q : Query) (known : (r x y : ℕ) → G .edges r x y ≡ 
   breaks-is-broken (assumeIrreflexive e) = irreflexive-breaks e
   breaks-is-broken (claimLine c) = always-met
 
--- line number suc m of the lines is the first that the graph does not meet
-pub record FirstUnmet (G : Graph) (q : Query) (ls : List Line) (m : ℕ) : Type 0 where
-  pub before : List Line
-  pub line : Line
-  pub after : List Line
-  pub split : ls ≡ before ++ (line ∷ after)
-  pub place : length before ≡ m
-  pub met : (l : Line) → In l before → Meets G q l
-  pub unmet : Meets G q line → ⊥
-
-module _ (G : Finite) (q : Query) (known : (r x y : ℕ) → G .edges r x y ≡ true → r < length (relations q)) where
+module _ (G : Finite) (q : Query) (known : (r : ℕ) (x y : graph G .Event) → graph G .edge r x y → r < length (relations q)) where
   -- counted from line suc n: all lines are met and the number is 0, or it is that of the first unmet one
   abbrev Found : ℕ → List Line → ℕ → Type 0
   Found n ls k =
@@ -192,7 +183,7 @@ module _ (G : Finite) (q : Query) (known : (r x y : ℕ) → G .edges r x y ≡ 
       rest : ℕ
       rest = firstBroken G q (suc (suc n)) ls
 
-      go : (b : Bool) → Refutes b (Meets (graph G) q l) → Found (suc n) ls rest
+      go : (b : Bool) → Denies b (Meets (graph G) q l) → Found (suc n) ls rest
           → Found n (l ∷ ls) (elim b [ true ↦ suc n | false ↦ rest ])
       go true r f =
           inr (

@@ -14,8 +14,9 @@ use Rattle.kat.specs.Ring.{onto}
 use Rattle.kat.proofs.Sets.{in-map, map-in}
 use Rattle.claims.specs.Standings.{System, Letter, letters}
 use Rattle.claims.specs.Search.{Entry, firstLevel, grown, nextLevel, completed}
-use Rattle.claims.proofs.Pairwise.{Pairwise, Rising, pairwise-map, in-rows, rows-in, pairwise-rows}
-use Rattle.claims.proofs.Letters.{Fits, Sooner, in-letters, letters-in, letters-sooner}
+use Rattle.claims.proofs.Pairwise.{pairwise-map, in-rows, rows-in, pairwise-rows}
+use Rattle.claims.specs.Orders.{Pairwise, Rising, Sooner}
+use Rattle.claims.proofs.Letters.{Fits, in-letters, letters-in, letters-sooner}
 use Rattle.claims.proofs.Fresh.{Ahead, entryOf, entryAfter}
 
 module _ (S : System) where

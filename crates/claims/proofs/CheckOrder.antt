@@ -27,8 +27,10 @@ use Rattle.claims.specs.GraphBytes.{Ranges, Listed, withField, fieldsIn,
 use Rattle.claims.specs.Judgement.{judgement}
 use Rattle.claims.specs.Calls.{Passed, passedProved, passedRefuted, passedOf, checked, check-call, judge-call}
 use Rattle.claims.proofs.LineOrder.{ok-not-refused, same-refusal}
-use Rattle.claims.proofs.Precedence.{Accepted, reading-refusals}
-use Rattle.claims.proofs.SearchOrder.{sought, asked-refused, asked-accepted, asked-fate}
+use Rattle.claims.proofs.Precedence.{reading-refusals}
+use Rattle.claims.specs.RefusalOrder.{Accepted}
+use Rattle.claims.proofs.SearchOrder.{asked-refused, asked-accepted, asked-fate}
+use Rattle.claims.specs.CallOrder.{sought, WrongField, WellFormed, CheckRefused, rangesOf, unread, wrong, failed}
 
 -- a result that is refused by no other cause
 abbrev OnlyBy : {A : Type 0} → Cause → Result A → Type 0
@@ -119,20 +121,6 @@ pub graph-refuses : (R : Ranges) (bs : List ℕ) (r : Refusal) → graphIn R bs 
 unfolding graphIn
 graph-refuses R bs r e = subst (OnlyBy graphField) e (fields-by R (length bs) 1 (record { atoms = []; edges = [] }) bs)
 
--- the sheet has a wrong field, the first one being field k
-abbrev pub WrongField : Decision → List ℕ → ℕ → Type 0
-WrongField D sheet k =
-    ((D .ring ≡ false) × (sheetIn (pathSystem D) (pathOf D) (wordOf D) sheet ≡ refuse sheetField k))
-    ⊎ ((D .ring ≡ true) × (sheetIn (ringSystem D) (ringOf D) (wordOf D) sheet ≡ refuse sheetField k))
-
--- the sheet is well-formed, and the test whether it passes gives b
-abbrev pub WellFormed : Decision → List ℕ → Bool → Type 0
-WellFormed D sheet b =
-    ((D .ring ≡ false)
-    × (s : Said (pathSystem D)) × (sheetIn (pathSystem D) (pathOf D) (wordOf D) sheet ≡ ok s) × (passes (pathSystem D) s ≡ b))
-    ⊎ ((D .ring ≡ true)
-    × (s : Said (ringSystem D)) × (sheetIn (ringSystem D) (ringOf D) (wordOf D) sheet ≡ ok s) × (passes (ringSystem D) s ≡ b))
-
 fails : (S : System) (s : Said S) → passes S s ≡ false → passedOf S s ≡ refuse doesNotPass 0
 unfolding passedOf
 fails S (saysProved ss) e = rw (e, passedOf)
@@ -220,12 +208,6 @@ module _ (bs sheet : List ℕ) (q : Query) (a : Accepted bs q) where
   unfolding check-call
   check-accepted = ap (λ x. onward x (λ b. checked (b .decided) sheet)) (asked-accepted bs q a)
 
--- all that the sheet check refuses
-pub data CheckRefused (bs sheet : List ℕ) : Cause → ℕ → Type 0 where
-  unread : {c : Cause} {p : ℕ} → read bs ≡ refuse c p → CheckRefused bs sheet c p
-  wrong : {k : ℕ} (q : Query) (a : Accepted bs q) → WrongField (sought a) sheet k → CheckRefused bs sheet sheetField k
-  failed : (q : Query) (a : Accepted bs q) → WellFormed (sought a) sheet false → CheckRefused bs sheet doesNotPass 0
-
 pub check-refused : (bs sheet : List ℕ) (c : Cause) (p : ℕ) → check-call bs sheet ≡ refuse c p → CheckRefused bs sheet c p
 check-refused bs sheet c p e = reads (asked-fate bs)
   where
@@ -276,10 +258,6 @@ not-passing-last bs sheet p = (
     go (unread {c = c} {p = p} f) e = absurd (omega (arith, ap number e, reading-refusals bs c p f))
     go (wrong q a w) e = absurd (omega (arith, ap number e))
     go (failed q a w) e = ((q, a, w), refl)
-
--- the ranges of a decision, by which a graph is read
-abbrev pub rangesOf : Decision → Ranges
-rangesOf D = record { atoms = D .atoms; relations = D .relations }
 
 module _ (bs graph : List ℕ) (q : Query) (a : Accepted bs q) where
   judge-accepted : judge-call bs graph

@@ -24,11 +24,13 @@ use Rattle.claims.specs.Verdicts.{GuardedWord}
 use Rattle.claims.specs.Words.{Refutes}
 use Rattle.claims.specs.Calls.{Passed, passedProved, passedRefuted, passedOf, checked}
 use Rattle.claims.proofs.Results.{refused-not-ok, provided-some}
-use Rattle.claims.proofs.Pairwise.{Rising}
-use Rattle.claims.proofs.Lawful.{Lawful, path-lawful, ring-lawful}
+use Rattle.claims.specs.Orders.{Rising}
+use Rattle.claims.proofs.Lawful.{path-lawful, ring-lawful}
+use Rattle.claims.specs.Lawful.{Lawful}
 use Rattle.claims.proofs.Passing.{passing-proved-refutes-none}
 use Rattle.claims.proofs.Refuting.{refutes-path, refutes-ring}
 use Rattle.claims.proofs.WordBytes.{InRange}
+use Rattle.claims.specs.Sheets.{SaysRefuted}
 
 -- a result that a test gives
 given : {A : Type 0} (x y : A) (r : Refusal) (b : Bool) → elim b [ true ↦ ok x | false ↦ refused r ] ≡ ok y → (b ≡ true) × (x ≡ y)
@@ -67,7 +69,7 @@ module _ (S : System) where
 
   -- the standings' reader never gives a word
   module _ (standingOf : List ℕ → Option (S .Standing)) where
-    standings-no-word : (n k : ℕ) (listed : List (S .Standing)) (bs : List ℕ) (w : Word)
+    pub standings-no-word : (n k : ℕ) (listed : List (S .Standing)) (bs : List ℕ) (w : Word)
         → standingsIn S standingOf n k listed bs ≡ ok (saysRefuted w) → ⊥
     unfolding standingsIn
     standings-no-word zero k listed bs w e = go (isEmpty bs) e
@@ -169,11 +171,6 @@ module _ (S : System) (laws : Lawful S) (D : Decision) (fits : D .relations ≡ 
         completing-is-guarded w (S .begin L) i (and-right (member a (S .live)) (completes S (S .begin L) w) e),
       )
 
--- the sheet says refuted, with the word
-abbrev pub Says : Decision → Bool → List ℕ → Word → Type 0
-Says D false bs w = sheetIn (pathSystem D) (pathOf D) (wordOf D) bs ≡ ok (saysRefuted w)
-Says D true bs w = sheetIn (ringSystem D) (ringOf D) (wordOf D) bs ≡ ok (saysRefuted w)
-
 module _ (D : Decision) (rising : Rising (D .live)) where
   -- a sheet that passes as proved: no word refutes
   pub passing-proved : (bs : List ℕ) → checked D bs ≡ ok passedProved → (w : Word) → Refutes D w → ⊥
@@ -196,7 +193,7 @@ module _ (D : Decision) (rising : Rising (D .live)) where
           true-not-false t (passing-proved-refutes-none (ringSystem D) (ring-lawful D rising) ss p w g)
 
   -- a sheet that passes as refuted: the word that it holds refutes
-  pub passing-refuted : (bs : List ℕ) → checked D bs ≡ ok passedRefuted → (w : Word) × Says D (D .ring) bs w × Refutes D w
+  pub passing-refuted : (bs : List ℕ) → checked D bs ≡ ok passedRefuted → (w : Word) × SaysRefuted D (D .ring) bs w × Refutes D w
   unfolding checked passes
   passing-refuted bs e = go (D .ring) refl e
     where
@@ -205,18 +202,18 @@ module _ (D : Decision) (rising : Rising (D .live)) where
           (elim b [
             | false ↦ onward (sheetIn (pathSystem D) (pathOf D) (wordOf D) bs) (passedOf (pathSystem D))
             | true ↦ onward (sheetIn (ringSystem D) (ringOf D) (wordOf D) bs) (passedOf (ringSystem D))
-          ]) (ok passedRefuted) → (w : Word) × Says D (D .ring) bs w × Refutes D w
+          ]) (ok passedRefuted) → (w : Word) × SaysRefuted D (D .ring) bs w × Refutes D w
       go false k f =
           let (w, r, p) = passed-refuted (pathSystem D) (sheetIn (pathSystem D) (pathOf D) (wordOf D) bs) f in
           let (ns, n) = word-was-read (pathSystem D) (pathOf D) (wordOf D) bs w r in
           let g : GuardedWord (pathSystem D) w =
           refuting-is-guarded (pathSystem D) (path-lawful D rising) D refl w (word-in-range D ns w n) p
           in
-          (w, subst (λ b. Says D b bs w) (sym k) r, refutes-path D k w .1 (g, p))
+          (w, subst (λ b. SaysRefuted D b bs w) (sym k) r, refutes-path D k w .1 (g, p))
       go true k f =
           let (w, r, p) = passed-refuted (ringSystem D) (sheetIn (ringSystem D) (ringOf D) (wordOf D) bs) f in
           let (ns, n) = word-was-read (ringSystem D) (ringOf D) (wordOf D) bs w r in
           let g : GuardedWord (ringSystem D) w =
           refuting-is-guarded (ringSystem D) (ring-lawful D rising) D refl w (word-in-range D ns w n) p
           in
-          (w, subst (λ b. Says D b bs w) (sym k) r, refutes-ring D k w .1 (g, p))
+          (w, subst (λ b. SaysRefuted D b bs w) (sym k) r, refutes-ring D k w .1 (g, p))

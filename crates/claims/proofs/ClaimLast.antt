@@ -15,8 +15,9 @@ use Rattle.claims.specs.Query.{Query, each, claimsOf}
 use Rattle.claims.specs.Refusals.{overLimit, ok, refuse}
 use Rattle.claims.specs.Reading.{claimOf, read}
 use Rattle.claims.proofs.Results.{each-append}
-use Rattle.claims.proofs.LineOrder.{Taken, taken-count}
-use Rattle.claims.proofs.Precedence.{Accepted, read-accepts, limits-last}
+use Rattle.claims.proofs.LineOrder.{taken-count}
+use Rattle.claims.specs.RefusalOrder.{Taken, Accepted, EndsWith}
+use Rattle.claims.proofs.Precedence.{read-accepts, limits-last}
 
 -- claimOf says whether there is a claim, and the first one
 pub no-claims : (q : Query) → claimOf q ≡ none → each claimsOf q ≡ []
@@ -30,10 +31,6 @@ no-claims q e = go (each claimsOf q) e
 pub claims-none : (q : Query) → each claimsOf q ≡ [] → claimOf q ≡ none
 unfolding claimOf
 claims-none q e = rw (e, claimOf)
-
--- one claim, the last line, and no other
-abbrev pub EndsWith : Query → Claim → Type 0
-EndsWith q c = (before : Query) × (q ≡ before ++ (claimLine c ∷ [])) × (each claimsOf before ≡ [])
 
 -- such a query's claim is that one
 pub the-claim : (q : Query) (c : Claim) → EndsWith q c → claimOf q ≡ some c

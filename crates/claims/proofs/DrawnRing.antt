@@ -18,7 +18,8 @@ use Rattle.kat.specs.Word.{Word, end, at, first, last, size}
 use Rattle.kat.specs.Language.{Lang}
 use Rattle.kat.specs.Ring.{Prefix, nothing, then, onto, body, join, times, start, round, Covered}
 use Rattle.kat.specs.Walk.{Walk, stay, go, wordOf}
-use Rattle.kat.proofs.Turns.{NonEmpty, join-nothing}
+use Rattle.kat.proofs.Turns.{join-nothing}
+use Rattle.kat.specs.Turns.{NonEmpty}
 use Rattle.kat.proofs.Walks.{related-by-words, last-of-walk}
 use Rattle.kat.proofs.Words.{atom-is-word, word-of-body, covered-nothing}
 use Rattle.kat.proofs.Prefixes.{join-assoc, join-cancel, times-front, times-turned, body-join, body-of-letter, start-of-body}

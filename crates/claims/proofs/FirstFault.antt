@@ -22,10 +22,7 @@ use Rattle.claims.specs.Names.{Kind, aTest, aRelation, aLet, Use, declar
 use Rattle.claims.specs.Tokens.{isReserved}
 use Rattle.claims.specs.Refusals.{Cause, number, tooLong, badByte, notation, tooDeep, unknownName, wrongKind, declaredTwice, reservedName, tooMany, noClaim, afterClaim, overLimit, badAllowance, shortMemory, spentAllowance, shortBuffer, graphField, sheetField, doesNotPass}
 use Rattle.claims.specs.Reading.{badLine}
-
--- "printable ASCII (32 to 126), each line ended by byte 10": the bytes that a query may have
-abbrev pub allowed : ℕ → Bool
-allowed b = eqb b 10 || printable b
+use Rattle.claims.specs.RefusalOrder.{allowed, endings, FirstBad, LeftmostSlip}
 
 pub allowed-bytes : (b : ℕ) → (allowed b ≡ true) ↔ ((b ≡ 10) ⊎ ((32 ≤ b) × (b ≤ 126)))
 allowed-bytes b = (
@@ -35,16 +32,6 @@ allowed-bytes b = (
   (λ s. ⊎-elim (λ e. or-left (printable b) (eq-eqb b 10 e))
       (λ h. or-right (eqb b 10) (and-both (le-leb 32 b (h .0)) (le-leb b 126 (h .1)))) s),
 )
-
--- how many lines end in these bytes
-abbrev pub endings : List ℕ → ℕ
-endings bs = length (filter (λ b. eqb b 10) bs)
-
--- the first byte that is not allowed stands in line n, where the first byte of all stands in line m
-abbrev pub FirstBad : ℕ → List ℕ → ℕ → Type 0
-FirstBad m bs n =
-    (before : List ℕ) × (b : ℕ) × (rest : List ℕ) × (bs ≡ before ++ (b ∷ rest))
-    × (every allowed before ≡ true) × (allowed b ≡ false) × (n ≡ m + endings before)
 
 -- badLine at a byte that is not allowed, and past one that is
 bad-here : (m b : ℕ) (bs : List ℕ) → allowed b ≡ false → badLine m (b ∷ bs) ≡ some m
@@ -124,12 +111,6 @@ none-bad m (b ∷ bs) e =
 
 pub no-bad-line : (m : ℕ) (bs : List ℕ) → (badLine m bs ≡ none) ↔ (every allowed bs ≡ true)
 no-bad-line m bs = (all-allowed m bs, none-bad m bs)
-
--- "5 left to right": u is the leftmost use that slips, and c its cause
-abbrev pub LeftmostSlip : List Line → List Use → Cause → Type 0
-LeftmostSlip ls us c =
-    (before : List Use) × (u : Use) × (rest : List Use) × (us ≡ before ++ (u ∷ rest))
-    × (firstSlip ls before ≡ none) × (slip ls u ≡ some c)
 
 slip-here : (ls : List Line) (u : Use) (us : List Use) {c : Cause} → slip ls u ≡ some c → firstSlip ls (u ∷ us) ≡ some c
 unfolding firstSlip

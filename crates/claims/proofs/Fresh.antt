@@ -13,9 +13,8 @@ use Rattle.kat.proofs.Bools.{bool-cases, true-not-false, and-left, and-right, a
 use Rattle.claims.specs.Standings.{System, Letter}
 use Rattle.claims.specs.Search.{Entry, seenIn, fresh}
 use Rattle.claims.specs.Verdicts.{Distinct}
-use Rattle.claims.proofs.Lawful.{Lawful}
-use Rattle.claims.proofs.Pairwise.{Pairwise}
-use Rattle.claims.proofs.Order.{Earlier, NotLater}
+use Rattle.claims.specs.Lawful.{Lawful}
+use Rattle.claims.specs.Orders.{Pairwise, Earlier, NotLater}
 
 module _ (S : System) where
   -- the standings of a list of entries

@@ -2,7 +2,7 @@
 -- relations and between events that there are, no edge is listed twice, and there are at most 64 events. This is what `Judging` asks
 -- of a graph. The idea: each field that is read keeps these facts of what was read so far.
 -- Assumes nothing.
-use Prim.Native.Nat.{ℕ, zero, suc, _≤_, _<_, zero-le}
+use Prim.Native.Nat.{ℕ, zero, suc, _<_, zero-le}
 use native.Mathlib.Omega.{arith}
 use mathlib.Core.Path.{_≡_, refl, sym, _∙_, ap, subst}
 use mathlib.Core.Logic.{_⊎_, _↔_, ⊎-elim}
@@ -24,6 +24,7 @@ use Rattle.claims.specs.Meaning.{Execution}
 use Rattle.claims.specs.Verdicts.{Distinct}
 use Rattle.claims.specs.GraphBytes.{Edge, Listed, sameEdge, Ranges, withEvent, withEdge, withField, fieldsIn, graphIn, finite}
 use Rattle.claims.proofs.Results.{provided-some}
+use Rattle.claims.specs.GraphWriting.{WellListed}
 
 -- the test on edges is equality
 pub same-edge : (e f : Edge) → sameEdge e f ≡ true → e ≡ f
@@ -53,15 +54,6 @@ edge-is-listed L r x y =
       (λ h. let (f, i, s) = some-in (sameEdge e) (L .edges) h in subst (λ g. In g (L .edges)) (sym (same-edge e f s)) i),
       (λ i. in-some (sameEdge e) i (edge-same e e refl)),
     )
-
--- what holds of the events and edges that were read
-pub record Accepted (R : Ranges) (L : Listed) : Type 0 where
-  pub atoms-known : (a : ℕ) → In a (L .atoms) → a < R .atoms
-  pub edges-known : (e : Edge) → In e (L .edges) → e .relation < R .relations
-  pub from-event : (e : Edge) → In e (L .edges) → e .from < length (L .atoms)
-  pub to-event : (e : Edge) → In e (L .edges) → e .to < length (L .atoms)
-  pub at-most-64 : length (L .atoms) ≤ 64
-  pub once-each : Distinct (L .edges)
 
 in-one-more : {A : Type 0} {x y : A} (l : List A) → In x (l ++ (y ∷ [])) → In x l ⊎ (x ≡ y)
 in-one-more {x = x} {y = y} l i = ⊎-elim (λ h. inl h) (λ h. inr (only h)) (in-append l i)
@@ -106,7 +98,7 @@ edgeFits R L e =
     && not (someOf (sameEdge e) (L .edges))
 
 module _ (R : Ranges) where
-  nothing-accepted : Accepted R (record { atoms = []; edges = [] })
+  nothing-accepted : WellListed R (record { atoms = []; edges = [] })
   nothing-accepted =
       record {
         atoms-known = λ a i. elim i [ ];
@@ -117,8 +109,8 @@ module _ (R : Ranges) where
         once-each = tt;
       }
 
-  event-accepted : (L : Listed) (a : ℕ) → Accepted R L → eventFits R L a ≡ true
-      → Accepted R (moreEvent L a)
+  event-accepted : (L : Listed) (a : ℕ) → WellListed R L → eventFits R L a ≡ true
+      → WellListed R (moreEvent L a)
   event-accepted L a A e =
       let p : Bool = ltb a (R .atoms) in
       let q : Bool = isEmpty (L .edges) in
@@ -135,8 +127,8 @@ module _ (R : Ranges) where
         once-each = A .once-each;
       }
 
-  edge-accepted : (L : Listed) (e : Edge) → Accepted R L → edgeFits R L e ≡ true
-      → Accepted R (moreEdge L e)
+  edge-accepted : (L : Listed) (e : Edge) → WellListed R L → edgeFits R L e ≡ true
+      → WellListed R (moreEdge L e)
   edge-accepted L e A h =
       let p : Bool = ltb (e .relation) (R .relations) in
       let q : Bool = ltb (e .from) (length (L .atoms)) in
@@ -165,13 +157,13 @@ module _ (R : Ranges) where
       }
 
   abbrev Kept : Listed → Option Listed → Type 0
-  Kept L o = Accepted R L → (H : Listed) → o ≡ some H → Accepted R H
+  Kept L o = WellListed R L → (H : Listed) → o ≡ some H → WellListed R H
 
   kept-none : (L : Listed) → Kept L none
   kept-none L A H e = let z : _≡_ {A = ℕ} 0 1 = cc in absurd (omega arith)
 
-  kept-provided : (L M : Listed) (b : Bool) → (Accepted R L → b ≡ true → Accepted R M) → Kept L (provided b M)
-  kept-provided L M b k A H e = let (p, q) = provided-some b M H e in subst (Accepted R) q (k A p)
+  kept-provided : (L M : Listed) (b : Bool) → (WellListed R L → b ≡ true → WellListed R M) → Kept L (provided b M)
+  kept-provided L M b k A H e = let (p, q) = provided-some b M H e in subst (WellListed R) q (k A p)
 
   with-event : (L : Listed) (bs : List ℕ) → Kept L (withEvent R L bs)
   unfolding withEvent
@@ -198,15 +190,15 @@ module _ (R : Ranges) where
       go false true = with-edge L contents
       go false false = kept-none L
 
-  fields-accepted : (n k : ℕ) (L : Listed) (bs : List ℕ) → Accepted R L → (H : Listed) → fieldsIn R n k L bs ≡ ok H → Accepted R H
+  fields-accepted : (n k : ℕ) (L : Listed) (bs : List ℕ) → WellListed R L → (H : Listed) → fieldsIn R n k L bs ≡ ok H → WellListed R H
   unfolding fieldsIn
-  fields-accepted zero k L bs A H e = let p : L ≡ H = cc in subst (Accepted R) p A
+  fields-accepted zero k L bs A H e = let p : L ≡ H = cc in subst (WellListed R) p A
   fields-accepted (suc n) k L bs A H e =
       go (isEmpty bs) (withField R L (nextField bs)) (with-field L (nextField bs) A)
       (λ M B d. fields-accepted n (suc k) M (afterField (nextField bs)) B H d) e
     where
-      go : (b : Bool) (o : Option Listed) → ((M : Listed) → o ≡ some M → Accepted R M)
-          → ((M : Listed) → Accepted R M → fieldsIn R n (suc k) M (afterField (nextField bs)) ≡ ok H → Accepted R H)
+      go : (b : Bool) (o : Option Listed) → ((M : Listed) → o ≡ some M → WellListed R M)
+          → ((M : Listed) → WellListed R M → fieldsIn R n (suc k) M (afterField (nextField bs)) ≡ ok H → WellListed R H)
           → elim b [
             | true ↦ ok L
             | false ↦ elim o [
@@ -214,12 +206,12 @@ module _ (R : Ranges) where
               | some M ↦ fieldsIn R n (suc k) M (afterField (nextField bs))
             ]
           ]
-          ≡ ok H → Accepted R H
-      go true o f g d = let p : L ≡ H = cc in subst (Accepted R) p A
+          ≡ ok H → WellListed R H
+      go true o f g d = let p : L ≡ H = cc in subst (WellListed R) p A
       go false none f g d = let z : _≡_ {A = ℕ} 0 1 = cc in absurd (omega arith)
       go false (some M) f g d = g M (f M refl) d
 
-  pub graph-accepted : (bs : List ℕ) (L : Listed) → graphIn R bs ≡ ok L → Accepted R L
+  pub graph-accepted : (bs : List ℕ) (L : Listed) → graphIn R bs ≡ ok L → WellListed R L
   unfolding graphIn
   graph-accepted bs L e = fields-accepted (length bs) 1 (record { atoms = []; edges = [] }) bs nothing-accepted L e
 
@@ -227,7 +219,7 @@ module _ (R : Ranges) where
 abbrev pub rangesOf : Query → Ranges
 rangesOf q = record { atoms = atoms q; relations = length (relations q) }
 
-module _ (q : Query) (L : Listed) (A : Accepted (rangesOf q) L) where
+module _ (q : Query) (L : Listed) (A : WellListed (rangesOf q) L) where
   -- each edge of the graph is of one of the query's relations, as `Judging` asks
   pub edges-of-relations : (r x y : ℕ) → finite L .edges r x y ≡ true → r < length (relations q)
   edges-of-relations r x y h = A .edges-known _ (edge-is-listed L r x y .0 h)

@@ -21,22 +21,8 @@ use Rattle.claims.specs.Refusals.{Result, ok, refuse, graphField}
 use Rattle.claims.specs.Verdicts.{Distinct}
 use Rattle.claims.specs.GraphBytes.{Edge, Listed, sameEdge, Ranges, withEvent, withEdge, withField, fieldsIn, graphIn}
 use Rattle.claims.proofs.Results.{provided-some}
-use Rattle.claims.proofs.GraphReading.{same-edge, Accepted, graph-accepted, moreEvent, moreEdge, eventFits, edgeFits}
-
--- one after the other, what f makes of each
-abbrev pub joined : {A : Type 0} → (A → List ℕ) → List A → List ℕ
-joined f [] = []
-joined f (x ∷ xs) = f x ++ joined f xs
-
--- the bytes of an event, of an edge, and of a graph
-abbrev pub eventField : ℕ → List ℕ
-eventField a = field 1 (a ∷ [])
-
-abbrev pub edgeField : Edge → List ℕ
-edgeField e = field 2 (e .relation ∷ e .from ∷ e .to ∷ [])
-
-abbrev pub graphBytes : Listed → List ℕ
-graphBytes L = joined eventField (L .atoms) ++ joined edgeField (L .edges)
+use Rattle.claims.proofs.GraphReading.{same-edge, graph-accepted, moreEvent, moreEdge, eventFits, edgeFits}
+use Rattle.claims.specs.GraphWriting.{WellListed, joined, eventField, edgeField, graphBytes}
 
 joined-more : {A : Type 0} (f : A → List ℕ) (xs : List A) (x : A) → joined f (xs ++ (x ∷ [])) ≡ joined f xs ++ f x
 joined-more f [] x = append-nil (f x)
@@ -58,7 +44,7 @@ contents-whole t n bs tag contents rest = go (leb n (length bs)) refl
     go false h e = let z : _≡_ {A = ℕ} 0 1 = cc in absurd (omega arith)
 
 -- the field as its header says it, and as it is written if its contents are short
-next-whole : (bs : List ℕ) (tag : ℕ) (contents rest : List ℕ) → nextField bs ≡ whole tag contents rest
+pub next-whole : (bs : List ℕ) (tag : ℕ) (contents rest : List ℕ) → nextField bs ≡ whole tag contents rest
     → (h : ℕ) × (l : ℕ) × (bs ≡ tag ∷ h ∷ l ∷ (contents ++ rest)) × (length contents ≡ h * 256 + l)
 unfolding nextField
 next-whole [] tag contents rest e = let z : _≡_ {A = ℕ} 0 1 = cc in absurd (omega arith)
@@ -237,7 +223,7 @@ module _ (R : Ranges) where
   no-field zero k G = refl
   no-field (suc n) k G = refl
 
-  module _ (L : Listed) (A : Accepted R L) where
+  module _ (L : Listed) (A : WellListed R L) where
     edge-fits : (done es : List Edge) (e : Edge) → L .edges ≡ done ++ (e ∷ es)
         → edgeFits R (record { atoms = L .atoms; edges = done }) e ≡ true
     edge-fits done es e p =
@@ -298,11 +284,11 @@ module _ (R : Ranges) where
         ∙ events-written xs (done ++ (x ∷ [])) (p ∙ sym (append-assoc done (x ∷ []) xs)) n (suc k) (omega arith)
 
   -- the bytes of an execution graph are read as that graph
-  pub written-is-read : (L : Listed) → Accepted R L → graphIn R (graphBytes L) ≡ ok L
+  pub written-is-read : (L : Listed) → WellListed R L → graphIn R (graphBytes L) ≡ ok L
   unfolding graphIn
   written-is-read L A = events-written L A (L .atoms) [] refl (length (graphBytes L)) 1 (omega arith)
 
-  pub graph-reading : (bs : List ℕ) (L : Listed) → (graphIn R bs ≡ ok L) ↔ ((bs ≡ graphBytes L) × Accepted R L)
+  pub graph-reading : (bs : List ℕ) (L : Listed) → (graphIn R bs ≡ ok L) ↔ ((bs ≡ graphBytes L) × WellListed R L)
   graph-reading bs L = (
     (λ e. (read-is-written R bs L e, graph-accepted R bs L e)),
     (λ (p, A). ap (graphIn R) p ∙ written-is-read L A),

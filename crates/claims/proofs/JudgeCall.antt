@@ -18,8 +18,10 @@ use Rattle.claims.specs.GraphBytes.{Listed, Ranges, graphIn, finite}
 use Rattle.claims.specs.Judgement.{Judgement, judgement}
 use Rattle.claims.specs.Calls.{Asked, asked, judge-call}
 use Rattle.claims.proofs.Results.{onward-ok}
-use Rattle.claims.proofs.Judging.{JudgementIsMeaning, judgement-is-meaning}
-use Rattle.claims.proofs.GraphReading.{Accepted, rangesOf, graph-accepted, edges-of-relations, accepted-is-execution}
+use Rattle.claims.proofs.Judging.{judgement-is-meaning}
+use Rattle.claims.specs.Judgements.{JudgementIsMeaning}
+use Rattle.claims.proofs.GraphReading.{rangesOf, graph-accepted, accepted-is-execution}
+use Rattle.claims.specs.GraphWriting.{WellListed}
 
 -- what was asked is what was read, its claim, and their decision
 pub record IsAsked (bs : List ℕ) (a : Asked) : Type 0 where
@@ -43,10 +45,10 @@ asked-is bs a e =
     go q r none m d = let z : _≡_ {A = ℕ} 0 1 = cc in absurd (omega arith)
 
 -- the ranges of a decision are the query's
-abbrev decidedRanges : Decision → Ranges
+abbrev pub decidedRanges : Decision → Ranges
 decidedRanges D = record { atoms = D .atoms; relations = D .relations }
 
-decided-ranges : (q : Query) (c : Claim) → decidedRanges (decision q c) ≡ rangesOf q
+pub decided-ranges : (q : Query) (c : Claim) → decidedRanges (decision q c) ≡ rangesOf q
 unfolding decision
 decided-ranges q (includes e f) = refl
 decided-ranges q (empty e) = refl
@@ -61,7 +63,7 @@ pub record Judged (bs gs : List ℕ) (j : Judgement) : Type 0 where
   pub claims : claimOf query ≡ some claim
   pub asks : asked bs ≡ ok (record { query = query; claim = claim; decided = decision query claim })
   pub lists : graphIn (rangesOf query) gs ≡ ok listed
-  pub accepted : Accepted (rangesOf query) listed
+  pub accepted : WellListed (rangesOf query) listed
   pub execution : Execution (graph (finite listed)) query
   pub answer : j ≡ judgement (finite listed) query claim
   pub meaning : JudgementIsMeaning (finite listed) query claim j
@@ -74,7 +76,7 @@ judged-from bs gs a L j r l p =
     ap decidedRanges (i .decides) ∙ decided-ranges (a .query) (a .claim)
     in
     let g : graphIn (rangesOf (a .query)) gs ≡ ok L = subst (λ R. graphIn R gs ≡ ok L) ranges l in
-    let A : Accepted (rangesOf (a .query)) L = graph-accepted (rangesOf (a .query)) gs L g in
+    let A : WellListed (rangesOf (a .query)) L = graph-accepted (rangesOf (a .query)) gs L g in
     record {
       query = a .query;
       claim = a .claim;
@@ -87,7 +89,7 @@ judged-from bs gs a L j r l p =
       execution = accepted-is-execution (a .query) L A;
       answer = sym p;
       meaning = subst (JudgementIsMeaning (finite L) (a .query) (a .claim)) p
-          (judgement-is-meaning (finite L) (a .query) (edges-of-relations (a .query) L A) (a .claim));
+          (judgement-is-meaning (finite L) (a .query) (accepted-is-execution (a .query) L A .1) (a .claim));
     }
 
 pub judge-call-is-meaning : (bs gs : List ℕ) (j : Judgement) → judge-call bs gs ≡ ok j → Judged bs gs j

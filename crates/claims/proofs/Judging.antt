@@ -3,7 +3,7 @@
 -- `Pairs` gives the meaning of the tables, `Broken` that of the lines, `Lowest` that of the searches; here they are put together.
 -- It is asked that each edge be of one of the query's relations.
 -- Assumes nothing.
-use Prim.Native.Nat.{ℕ, suc, _<_}
+use Prim.Native.Nat.{ℕ, _<_}
 use native.Mathlib.Omega.{arith}
 use mathlib.Core.Path.{_≡_, refl, subst}
 use mathlib.Core.Logic.{_⊎_, _↔_, ⊎-elim}
@@ -17,59 +17,22 @@ use Rattle.kat.specs.Graph.{Finite, Graph, graph}
 use Rattle.kat.proofs.Bools.{bool-cases, true-not-false, and-left, and-right, and-both, not-true-false, false-not-true, false-of-not}
 use Rattle.claims.specs.Tree.{Tree, Claim, includes, empty, irreflexive}
 use Rattle.claims.specs.Query.{Query, relations}
-use Rattle.claims.specs.Judgement.{Outcome, holdsIn, breaksAt, breaksFrom, events, judged, claimed, lowestEvent, lowestPair, Judgement, judgement}
-use Rattle.claims.specs.Meaning.{Related, MeetsAll, ClaimHolds}
-use Rattle.claims.proofs.Broken.{FirstUnmet, judged-is-related, zero-is-all-met, first-broken}
-use Rattle.claims.proofs.Lowest.{Lower, NoneOrLowest, LowestPair, lowest-event, lowest-pair}
+use Rattle.claims.specs.Judgement.{Outcome, holdsIn, breaksAt, breaksFrom, events, judged, claimed, lowestEvent, lowestPair, judgement}
+use Rattle.claims.specs.Meaning.{ClaimHolds}
+use Rattle.claims.specs.Judgements.{BrokenAt, BrokenFrom, LowestAt, LowestFrom, OutcomeIsMeaning, JudgementIsMeaning}
+use Rattle.claims.proofs.Broken.{judged-is-related, zero-is-all-met, first-broken}
+use Rattle.claims.proofs.Lowest.{NoneOrLowest, LowestPair, lowest-event, lowest-pair}
 
 module _ (G : Graph) (q : Query) where
-  -- the event breaks the claim, and so the pair
-  abbrev pub BrokenAt : Claim → G .Event → Type 0
-  BrokenAt (includes e f) x = ⊥
-  BrokenAt (empty e) x = ⊥
-  BrokenAt (irreflexive e) x = Related G q e x x
-
-  abbrev pub BrokenFrom : Claim → G .Event → G .Event → Type 0
-  BrokenFrom (includes e f) x y = Related G q e x y × (Related G q f x y → ⊥)
-  BrokenFrom (empty e) x y = Related G q e x y
-  BrokenFrom (irreflexive e) x y = ⊥
-
-  at-fails : (c : Claim) (x : G .Event) → BrokenAt c x → ClaimHolds G q c → ⊥
+  at-fails : (c : Claim) (x : G .Event) → BrokenAt G q c x → ClaimHolds G q c → ⊥
   at-fails (includes e f) x b h = b
   at-fails (empty e) x b h = b
   at-fails (irreflexive e) x b h = h x b
 
-  from-fails : (c : Claim) (x y : G .Event) → BrokenFrom c x y → ClaimHolds G q c → ⊥
+  from-fails : (c : Claim) (x y : G .Event) → BrokenFrom G q c x y → ClaimHolds G q c → ⊥
   from-fails (includes e f) x y (r, n) h = n (h x y r)
   from-fails (empty e) x y b h = h x y b
   from-fails (irreflexive e) x y b h = b
-
--- x is the number of the lowest event that breaks the claim
-pub record LowestAt (G : Finite) (q : Query) (c : Claim) (x : ℕ) : Type 0 where
-  pub event : graph G .Event
-  pub number : event .0 ≡ x
-  pub breaks : BrokenAt (graph G) q c event
-  pub none-lower : (w : graph G .Event) → w .0 < x → BrokenAt (graph G) q c w → ⊥
-
--- x and y are the numbers of the lowest pair, by from, then to, that breaks the claim
-pub record LowestFrom (G : Finite) (q : Query) (c : Claim) (x y : ℕ) : Type 0 where
-  pub from : graph G .Event
-  pub to : graph G .Event
-  pub from-number : from .0 ≡ x
-  pub to-number : to .0 ≡ y
-  pub breaks : BrokenFrom (graph G) q c from to
-  pub none-lower : (w z : graph G .Event) → Lower (w .0) (z .0) x y → BrokenFrom (graph G) q c w z → ⊥
-
--- what an outcome says of the claim
-pub record OutcomeIsMeaning (G : Finite) (q : Query) (c : Claim) (o : Outcome) : Type 0 where
-  pub holds : (o ≡ holdsIn) ↔ ClaimHolds (graph G) q c
-  pub breaks-at : (x : ℕ) → o ≡ breaksAt x → LowestAt G q c x
-  pub breaks-from : (x y : ℕ) → o ≡ breaksFrom x y → LowestFrom G q c x y
-
-pub record JudgementIsMeaning (G : Finite) (q : Query) (c : Claim) (j : Judgement) : Type 0 where
-  pub meets-all : (j .line ≡ 0) ↔ MeetsAll (graph G) q
-  pub first-unmet : (m : ℕ) → j .line ≡ suc m → FirstUnmet (graph G) q q m
-  pub claim : OutcomeIsMeaning G q c (j .outcome)
 
 module _ (G : Finite) (q : Query) (c : Claim) where
   -- an outcome with what it stands for
@@ -155,7 +118,7 @@ module _ (G : Finite) (q : Query) (c : Claim) where
                 true-not-false (is w z .1 b) (l .none-lower (w .0) (z .0) (ltb→lt (z .0) n (z .1)) h);
           })
 
-module _ (G : Finite) (q : Query) (known : (r x y : ℕ) → G .edges r x y ≡ true → r < length (relations q)) where
+module _ (G : Finite) (q : Query) (known : (r : ℕ) (x y : graph G .Event) → graph G .edge r x y → r < length (relations q)) where
   outside : (e f : Tree) (x y : graph G .Event)
       → ((entry (judged G q e) (x .0) (y .0) && not (entry (judged G q f) (x .0) (y .0))) ≡ true)
       ↔ BrokenFrom (graph G) q (includes e f) x y

@@ -101,7 +101,7 @@ place-before true w j h = rw (ne-eqb j (size w) (omega arith))
 pub place-last : (w : Word) → place true w (size w) ≡ 0
 place-last w = rw (eq-eqb (size w) (size w) refl)
 
-line-length : (w : Word) → length (lineAtoms w) ≡ suc (size w)
+pub line-length : (w : Word) → length (lineAtoms w) ≡ suc (size w)
 unfolding lineAtoms
 line-length (end a) = refl
 line-length (at a r w) = ap suc (line-length w)
@@ -113,7 +113,7 @@ line-atom (end a) (suc j) h = absurd (omega arith)
 line-atom (at a r w) zero h = refl
 line-atom (at a r w) (suc j) h = line-atom w j (omega arith)
 
-inner-length : (w : Word) → length (allButLast w) ≡ size w
+pub inner-length : (w : Word) → length (allButLast w) ≡ size w
 unfolding allButLast
 inner-length (end a) = refl
 inner-length (at a r w) = ap suc (inner-length w)

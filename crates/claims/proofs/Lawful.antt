@@ -18,20 +18,10 @@ use Rattle.claims.proofs.Results.{same-is-equal, same-self}
 use Rattle.claims.specs.Query.{Query, atoms, removed, live}
 use Rattle.claims.specs.Sides.{Decision, decision}
 use Rattle.claims.specs.Tree.{Claim, includes, empty, irreflexive}
-use Rattle.claims.specs.Standings.{System, Letter, alone, Path, pathStep, pathFinals, pathSystem, Ring, ringStep, ringFinals, covered, sameRows, ringSystem}
-use Rattle.claims.proofs.Pairwise.{Rising, pairwise-filter, rising-upto}
-
--- the laws of a kind of standing
-pub record Lawful (S : System) : Type 0 where
-  pub equal-sound : (s t : S .Standing) → S .equal s t ≡ true → s ≡ t
-  pub equal-self : (s : S .Standing) → S .equal s s ≡ true
-  pub dead-stays : (s : S .Standing) (l : Letter) → S .possible s ≡ false → S .possible (S .onward s l) ≡ false
-  pub dead-ends : (s : S .Standing) → S .possible s ≡ false → S .finals s ≡ []
-  pub finals-rising : (s : S .Standing) → Rising (S .finals s)
-  pub finals-live : (s : S .Standing) (a : ℕ) → In a (S .finals s) → In a (S .live)
-  pub alone-rising : Rising (S .alone)
-  pub alone-live : (a : ℕ) → In a (S .alone) → In a (S .live)
-  pub live-rising : Rising (S .live)
+use Rattle.claims.specs.Standings.{alone, Path, pathStep, pathFinals, pathSystem, Ring, ringStep, ringFinals, covered, sameRows, ringSystem}
+use Rattle.claims.proofs.Pairwise.{pairwise-filter, rising-upto}
+use Rattle.claims.specs.Orders.{Rising}
+use Rattle.claims.specs.Lawful.{Lawful}
 
 -- the tests of lists are equality
 rows-sound : (xs ys : List (List ℕ)) → sameRows xs ys ≡ true → xs ≡ ys

@@ -3,30 +3,23 @@
 use Prim.Native.Nat.{ℕ, _<_}
 use native.Mathlib.Omega.{arith}
 use mathlib.Core.Path.{_≡_, refl, sym, ap, subst}
-use mathlib.Core.Logic.{_⊎_}
 use mathlib.Core.Logic._⊎_.{inl, inr}
 use mathlib.Core.Bool.{true}
 use mathlib.Core.List.{List, [], _∷_, _++_, flatMap}
 use Rattle.kat.specs.Lists.{upto, member, In}
 use Rattle.kat.proofs.Sets.{member-in, in-member, in-map, map-in, in-upto, upto-in}
 use Rattle.claims.specs.Standings.{System, Letter, lettersAt, lettersOf, letters}
-use Rattle.claims.proofs.Pairwise.{Pairwise, Rising, pairwise-map, in-rows, rows-in, pairwise-rows, rising-upto}
+use Rattle.claims.proofs.Pairwise.{pairwise-map, in-rows, rows-in, pairwise-rows, rising-upto}
+use Rattle.claims.specs.Orders.{Pairwise, Rising, Sooner, letterOf}
 
 -- a letter with a live atom and a declared relation
 abbrev pub Fits : System → Letter → Type 0
 Fits S l = (member (l .atom) (S .live) ≡ true) × (l .relation < S .relations)
 
--- l comes first
-abbrev pub Sooner : Letter → Letter → Type 0
-Sooner l m = (l .atom < m .atom) ⊎ ((l .atom ≡ m .atom) × (l .relation < m .relation))
-
 letters-rows : (as′ rs : List ℕ) → lettersOf as′ rs ≡ flatMap (lettersAt rs) as′
 unfolding lettersOf flatMap
 letters-rows [] rs = refl
 letters-rows (a ∷ as′) rs = ap (λ ls. lettersAt rs a ++ ls) (letters-rows as′ rs)
-
-abbrev pub letterOf : ℕ → ℕ → Letter
-letterOf a r = record { atom = a; relation = r }
 
 in-at : (a r : ℕ) {rs : List ℕ} → In r rs → In (letterOf a r) (lettersAt rs a)
 unfolding lettersAt

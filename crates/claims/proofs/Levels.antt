@@ -21,11 +21,11 @@ use Rattle.claims.specs.Standings.{System, Letter, letters}
 use Rattle.claims.specs.Passing.{refuting}
 use Rattle.claims.specs.Search.{Entry, firstLevel, nextLevel, fresh, completed}
 use Rattle.claims.specs.Verdicts.{relationsIn, Distinct, GuardedWord, StandingOf, begun, grown, Holds, Within, NoneShorter, FreshAt}
-use Rattle.claims.proofs.Lawful.{Lawful}
-use Rattle.claims.proofs.Pairwise.{Pairwise}
+use Rattle.claims.specs.Lawful.{Lawful}
+use Rattle.claims.specs.Orders.{Pairwise, letterOf, NotLater}
 use Rattle.claims.proofs.Distinct.{distinct-append, distinct-apart, distinct-second, in-long}
-use Rattle.claims.proofs.Letters.{Fits, letterOf}
-use Rattle.claims.proofs.Order.{NotLater, not-later-trans, not-later-then}
+use Rattle.claims.proofs.Letters.{Fits}
+use Rattle.claims.proofs.Order.{not-later-trans, not-later-then}
 use Rattle.claims.proofs.Prefixes
 use Rattle.claims.proofs.Fresh.{standings, Ahead, entryOf, entryAfter, KeptFor, fresh-in, in-fresh, fresh-ahead, fresh-distinct}
 use Rattle.claims.proofs.Candidates.{first-in, in-first, first-ahead, next-in, in-next, next-ahead, completed-none}

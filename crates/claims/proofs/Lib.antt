@@ -1,6 +1,9 @@
 -- The cases.
 pub mod Evaluate
 pub mod Cases
+pub mod CasesOfLimits
+pub mod CasesOfBytes
+pub mod AtMostStandings
 -- Small laws.
 pub mod Results
 -- The order of refusals.
@@ -15,6 +18,7 @@ pub mod CheckOrder
 pub mod Rows
 pub mod PathStandings
 pub mod RingStandings
+pub mod JustRead
 pub mod RingCovered
 pub mod Refuting
 -- The search.
@@ -57,7 +61,10 @@ pub mod Lowest
 pub mod Judging
 pub mod GraphReading
 pub mod JudgeCall
+pub mod OneJudgement
 pub mod GraphWritten
+pub mod SameEdges
+pub mod ListedGraph
 -- Drawn graphs.
 pub mod Filled
 pub mod Laid
@@ -69,3 +76,9 @@ pub mod DrawnRing
 pub mod Drawn
 -- What a sheet means.
 pub mod Sheets
+pub mod SheetLength
+pub mod RefutedExactly
+-- The second and the third demand, each end to end.
+pub mod Demand2
+pub mod Demand3
+pub mod DrawnBytes

@@ -22,6 +22,7 @@ use Rattle.claims.specs.Query.{Query}
 use Rattle.claims.specs.Refusals.{Cause, number, notation, tooDeep, tooMany, afterClaim, Refusal, Result, ok, refused, refuse, onward}
 use Rattle.claims.specs.Reading.{crowded, claimOf, readLine, readLines}
 use Rattle.claims.proofs.FirstFault.{slips-have-number-five}
+use Rattle.claims.specs.RefusalOrder.{LineRefused, LineTaken, Taken, RefusedAmong, after-the-claim, not-in-notation, bracket-too-deep, name-slips, one-too-many}
 
 module _ {A : Type 0} where
   -- one result for each input: a value is no refusal, and equal refusals have equal causes and places
@@ -97,21 +98,6 @@ module _ (q : Query) (n : ℕ) (l : RawLine) (ls : List RawLine) where
   unfolding readLines readLine
   else-taken x e f g h = rw (e, readLines, f, taken-read q n x [] g h)
 
--- what refuses a line after those of q, and what takes it
-pub data LineRefused (q : Query) (l : RawLine) : Cause → Type 0 where
-  after-the-claim : {c : Claim} → claimOf q ≡ some c → LineRefused q l afterClaim
-  not-in-notation : claimOf q ≡ none → line l ≡ wrong → LineRefused q l notation
-  bracket-too-deep : claimOf q ≡ none → line l ≡ deep → LineRefused q l tooDeep
-  name-slips : {x : Line} {c : Cause} → claimOf q ≡ none → line l ≡ got x [] → firstSlip q (uses x) ≡ some c → LineRefused q l c
-  one-too-many : {x : Line} → claimOf q ≡ none → line l ≡ got x [] → firstSlip q (uses x) ≡ none → crowded q x ≡ true
-      → LineRefused q l tooMany
-
-pub record LineTaken (q : Query) (l : RawLine) (x : Line) : Type 0 where
-  pub no-claim-yet : claimOf q ≡ none
-  pub in-the-notation : line l ≡ got x []
-  pub names-in-order : firstSlip q (uses x) ≡ none
-  pub room-for-it : crowded q x ≡ false
-
 -- one of the two holds of every line
 pub line-fate : (q : Query) (l : RawLine) → ((c : Cause) × LineRefused q l c) ⊎ ((x : Line) × LineTaken q l x)
 line-fate q l = claimed (claimOf q) refl
@@ -168,17 +154,6 @@ line-refusal-number {q} (name-slips {x = x} {c = c} e f g) =
     let five : number c ≡ 5 = slips-have-number-five q (uses x) c g in
     (omega arith, omega arith, λ h. absurd (omega arith))
 line-refusal-number (one-too-many e f g h) = (omega arith, omega arith, λ h. absurd (omega arith))
-
--- the lines are taken one after another: q′ is q and what they say
-abbrev pub Taken : Query → List RawLine → Query → Type 0
-Taken q [] q′ = q ≡ q′
-Taken q (l ∷ ls) q′ = (x : Line) × LineTaken q l x × Taken (q ++ (x ∷ [])) ls q′
-
--- the lines before one of them are taken, and that one, line p, is refused
-abbrev pub RefusedAmong : Query → ℕ → List RawLine → Cause → ℕ → Type 0
-RefusedAmong q n ls c p =
-    (before : List RawLine) × (l : RawLine) × (rest : List RawLine) × (q′ : Query) × (ls ≡ before ++ (l ∷ rest))
-    × Taken q before q′ × LineRefused q′ l c × (p ≡ n + length before)
 
 -- taken lines hand their query and number on
 pub taken-onward : (q : Query) (n : ℕ) (ls ms : List RawLine) (q′ : Query) → Taken q ls q′

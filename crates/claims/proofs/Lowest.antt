@@ -12,6 +12,7 @@ use mathlib.Core.Bool.{Bool, true, false}
 use mathlib.Core.List.{List, [], _∷_}
 use Rattle.kat.specs.Lists.{counted, upto}
 use Rattle.claims.specs.Judgement.{Outcome, holdsIn, breaksAt, breaksFrom, lowestEvent, lowestTo, lowestPair, orElse}
+use Rattle.claims.specs.Judgements.{Lower}
 
 -- o answers for the first of the n numbers from i on whose answer is no `holdsIn`
 pub record First (answer : ℕ → Outcome) (i n : ℕ) (o : Outcome) : Type 0 where
@@ -129,10 +130,6 @@ lowest-to f x n =
         → elim b [ true ↦ breaksFrom x y | false ↦ o ] ≡ orElse (answered b (breaksFrom x y)) o
     go true y o = refl
     go false y o = refl
-
--- lower by from, then to
-abbrev pub Lower : ℕ → ℕ → ℕ → ℕ → Type 0
-Lower w z x y = (w < x) ⊎ ((w ≡ x) × (z < y))
 
 -- o gives the lowest pair below n that passes the test
 pub record LowestPair (f : ℕ → ℕ → Bool) (n : ℕ) (o : Outcome) : Type 0 where

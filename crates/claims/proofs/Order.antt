@@ -5,24 +5,14 @@ use Prim.Native.Nat.{ℕ, _≤_}
 use native.Mathlib.Nat.{eq-or-lt-of-le}
 use native.Mathlib.Omega.{arith}
 use mathlib.Core.Path.{_≡_, refl, sym, _∙_, ap, ap₂, subst}
-use mathlib.Core.Logic.{_⊎_, ⊎-elim}
+use mathlib.Core.Logic.{⊎-elim}
 use mathlib.Core.Logic._⊎_.{inl, inr}
 use mathlib.Core.List.{List, [], _∷_}
 use Rattle.kat.specs.Word.{Word, end, at, numbers}
 use Rattle.kat.specs.Ring.{Prefix, nothing, then, onto}
 use Rattle.claims.specs.Standings.{Letter}
 use Rattle.claims.specs.Verdicts.{NotAfter}
-use Rattle.claims.proofs.Letters.{Sooner, letterOf}
-
--- l comes first, of two prefixes of one length
-abbrev pub Earlier : Prefix → Prefix → Type 0
-Earlier nothing m = ⊥
-Earlier (then l a r) nothing = ⊥
-Earlier (then l a r) (then m b q) =
-    Earlier l m ⊎ ((l ≡ m) × Sooner (letterOf a r) (letterOf b q))
-
-abbrev pub NotLater : Prefix → Prefix → Type 0
-NotLater l m = (l ≡ m) ⊎ Earlier l m
+use Rattle.claims.specs.Orders.{Sooner, letterOf, Earlier, NotLater}
 
 sooner-trans : (l m n : Letter) → Sooner l m → Sooner m n → Sooner l n
 sooner-trans l m n (inl p) (inl q) = inl (omega arith)

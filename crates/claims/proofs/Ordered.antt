@@ -14,30 +14,13 @@ use Rattle.kat.specs.Ring.{Prefix}
 use Rattle.kat.proofs.Sets.{in-append}
 use Rattle.claims.specs.Standings.{System}
 use Rattle.claims.specs.Search.{Entry}
-use Rattle.claims.specs.Verdicts.{relationsIn, StandingOf}
-use Rattle.claims.proofs.Lawful.{Lawful}
-use Rattle.claims.proofs.Pairwise.{Pairwise, pairwise-append, pairwise-other}
+use Rattle.claims.specs.Verdicts.{relationsIn}
+use Rattle.claims.specs.Lawful.{Lawful}
+use Rattle.claims.proofs.Pairwise.{pairwise-append, pairwise-other}
+use Rattle.claims.specs.Orders.{Earlier, Precedes, LeastPrefix, Ordered}
 use Rattle.claims.proofs.Distinct.{settled-by-image}
-use Rattle.claims.proofs.Order.{Earlier}
-use Rattle.claims.proofs.Fresh.{standings, Ahead, KeptFor}
+use Rattle.claims.proofs.Fresh.{Ahead, KeptFor}
 use Rattle.claims.proofs.Levels.{Reached, new-unseen, new-distinct}
-
--- shorter first, then the order of words
-abbrev pub Precedes : Prefix → Prefix → Type 0
-Precedes l m = (relationsIn l < relationsIn m) ⊎ ((relationsIn l ≡ relationsIn m) × Earlier l m)
-
--- l is the least of the shortest prefixes that have s
-abbrev pub LeastPrefix : (S : System) → Prefix → S .Standing → Type 0
-LeastPrefix S l s = StandingOf S l s × ((m : Prefix) → StandingOf S m s → (l ≡ m) ⊎ Precedes l m)
-
--- the entries have the least prefixes, in order
-abbrev pub Ordered : (S : System) → List (Entry S) → Type 0
-Ordered S es =
-    ((e : Entry S) → In e es → LeastPrefix S (e .prefix) (e .standing)) × Pairwise (λ e f. Precedes (e .prefix) (f .prefix)) es
-
--- the standings are listed by their least prefixes
-abbrev pub InOrder : (S : System) → List (S .Standing) → Type 0
-InOrder S ss = (es : List (Entry S)) × (ss ≡ standings S es) × Ordered S es
 
 -- those of k levels
 pub record OrderedTo (S : System) (k : ℕ) (seen : List (Entry S)) : Type 0 where

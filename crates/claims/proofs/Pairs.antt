@@ -39,13 +39,13 @@ module _ (G : Finite) where
   event-some p x h =
       in-some p (in-upto (x .0) 0 (length (G .atoms)) zero-le (ltb→lt (x .0) (length (G .atoms)) (x .1))) h
 
-  module _ (k : ℕ) (known : (r x y : ℕ) → G .edges r x y ≡ true → r < k) where
-    step-says : (s : ℕ → Bool) (x y : ℕ)
-        → (some (λ r. s r && G .edges r x y) (upto 0 k) ≡ true) ↔ ((r : ℕ) × (s r ≡ true) × (G .edges r x y ≡ true))
+  module _ (k : ℕ) (known : (r : ℕ) (x y : graph G .Event) → graph G .edge r x y → r < k) where
+    step-says : (s : ℕ → Bool) (x y : graph G .Event)
+        → (some (λ r. s r && G .edges r (x .0) (y .0)) (upto 0 k) ≡ true) ↔ ((r : ℕ) × (s r ≡ true) × graph G .edge r x y)
     step-says s x y = (
-      (λ e. let (r, i, h) = some-in (λ r. s r && G .edges r x y) (upto 0 k) e in
-          (r, and-left (s r) (G .edges r x y) h, and-right (s r) (G .edges r x y) h)),
-      (λ (r, h, e). in-some (λ r. s r && G .edges r x y) (in-upto r 0 k zero-le (known r x y e)) (and-both h e)),
+      (λ e. let (r, i, h) = some-in (λ r. s r && G .edges r (x .0) (y .0)) (upto 0 k) e in
+          (r, and-left (s r) (G .edges r (x .0) (y .0)) h, and-right (s r) (G .edges r (x .0) (y .0)) h)),
+      (λ (r, h, e). in-some (λ r. s r && G .edges r (x .0) (y .0)) (in-upto r 0 k zero-le (known r x y e)) (and-both h e)),
     )
 
     test-says : (s : ℕ → Bool) (x y : graph G .Event)
@@ -80,7 +80,7 @@ module _ (G : Finite) where
 
     pub pairs-are-related : (E : Expr) (x y : graph G .Event) → (entry (pairsOf G k E) (x .0) (y .0) ≡ true) ↔ Rel (graph G) E x y
     unfolding pairsOf
-    pairs-are-related (step s) x y = entry-says _ _ x y (step-says s (x .0) (y .0))
+    pairs-are-related (step s) x y = entry-says _ _ x y (step-says s x y)
     pairs-are-related (test s) x y = entry-says _ _ x y (test-says s x y)
     pairs-are-related (alt e f) x y =
         entry-says _ _ x y

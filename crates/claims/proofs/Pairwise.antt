@@ -1,7 +1,7 @@
 -- Lists in which every member stands in a relation to all members after it, and rising lists of numbers, which are such. A part of
 -- the list, its image and the rows of its members one after another are such lists again.
 -- Assumes nothing.
-use Prim.Native.Nat.{ℕ, zero, suc, _-_, _<_}
+use Prim.Native.Nat.{ℕ, zero, suc, _-_}
 use mathlib.Core.Path.{refl, sym, subst}
 use mathlib.Core.Logic.{_⊎_, ⊎-elim}
 use mathlib.Core.Logic._⊎_.{inl, inr}
@@ -9,14 +9,7 @@ use mathlib.Core.Bool.{Bool, true, false, cond}
 use mathlib.Core.List.{List, [], _∷_, _++_, map, flatMap}
 use Rattle.kat.specs.Lists.{In, here, there, counted, upto, filter}
 use Rattle.kat.proofs.Sets.{in-append, in-append-left, in-append-right, map-in, filter-in, counted-in}
-
--- each member stands in R to every member after it
-abbrev pub Pairwise : {A : Type 0} → (A → A → Type 0) → List A → Type 0
-Pairwise R [] = Unit {0}
-Pairwise {A} R (x ∷ xs) = ((y : A) → In y xs → R x y) × Pairwise R xs
-
-abbrev pub Rising : List ℕ → Type 0
-Rising l = Pairwise _<_ l
+use Rattle.claims.specs.Orders.{Pairwise, Rising}
 
 module _ {A : Type 0} (R : A → A → Type 0) where
   pub pairwise-append : (xs ys : List A) → Pairwise R xs → Pairwise R ys → ((x y : A) → In x xs → In y ys → R x y)

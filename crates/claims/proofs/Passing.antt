@@ -15,8 +15,9 @@ use Rattle.claims.specs.Standings.{System, Letter, letters}
 use Rattle.claims.specs.SheetReading.{saysProved}
 use Rattle.claims.specs.Passing.{completes, refuting, listed, passes}
 use Rattle.claims.specs.Verdicts.{GuardedWord}
-use Rattle.claims.proofs.Lawful.{Lawful}
-use Rattle.claims.proofs.Letters.{Fits, in-letters, letters-in, letterOf}
+use Rattle.claims.specs.Lawful.{Lawful}
+use Rattle.claims.proofs.Letters.{Fits, in-letters, letters-in}
+use Rattle.claims.specs.Orders.{letterOf}
 
 module _ (S : System) (laws : Lawful S) (ss : List (S .Standing)) where
   -- s is listed, or nothing is possible there

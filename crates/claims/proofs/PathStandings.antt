@@ -13,17 +13,13 @@ use Rattle.kat.specs.Word.{end}
 use Rattle.kat.specs.Language.{Lang}
 use Rattle.kat.specs.Ring.{Prefix, nothing, then, onto}
 use Rattle.kat.specs.Tables.{after, ends}
-use Rattle.kat.specs.Way.{Way}
 use Rattle.kat.proofs.Bools.{and-left, and-right, and-both, not-true-false, false-not-true, false-of-not, true-not-false}
 use Rattle.kat.proofs.Sets.{filter-in, in-filter}
 use Rattle.kat.proofs.Runs.{after-in, ends-in, language-by-ways}
 use Rattle.claims.specs.Sides.{Decision}
 use Rattle.claims.specs.Standings.{Path, pathSystem, pathStep, pathFinals}
 use Rattle.claims.specs.Verdicts.{StandingOf, begun, grown}
-
--- the set holds exactly the occurrences on which a way that reads the prefix ends
-abbrev pub JustRead : Expr → Prefix → List ℕ → Type 0
-JustRead E l P = (q : ℕ) → In q P ↔ Way E 0 l q
+use Rattle.claims.specs.JustRead.{JustRead}
 
 pub just-read-begin : (E : Expr) (a r : ℕ) → JustRead E (then nothing a r) (after E (0 ∷ []) a r)
 just-read-begin E a r q = (

@@ -21,7 +21,7 @@ use Rattle.claims.specs.Standings.{System}
 use Rattle.claims.specs.SheetReading.{saysProved, saysRefuted}
 use Rattle.claims.specs.Passing.{refuting, passes}
 use Rattle.claims.specs.Verdicts.{Holds, ProvedBy, RefutedBy, SpentAt}
-use Rattle.claims.proofs.Lawful.{Lawful}
+use Rattle.claims.specs.Lawful.{Lawful}
 use Rattle.claims.proofs.Distinct.{distinct-no-longer}
 use Rattle.claims.proofs.Order.{words-same}
 use Rattle.claims.proofs.Prefixes

@@ -14,7 +14,6 @@ use mathlib.Core.List.{List, []}
 use mathlib.Core.Option.{Option, some, none}
 use lib.ListN.{length}
 use borrow.Author.Tests.{le-leb, lt-leb}
-use Rattle.kat.specs.Lists.{every}
 use Rattle.kat.proofs.Bools.{le-or-lt}
 use Rattle.claims.specs.Bytes.{rawLines}
 use Rattle.claims.specs.Tree.{Claim}
@@ -22,8 +21,9 @@ use Rattle.claims.specs.Query.{Query}
 use Rattle.claims.specs.Counting.{withinLimits}
 use Rattle.claims.specs.Refusals.{Cause, number, tooLong, badByte, noClaim, afterClaim, overLimit, Refusal, Result, ok, refused, refuse, onward}
 use Rattle.claims.specs.Reading.{badLine, claimOf, readLines, limited, read}
-use Rattle.claims.proofs.FirstFault.{allowed, FirstBad, bad-line, no-bad-line}
-use Rattle.claims.proofs.LineOrder.{ok-not-refused, same-value, same-refusal, line-refusal-number, Taken, RefusedAmong, lines-from-the-top, lines-taken, taken-count}
+use Rattle.claims.proofs.FirstFault.{bad-line, no-bad-line}
+use Rattle.claims.specs.RefusalOrder.{FirstBad, Taken, RefusedAmong, CleanBytes, ReadRefused, Accepted, OfALine, long, unclean, at-a-line, unclaimed, large}
+use Rattle.claims.proofs.LineOrder.{ok-not-refused, same-value, same-refusal, line-refusal-number, lines-from-the-top, lines-taken, taken-count}
 
 -- refusals exclude each other: one cause and one place for each query, and none where it is accepted
 pub one-refusal : (bs : List ℕ) (c d : Cause) (p r : ℕ) → read bs ≡ refuse c p → read bs ≡ refuse d r → (c ≡ d) × (p ≡ r)
@@ -31,28 +31,6 @@ one-refusal bs c d p r e f = same-refusal (sym e ∙ f)
 
 pub accepted-not-refused : (bs : List ℕ) (q : Query) (r : Refusal) → read bs ≡ ok q → read bs ≡ refused r → ⊥
 accepted-not-refused bs q r e f = ok-not-refused q r (sym e ∙ f)
-
--- at most 4,096 bytes, all of them allowed: neither 1 nor 2
-pub record InOrder (bs : List ℕ) : Type 0 where
-  pub short : length bs ≤ 4096
-  pub clean : every allowed bs ≡ true
-
--- all that refuses a query
-pub data ReadRefused (bs : List ℕ) : Cause → ℕ → Type 0 where
-  long : 4096 < length bs → ReadRefused bs tooLong 0
-  unclean : {n : ℕ} → length bs ≤ 4096 → FirstBad 1 bs n → ReadRefused bs badByte n
-  at-a-line : {c : Cause} {p : ℕ} → InOrder bs → RefusedAmong [] 1 (rawLines bs) c p → ReadRefused bs c p
-  unclaimed : (q : Query) → InOrder bs → Taken [] (rawLines bs) q → claimOf q ≡ none → ReadRefused bs noClaim 0
-  large : (q : Query) (c : Claim) → InOrder bs → Taken [] (rawLines bs) q → claimOf q ≡ some c → withinLimits q c ≡ false
-      → ReadRefused bs overLimit (length q)
-
--- all that is needed for a query to be accepted
-pub record Accepted (bs : List ℕ) (q : Query) : Type 0 where
-  pub in-order : InOrder bs
-  pub every-line-taken : Taken [] (rawLines bs) q
-  pub claim : Claim
-  pub claimed : claimOf q ≡ some claim
-  pub within-the-limits : withinLimits q claim ≡ true
 
 -- `read` opened, rule by rule
 read-long : (bs : List ℕ) → 4096 < length bs → read bs ≡ refuse tooLong 0
@@ -63,11 +41,11 @@ read-unclean : (bs : List ℕ) (n : ℕ) → length bs ≤ 4096 → badLine 1 bs
 unfolding read
 read-unclean bs n h e = rw (le-leb (length bs) 4096 h, read, e)
 
-read-lines : (bs : List ℕ) → InOrder bs → read bs ≡ onward (readLines [] 1 (rawLines bs)) limited
+read-lines : (bs : List ℕ) → CleanBytes bs → read bs ≡ onward (readLines [] 1 (rawLines bs)) limited
 unfolding read
 read-lines bs o = rw (le-leb (length bs) 4096 (o .short), read, no-bad-line 1 bs .1 (o .clean))
 
-read-taken : (bs : List ℕ) (q : Query) → InOrder bs → Taken [] (rawLines bs) q → read bs ≡ limited q
+read-taken : (bs : List ℕ) (q : Query) → CleanBytes bs → Taken [] (rawLines bs) q → read bs ≡ limited q
 read-taken bs q o ts = read-lines bs o ∙ ap (λ r. onward r limited) (lines-taken [] 1 (rawLines bs) q .1 ts)
 
 limited-unclaimed : (q : Query) → claimOf q ≡ none → limited q ≡ refuse noClaim 0
@@ -101,16 +79,16 @@ read-fate bs = lengthy (le-or-lt (length bs) 4096)
     Fate : Type 0
     Fate = ((c : Cause) × (p : ℕ) × ReadRefused bs c p) ⊎ ((q : Query) × Accepted bs q)
 
-    measured : (q : Query) (c : Claim) (b : Bool) → InOrder bs → Taken [] (rawLines bs) q → claimOf q ≡ some c
+    measured : (q : Query) (c : Claim) (b : Bool) → CleanBytes bs → Taken [] (rawLines bs) q → claimOf q ≡ some c
         → withinLimits q c ≡ b → Fate
     measured q c true o ts e f = inr (q, record { in-order = o; every-line-taken = ts; claim = c; claimed = e; within-the-limits = f })
     measured q c false o ts e f = inl (overLimit, length q, large q c o ts e f)
 
-    claimed : (q : Query) (c : Option Claim) → InOrder bs → Taken [] (rawLines bs) q → claimOf q ≡ c → Fate
+    claimed : (q : Query) (c : Option Claim) → CleanBytes bs → Taken [] (rawLines bs) q → claimOf q ≡ c → Fate
     claimed q none o ts e = inl (noClaim, 0, unclaimed q o ts e)
     claimed q (some c) o ts e = measured q c (withinLimits q c) o ts e refl
 
-    lined : (r : Result Query) → InOrder bs → readLines [] 1 (rawLines bs) ≡ r → Fate
+    lined : (r : Result Query) → CleanBytes bs → readLines [] 1 (rawLines bs) ≡ r → Fate
     lined (ok q) o e = claimed q (claimOf q) o (lines-taken [] 1 (rawLines bs) q .0 e) refl
     lined (refused r) o e =
         inl (r .cause, r .place, at-a-line o (lines-from-the-top [] 1 (rawLines bs) (r .cause) (r .place) .0 e))
@@ -169,17 +147,13 @@ bad-byte-next bs p =
     go (unclaimed q o ts f) e = absurd (omega (arith, ap number e))
     go (large q c o ts f g) e = absurd (omega (arith, ap number e))
 
--- the refusals that a line gives: 3 to 6, and 7 for a line after the claim
-abbrev pub OfALine : Cause → Type 0
-OfALine c = (c ≡ afterClaim) ⊎ ((3 ≤ number c) × (number c ≤ 6))
-
 -- "then lines from the top": the first line that is refused, after lines that are all taken, and only then
 pub lines-next : (bs : List ℕ) (c : Cause) (p : ℕ) → OfALine c
-    → (read bs ≡ refuse c p) ↔ (InOrder bs × RefusedAmong [] 1 (rawLines bs) c p)
+    → (read bs ≡ refuse c p) ↔ (CleanBytes bs × RefusedAmong [] 1 (rawLines bs) c p)
 unfolding number
 lines-next bs c p k = ((λ e. go k (read-refuses bs c p .0 e)), (λ (o, r). refused-read bs (at-a-line o r)))
   where
-    go : {c : Cause} {r : ℕ} → OfALine c → ReadRefused bs c r → InOrder bs × RefusedAmong [] 1 (rawLines bs) c r
+    go : {c : Cause} {r : ℕ} → OfALine c → ReadRefused bs c r → CleanBytes bs × RefusedAmong [] 1 (rawLines bs) c r
     go k (at-a-line o f) = (o, f)
     go (inl e) (long h) = absurd (omega (arith, ap number e))
     go (inr (low, high)) (long h) = absurd (omega arith)
@@ -192,7 +166,7 @@ lines-next bs c p k = ((λ e. go k (read-refuses bs c p .0 e)), (λ (o, r). refu
 
 -- "A missing claim": all lines taken and no claim among them, at place 0, and only then
 pub claim-missing-next : (bs : List ℕ) (p : ℕ)
-    → (read bs ≡ refuse noClaim p) ↔ (InOrder bs × ((q : Query) × Taken [] (rawLines bs) q × (claimOf q ≡ none)) × (p ≡ 0))
+    → (read bs ≡ refuse noClaim p) ↔ (CleanBytes bs × ((q : Query) × Taken [] (rawLines bs) q × (claimOf q ≡ none)) × (p ≡ 0))
 unfolding number
 claim-missing-next bs p = (
   (λ e. go (read-refuses bs noClaim p .0 e) refl),
@@ -200,7 +174,7 @@ claim-missing-next bs p = (
 )
   where
     go : {c : Cause} {r : ℕ} → ReadRefused bs c r → c ≡ noClaim
-        → InOrder bs × ((q : Query) × Taken [] (rawLines bs) q × (claimOf q ≡ none)) × (r ≡ 0)
+        → CleanBytes bs × ((q : Query) × Taken [] (rawLines bs) q × (claimOf q ≡ none)) × (r ≡ 0)
     go (long h) e = absurd (omega (arith, ap number e))
     go (unclean h f) e = absurd (omega (arith, ap number e))
     go (at-a-line {c = c} o (before, l, rest, q, eq, ts, f, at)) e =
@@ -213,7 +187,7 @@ claim-missing-next bs p = (
 -- "and then 8": a claim whose sides are over the limits, placed "at the claim line", which is the last line, and only then
 pub limits-last : (bs : List ℕ) (p : ℕ)
     → (read bs ≡ refuse overLimit p)
-    ↔ (InOrder bs
+    ↔ (CleanBytes bs
     × ((q : Query) × (c : Claim) × Taken [] (rawLines bs) q × (claimOf q ≡ some c) × (withinLimits q c ≡ false))
     × (p ≡ length (rawLines bs)))
 unfolding number
@@ -225,7 +199,7 @@ limits-last bs p = (
 )
   where
     go : {c : Cause} {r : ℕ} → ReadRefused bs c r → c ≡ overLimit
-        → InOrder bs
+        → CleanBytes bs
         × ((q : Query) × (c : Claim) × Taken [] (rawLines bs) q × (claimOf q ≡ some c) × (withinLimits q c ≡ false))
         × (r ≡ length (rawLines bs))
     go (long h) e = absurd (omega (arith, ap number e))
@@ -236,7 +210,7 @@ limits-last bs p = (
     go (large q c o ts f g) e = (o, (q, c, ts, f, g), taken-count [] (rawLines bs) q ts ∙ zero-add (length (rawLines bs)))
 
 -- the two in their order, where all lines are taken: "A missing claim and then 8 follow"
-pub claim-missing-then-limits : (bs : List ℕ) (q : Query) → InOrder bs → Taken [] (rawLines bs) q
+pub claim-missing-then-limits : (bs : List ℕ) (q : Query) → CleanBytes bs → Taken [] (rawLines bs) q
     → (claimOf q ≡ none → read bs ≡ refuse noClaim 0)
     × ((c : Claim) → claimOf q ≡ some c → withinLimits q c ≡ false → read bs ≡ refuse overLimit (length q))
     × ((c : Claim) → claimOf q ≡ some c → withinLimits q c ≡ true → read bs ≡ ok q)

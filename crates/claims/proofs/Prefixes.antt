@@ -15,8 +15,9 @@ use Rattle.kat.proofs.Bools.{bool-cases, true-not-false}
 use Rattle.claims.specs.Standings.{System, Letter}
 use Rattle.claims.specs.Passing.{completes, refuting}
 use Rattle.claims.specs.Verdicts.{relationsIn, GuardedWord, StandingOf, begun, grown, Holds}
-use Rattle.claims.proofs.Lawful.{Lawful}
-use Rattle.claims.proofs.Letters.{Fits, letterOf}
+use Rattle.claims.specs.Lawful.{Lawful}
+use Rattle.claims.proofs.Letters.{Fits}
+use Rattle.claims.specs.Orders.{letterOf}
 
 pub size-onto : (l : Prefix) (w : Word) → size (onto l w) ≡ relationsIn l + size w
 size-onto nothing w = sym (zero-add (size w))

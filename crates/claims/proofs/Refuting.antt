@@ -13,7 +13,7 @@ use Rattle.kat.specs.Ring.{Prefix, nothing, then, onto, body, Covered}
 use Rattle.kat.specs.Tables.{null, ends}
 use Rattle.kat.proofs.Bools.{and-left, and-right, and-both, not-true-false, false-not-true, false-of-not, true-not-false}
 use Rattle.kat.proofs.Sets.{filter-in, in-filter, member-in, in-member}
-use Rattle.kat.proofs.Turns.{NonEmpty}
+use Rattle.kat.specs.Turns.{NonEmpty}
 use Rattle.kat.proofs.Growing.{start-own}
 use Rattle.kat.proofs.Words.{first-onto, last-onto, body-onto, atom-is-word, covered-nothing, covered-own}
 use Rattle.claims.specs.Sides.{Decision}
@@ -22,7 +22,8 @@ use Rattle.claims.specs.Passing.{refuting, completes}
 use Rattle.claims.specs.Verdicts.{GuardedWord, StandingOf, begun, grown}
 use Rattle.claims.specs.Words.{Guarded, Uncovered, Refutes}
 use Rattle.claims.proofs.PathStandings.{ends-is-language, path-completes}
-use Rattle.claims.proofs.RingStandings.{RingReads, ring-reads}
+use Rattle.claims.proofs.RingStandings.{ring-reads}
+use Rattle.claims.specs.JustRead.{RingReads}
 use Rattle.claims.proofs.RingCovered.{covered-is-said}
 
 -- for any kind of standing whose completion says `Bad` of the word

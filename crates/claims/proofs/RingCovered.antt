@@ -17,10 +17,12 @@ use Rattle.kat.specs.Tables.{occurrences, stop}
 use Rattle.kat.proofs.Bools.{or-cases, or-left, or-right, and-left, and-right, and-both}
 use Rattle.kat.proofs.Sets.{some-in, in-some, in-upto, upto-in, member-in, in-member}
 use Rattle.kat.proofs.Closure.{Below, closure-is-plus}
-use Rattle.kat.proofs.Turns.{Turn, Round, Pair, FromStart, FromInside, covered-by-turns}
+use Rattle.kat.proofs.Turns.{covered-by-turns}
+use Rattle.kat.specs.Turns.{Turn, Round, Pair, FromStart, FromInside}
 use Rattle.claims.specs.Sides.{Decision}
 use Rattle.claims.specs.Standings.{Ring, row, states, covered}
-use Rattle.claims.proofs.RingStandings.{RingReads, way-range}
+use Rattle.claims.proofs.RingStandings.{way-range}
+use Rattle.claims.specs.JustRead.{RingReads}
 
 module _ (D : Decision) (l : Prefix) (s : Ring) (k : RingReads D l s) where
   -- one turn as the table M has it

@@ -9,34 +9,26 @@ use mathlib.Core.Logic.{_⊎_, ⊎-elim, _↔_}
 use mathlib.Core.Logic._⊎_.{inl, inr}
 use mathlib.Core.Bool.{Bool, true, _&&_, _||_}
 use mathlib.Core.List.{List, [], _∷_, map}
-use lib.ListN.{length, length-map}
+use lib.ListN.{length-map}
 use Rattle.kat.specs.Expr.{Expr}
 use Rattle.kat.specs.Lists.{In, here, upto, some, member}
-use Rattle.kat.specs.Ring.{Prefix, nothing, then, start}
+use Rattle.kat.specs.Ring.{Prefix, nothing, then}
 use Rattle.kat.specs.Tables.{occurrences, reads, next, null, after, ends}
 use Rattle.kat.specs.Way.{Way}
 use Rattle.kat.proofs.Bools.{le-or-lt, or-cases, or-left, or-right, and-left, and-right, and-both}
 use Rattle.kat.proofs.Sets.{some-in, in-some, filter-in, in-filter, in-upto, upto-in, member-in, in-member}
 use Rattle.kat.proofs.Ranges.{reads-range}
 use Rattle.kat.proofs.Runs.{after-in, ends-in}
-use Rattle.kat.proofs.Turns.{NonEmpty, AtomIsWord, Pair}
+use Rattle.kat.specs.Turns.{NonEmpty, Pair}
 use Rattle.kat.proofs.Growing.{start-own, atom-grown, pair-grown, no-pair-at-first, atom-at-first}
 use Rattle.claims.specs.Sides.{Decision}
 use Rattle.claims.specs.Standings.{Letter, Ring, row, states, moves, ringSystem, ringBegin, ringStep, pairs}
 use Rattle.claims.specs.Verdicts.{StandingOf, begun, grown}
+use Rattle.claims.specs.JustRead.{RingReads}
 use Rattle.claims.proofs.Rows.{row-made, rows-made, row-past, row-mapped, nothing-in-empty}
-use Rattle.claims.proofs.PathStandings.{JustRead, just-read-begin, just-read-onward}
+use Rattle.claims.proofs.PathStandings.{just-read-begin, just-read-onward}
 
 module _ (D : Decision) where
-  pub record RingReads (l : Prefix) (s : Ring) : Type 0 where
-    pub longer : NonEmpty l
-    pub firstAtom : s .first ≡ start 0 l
-    pub leftRead : JustRead (D .left) l (s .P)
-    pub zeroFlag : (s .Z ≡ true) ↔ AtomIsWord (D .right) 0 l
-    pub rowsM : length (s .M) ≡ suc (occurrences (D .right))
-    pub tableM : (p q : ℕ) → p ≤ occurrences (D .right) → In q (row (s .M) p) ↔ Way (D .right) p l q
-    pub tableN : (q p : ℕ) → p ≤ occurrences (D .right) → In p (row (s .N) q) ↔ Pair (D .right) 0 l q p
-
   begin-M : (a r p q : ℕ) → p ≤ occurrences (D .right)
       → In q (row (map (λ o. after (D .right) (o ∷ []) a r) (states D)) p) ↔ Way (D .right) p (then nothing a r) q
   unfolding states
@@ -63,7 +55,7 @@ module _ (D : Decision) where
           (subst (λ n. n ≤ q) (sym (rows-made (λ (o : ℕ). []) (suc (occurrences (D .right))))) h))
       go (inr h) = nothing-in-empty (row-made (λ (o : ℕ). []) (suc (occurrences (D .right))) q h)
 
-  ring-begin : (a r : ℕ) → RingReads (then nothing a r) (ringBegin D (record { atom = a; relation = r }))
+  ring-begin : (a r : ℕ) → RingReads D (then nothing a r) (ringBegin D (record { atom = a; relation = r }))
   unfolding ringBegin states
   ring-begin a r =
       record {
@@ -123,7 +115,7 @@ module _ (D : Decision) where
             c)),
       )
 
-  onward-M : (l : Prefix) (s : Ring) (a r : ℕ) → RingReads l s → (p q : ℕ) → p ≤ occurrences (D .right)
+  onward-M : (l : Prefix) (s : Ring) (a r : ℕ) → RingReads D l s → (p q : ℕ) → p ≤ occurrences (D .right)
       → In q (row (map (λ o. after (D .right) o a r) (s .M)) p) ↔ Way (D .right) p (then l a r) q
   onward-M l s a r k p q h =
       let e : row (map (λ o. after (D .right) o a r) (s .M)) p ≡ after (D .right) (row (s .M) p) a r =
@@ -138,7 +130,7 @@ module _ (D : Decision) where
   pub way-range : (E : Expr) (p : ℕ) (l : Prefix) (q : ℕ) → NonEmpty l → Way E p l q → q ≤ occurrences E
   way-range E p (then l a r) q h (o, w, n, m) = let (lo, hi) = reads-range E 0 q r m in omega arith
 
-  comes-is-pair : (l : Prefix) (s : Ring) (a r : ℕ) → RingReads l s → (q p : ℕ) → p ≤ occurrences (D .right)
+  comes-is-pair : (l : Prefix) (s : Ring) (a r : ℕ) → RingReads D l s → (q p : ℕ) → p ≤ occurrences (D .right)
       → Comes s a r q p ↔ Pair (D .right) 0 (then l a r) q p
   comes-is-pair l s a r k q p h = (
     (λ c.
@@ -157,7 +149,7 @@ module _ (D : Decision) where
         (pair-grown (D .right) 0 l a r q p .0 g)),
   )
 
-  onward-N : (l : Prefix) (s : Ring) (a r : ℕ) → RingReads l s → (q p : ℕ) → p ≤ occurrences (D .right)
+  onward-N : (l : Prefix) (s : Ring) (a r : ℕ) → RingReads D l s → (q p : ℕ) → p ≤ occurrences (D .right)
       → In p (row (map (pairs D s (record { atom = a; relation = r })) (states D)) q) ↔ Pair (D .right) 0 (then l a r) q p
   unfolding states
   onward-N l s a r k q p h = go (le-or-lt (suc (occurrences (D .right))) q)
@@ -179,7 +171,7 @@ module _ (D : Decision) where
         (λ g. subst (In p) (sym (row-made f n q b)) (pairs-in s a r q p h .1 (comes-is-pair l s a r k q p h .1 g))),
       )
 
-  ring-onward : (l : Prefix) (s : Ring) (a r : ℕ) → RingReads l s → RingReads (then l a r) (ringStep D s (record { atom = a; relation = r }))
+  ring-onward : (l : Prefix) (s : Ring) (a r : ℕ) → RingReads D l s → RingReads D (then l a r) (ringStep D s (record { atom = a; relation = r }))
   unfolding ringStep
   ring-onward l s a r k =
       record {
@@ -196,6 +188,6 @@ module _ (D : Decision) where
         tableN = onward-N l s a r k;
       }
 
-  pub ring-reads : {l : Prefix} {s : Ring} → StandingOf (ringSystem D) l s → RingReads l s
+  pub ring-reads : {l : Prefix} {s : Ring} → StandingOf (ringSystem D) l s → RingReads D l s
   ring-reads (begun {a = a} {r = r} h k) = ring-begin a r
   ring-reads (grown {l = l} {s = s} {a = a} {r = r} t h k) = ring-onward l s a r (ring-reads t)

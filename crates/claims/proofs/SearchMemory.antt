@@ -15,10 +15,12 @@ use Rattle.claims.specs.Query.{Query}
 use Rattle.claims.specs.Refusals.{Cause, number, badAllowance, shortMemory, spentAllowance, shortBuffer, Refusal, Result, ok, refused, refuse}
 use Rattle.claims.specs.Reading.{read}
 use Rattle.claims.specs.Sides.{Decision}
-use Rattle.claims.specs.Calls.{Answer, Given, searched, Slot, Lent, neededRecords, neededWords, cleared, leftBehind, Done, search-call}
+use Rattle.claims.specs.Calls.{Answer, Given, searched, Lent, neededRecords, neededWords, cleared, leftBehind, Done, search-call}
 use Rattle.claims.proofs.LineOrder.{ok-not-refused, same-refusal}
-use Rattle.claims.proofs.Precedence.{Accepted, reading-refusals}
-use Rattle.claims.proofs.SearchOrder.{sought, asked-fate, search-refuses, Ready, Short, search-reads-first, allowance-next, memory-next, spent-next, buffer-last, else-answered}
+use Rattle.claims.proofs.Precedence.{reading-refusals}
+use Rattle.claims.specs.RefusalOrder.{Accepted}
+use Rattle.claims.proofs.SearchOrder.{asked-fate, search-refuses, search-reads-first, allowance-next, memory-next, spent-next, buffer-last, else-answered}
+use Rattle.claims.specs.CallOrder.{sought, Ready, zeroSlot, WayOut, unread, out, short, exhausted, unwritten, written}
 
 module _ {A : Type 0} (z : A) (n : ℕ) (xs : List A) where
   cleared-zero : take n (cleared z n xs) ≡ replicate n z
@@ -33,9 +35,6 @@ module _ {A : Type 0} (z : A) (n : ℕ) (xs : List A) where
   unfolding cleared
   cleared-length h =
       simp (length-append, length-replicate, length-drop) (omega arith)
-
-abbrev pub zeroSlot : Slot
-zeroSlot = record { P = 0; S = 0; parent = 0; letter = 0 }
 
 module _ (D : Decision) (allowance : ℕ) (sheet : List ℕ) (m : Lent) where
   -- the needed working memory is zero
@@ -69,38 +68,26 @@ pub buffer-unchanged : (D : Decision) (allowance : ℕ) (m : Lent) → leftBehin
 unfolding leftBehind
 buffer-unchanged D allowance m = refl
 
--- the ways out of a search call: refused by the reader, allowance out of range, memory short, allowance spent, buffer short, answered
-pub data Outcome (bs : List ℕ) (allowance : ℕ) (m : Lent) : Type 0 where
-  unread : (r : Refusal) → read bs ≡ refused r → Outcome bs allowance m
-  out : (q : Query) → Accepted bs q → (allowance < 1) ⊎ (4096 < allowance) → Outcome bs allowance m
-  short : (q : Query) (a : Accepted bs q) → 1 ≤ allowance → allowance ≤ 4096 → Short (sought a) allowance m → Outcome bs allowance m
-  exhausted : (q : Query) (a : Accepted bs q) → Ready (sought a) allowance m
-      → searched (sought a) allowance ≡ refuse spentAllowance 0 → Outcome bs allowance m
-  unwritten : (q : Query) (a : Accepted bs q) → Ready (sought a) allowance m
-      → (g : Given) → searched (sought a) allowance ≡ ok g → length (m .buffer) < length (g .sheet) → Outcome bs allowance m
-  written : (q : Query) (a : Accepted bs q) → Ready (sought a) allowance m
-      → (g : Given) → searched (sought a) allowance ≡ ok g → length (g .sheet) ≤ length (m .buffer) → Outcome bs allowance m
-
 module _ (bs : List ℕ) (allowance : ℕ) (m : Lent) where
   -- each call has one of them
-  pub search-outcomes : Outcome bs allowance m
+  pub search-outcomes : WayOut bs allowance m
   search-outcomes = asks (asked-fate bs)
     where
       fits : (q : Query) (a : Accepted bs q) → Ready (sought a) allowance m
           → (g : Given) → searched (sought a) allowance ≡ ok g
-          → (length (g .sheet) ≤ length (m .buffer)) ⊎ (length (m .buffer) < length (g .sheet)) → Outcome bs allowance m
+          → (length (g .sheet) ≤ length (m .buffer)) ⊎ (length (m .buffer) < length (g .sheet)) → WayOut bs allowance m
       fits q a r g e (inl h) = written q a r g e h
       fits q a r g e (inr h) = unwritten q a r g e h
 
       finds : (q : Query) (a : Accepted bs q) → Ready (sought a) allowance m
-          → (s : Result Given) → searched (sought a) allowance ≡ s → Outcome bs allowance m
+          → (s : Result Given) → searched (sought a) allowance ≡ s → WayOut bs allowance m
       finds q a r (ok g) e = fits q a r g e (le-or-lt (length (g .sheet)) (length (m .buffer)))
       finds q a r (refused s) e = exhausted q a r (search-refuses (sought a) allowance s e)
 
       holds : (q : Query) (a : Accepted bs q) → 1 ≤ allowance → allowance ≤ 4096
           → (neededRecords (sought a) allowance ≤ length (m .records)) ⊎ (length (m .records) < neededRecords (sought a) allowance)
           → (neededWords (sought a) allowance ≤ length (m .words)) ⊎ (length (m .words) < neededWords (sought a) allowance)
-          → Outcome bs allowance m
+          → WayOut bs allowance m
       holds q a h k (inr s) t = short q a h k (inl s)
       holds q a h k (inl s) (inr t) = short q a h k (inr t)
       holds q a h k (inl s) (inl t) =
@@ -108,19 +95,19 @@ module _ (bs : List ℕ) (allowance : ℕ) (m : Lent) where
           (searched (sought a) allowance) refl
 
       spans : (q : Query) → Accepted bs q → (1 ≤ allowance) ⊎ (allowance < 1) → (allowance ≤ 4096) ⊎ (4096 < allowance)
-          → Outcome bs allowance m
+          → WayOut bs allowance m
       spans q a (inr h) k = out q a (inl h)
       spans q a (inl h) (inr k) = out q a (inr k)
       spans q a (inl h) (inl k) =
           holds q a h k (le-or-lt (neededRecords (sought a) allowance) (length (m .records)))
           (le-or-lt (neededWords (sought a) allowance) (length (m .words)))
 
-      asks : ((r : Refusal) × (read bs ≡ refused r)) ⊎ ((q : Query) × Accepted bs q) → Outcome bs allowance m
+      asks : ((r : Refusal) × (read bs ≡ refused r)) ⊎ ((q : Query) × Accepted bs q) → WayOut bs allowance m
       asks (inl (r, e)) = unread r e
       asks (inr (q, a)) = spans q a (le-or-lt 1 allowance) (le-or-lt allowance 4096)
 
   -- what each of them gives and leaves
-  abbrev after : Outcome bs allowance m → Done
+  abbrev after : WayOut bs allowance m → Done
   after (unread r e) = record { result = refused r; lent = m }
   after (out q a h) = record { result = refuse badAllowance 0; lent = m }
   after (short q a h k s) = record { result = refuse shortMemory 0; lent = m }
@@ -128,7 +115,7 @@ module _ (bs : List ℕ) (allowance : ℕ) (m : Lent) where
   after (unwritten q a r g e h) = record { result = refuse shortBuffer 0; lent = leftBehind (sought a) allowance [] m }
   after (written q a r g e h) = record { result = ok (g .answer); lent = leftBehind (sought a) allowance (g .sheet) m }
 
-  search-is : (o : Outcome bs allowance m) → search-call bs allowance m ≡ after o
+  search-is : (o : WayOut bs allowance m) → search-call bs allowance m ≡ after o
   search-is (unread r e) = search-reads-first bs allowance m r e
   search-is (out q a h) = allowance-next bs allowance m q a h
   search-is (short q a h k s) = memory-next bs allowance m q a h k s
@@ -145,7 +132,7 @@ module _ (bs : List ℕ) (allowance : ℕ) (m : Lent) where
   unfolding number
   search-refuses-as-read c p e n = go search-outcomes (result-is e)
     where
-      go : (o : Outcome bs allowance m) → after o .result ≡ refuse c p → read bs ≡ refuse c p
+      go : (o : WayOut bs allowance m) → after o .result ≡ refuse c p → read bs ≡ refuse c p
       go (unread r f) h =
           let (same, at) = same-refusal h in
           f ∙ ap (λ d. refuse d (r .place)) same ∙ ap (refuse c) at
@@ -161,7 +148,7 @@ module _ (bs : List ℕ) (allowance : ℕ) (m : Lent) where
   unfolding number
   memory-as-before c p e n = ap (λ d. d .lent) (search-is search-outcomes) ∙ go search-outcomes (result-is e)
     where
-      go : (o : Outcome bs allowance m) → after o .result ≡ refuse c p → after o .lent ≡ m
+      go : (o : WayOut bs allowance m) → after o .result ≡ refuse c p → after o .lent ≡ m
       go (unread r f) h = refl
       go (out q a f) h = refl
       go (short q a f g s) h = refl
@@ -179,7 +166,7 @@ module _ (bs : List ℕ) (allowance : ℕ) (m : Lent) where
       let (below, q, a, r, left) = go search-outcomes (result-is e) in
       (below, q, a, r, ap (λ d. d .lent) (search-is search-outcomes) ∙ left)
     where
-      go : (o : Outcome bs allowance m) → after o .result ≡ refuse c p
+      go : (o : WayOut bs allowance m) → after o .result ≡ refuse c p
           → (number c ≤ 11)
           × (q : Query) × (a : Accepted bs q) × Ready (sought a) allowance m × (after o .lent ≡ leftBehind (sought a) allowance [] m)
       go (unread r f) h =

@@ -17,21 +17,15 @@ use Rattle.claims.specs.Tree.{Claim}
 use Rattle.claims.specs.Query.{Query}
 use Rattle.claims.specs.Refusals.{noClaim, badAllowance, shortMemory, spentAllowance, shortBuffer, Refusal, Result, ok, refused, refuse}
 use Rattle.claims.specs.Reading.{claimOf, read}
-use Rattle.claims.specs.Sides.{Decision, decision}
+use Rattle.claims.specs.Sides.{Decision}
 use Rattle.claims.specs.Standings.{System, pathSystem, ringSystem}
 use Rattle.claims.specs.Search.{Verdict, proved, refuted, spent, verdict}
 use Rattle.claims.specs.SheetBytes.{pathBytes, ringBytes}
 use Rattle.claims.specs.Calls.{Given, answerOf, searched, Asked, asked, Lent, neededRecords, neededWords, leftBehind, enoughMemory, finish, searchAsked, search-call}
 use Rattle.claims.proofs.LineOrder.{ok-not-refused, same-value}
-use Rattle.claims.proofs.Precedence.{Accepted, read-accepts}
-
--- what a call asks about, for a query with its claim
-abbrev pub askedAs : Query → Claim → Asked
-askedAs q c = record { query = q; claim = c; decided = decision q c }
-
--- the decision of an accepted query
-abbrev pub sought : {bs : List ℕ} {q : Query} → Accepted bs q → Decision
-sought {bs} {q} a = decision q (a .claim)
+use Rattle.claims.proofs.Precedence.{read-accepts}
+use Rattle.claims.specs.RefusalOrder.{Accepted}
+use Rattle.claims.specs.CallOrder.{askedAs, sought, Ready, Short}
 
 -- what the reader refuses is refused so, and what it accepts is asked
 pub asked-refused : (bs : List ℕ) (r : Refusal) → read bs ≡ refused r → asked bs ≡ refused r
@@ -85,17 +79,6 @@ search-refuses D allowance r e = e ∙ go (D .ring) e
         → _≡_ {A = Result Given} (refused r) (refuse spentAllowance 0)
     go false h = answer-refused (pathSystem D) pathBytes (verdict (pathSystem D) allowance) r h
     go true h = answer-refused (ringSystem D) ringBytes (verdict (ringSystem D) allowance) r h
-
--- allowance and memory are as refusal 9 asks
-pub record Ready (D : Decision) (allowance : ℕ) (m : Lent) : Type 0 where
-  pub some-allowance : 1 ≤ allowance
-  pub small-allowance : allowance ≤ 4096
-  pub records-enough : neededRecords D allowance ≤ length (m .records)
-  pub words-enough : neededWords D allowance ≤ length (m .words)
-
--- memory short of the allowance
-abbrev pub Short : Decision → ℕ → Lent → Type 0
-Short D allowance m = (length (m .records) < neededRecords D allowance) ⊎ (length (m .words) < neededWords D allowance)
 
 false-right : (a : Bool) {b : Bool} → b ≡ false → (a && b) ≡ false
 false-right true e = e

@@ -14,29 +14,29 @@ use Rattle.claims.specs.Query.{bit}
 use Rattle.claims.specs.Fields.{setNumber, numberSet}
 
 -- the list rises strictly, from lo or above to below hi
-abbrev pub Rising : ℕ → ℕ → List ℕ → Type 0
-Rising lo hi [] = Unit {0}
-Rising lo hi (k ∷ ks) = (lo ≤ k) × (k < hi) × Rising (suc k) hi ks
+abbrev pub RisingWithin : ℕ → ℕ → List ℕ → Type 0
+RisingWithin lo hi [] = Unit {0}
+RisingWithin lo hi (k ∷ ks) = (lo ≤ k) × (k < hi) × RisingWithin (suc k) hi ks
 
-pub rising-from-below : (lo lo′ hi : ℕ) (s : List ℕ) → lo ≤ lo′ → Rising lo′ hi s → Rising lo hi s
+pub rising-from-below : (lo lo′ hi : ℕ) (s : List ℕ) → lo ≤ lo′ → RisingWithin lo′ hi s → RisingWithin lo hi s
 rising-from-below lo lo′ hi [] h r = tt
 rising-from-below lo lo′ hi (k ∷ ks) h (a, b, r) = (omega arith, b, r)
 
 -- what passes a test is rising
-filter-counted-rising : (p : ℕ → Bool) (lo n hi : ℕ) → lo + n ≤ hi → Rising lo hi (filter p (counted lo n))
+filter-counted-rising : (p : ℕ → Bool) (lo n hi : ℕ) → lo + n ≤ hi → RisingWithin lo hi (filter p (counted lo n))
 filter-counted-rising p lo zero hi h = tt
 filter-counted-rising p lo (suc n) hi h = go (p lo) (filter-counted-rising p (suc lo) n hi (omega arith))
   where
-    go : (b : Bool) → Rising (suc lo) hi (filter p (counted (suc lo) n))
-        → Rising lo hi (cond b (lo ∷ filter p (counted (suc lo) n)) (filter p (counted (suc lo) n)))
+    go : (b : Bool) → RisingWithin (suc lo) hi (filter p (counted (suc lo) n))
+        → RisingWithin lo hi (cond b (lo ∷ filter p (counted (suc lo) n)) (filter p (counted (suc lo) n)))
     go true r = (omega arith, omega arith, r)
     go false r = rising-from-below lo (suc lo) hi (filter p (counted (suc lo) n)) (omega arith) r
 
-pub filter-rising : (p : ℕ → Bool) (lo hi : ℕ) → lo ≤ hi → Rising lo hi (filter p (upto lo hi))
+pub filter-rising : (p : ℕ → Bool) (lo hi : ℕ) → lo ≤ hi → RisingWithin lo hi (filter p (upto lo hi))
 filter-rising p lo hi h = filter-counted-rising p lo (hi - lo) hi (omega arith)
 
 -- without its lowest possible member a set's number is even, and half of it is the set's number counted from one higher
-pub setNumber-double : (lo hi : ℕ) (s : List ℕ) → Rising (suc lo) hi s → setNumber lo s ≡ 2 * setNumber (suc lo) s
+pub setNumber-double : (lo hi : ℕ) (s : List ℕ) → RisingWithin (suc lo) hi s → setNumber lo s ≡ 2 * setNumber (suc lo) s
 unfolding setNumber
 setNumber-double lo hi [] r = refl
 setNumber-double lo hi (k ∷ ks) (a, b, r) =
@@ -46,17 +46,17 @@ setNumber-double lo hi (k ∷ ks) (a, b, r) =
     setNumber-double lo hi ks (rising-from-below (suc lo) (suc k) hi ks (omega arith) r) in
     omega arith
 
-pub setNumber-even : (hi : ℕ) (s : List ℕ) → Rising 1 hi s → setNumber 0 s % 2 ≡ 0
+pub setNumber-even : (hi : ℕ) (s : List ℕ) → RisingWithin 1 hi s → setNumber 0 s % 2 ≡ 0
 setNumber-even hi s r = omega (arith, setNumber-double 0 hi s r)
 
 -- with its lowest possible member
-setNumber-odd : (lo hi : ℕ) (ks : List ℕ) → Rising (suc lo) hi ks → setNumber lo (lo ∷ ks) ≡ 1 + 2 * setNumber (suc lo) ks
+setNumber-odd : (lo hi : ℕ) (ks : List ℕ) → RisingWithin (suc lo) hi ks → setNumber lo (lo ∷ ks) ≡ 1 + 2 * setNumber (suc lo) ks
 unfolding setNumber
 setNumber-odd lo hi ks r =
     let e : 2 ^ (lo - lo) ≡ 1 = ap (λ i. 2 ^ i) (sub-self lo) ∙ pow-zero 2 in
     omega (arith, e, setNumber-double lo hi ks r)
 
-setNumber-below : (base lo hi : ℕ) (s : List ℕ) → base ≤ lo → lo ≤ hi → Rising lo hi s
+setNumber-below : (base lo hi : ℕ) (s : List ℕ) → base ≤ lo → lo ≤ hi → RisingWithin lo hi s
     → setNumber base s + 2 ^ (lo - base) ≤ 2 ^ (hi - base)
 unfolding setNumber
 setNumber-below base lo hi [] h k r = omega (arith, pow-le-pow-right {n = 2} (omega arith) {i = lo - base} {j = hi - base} (omega arith))
@@ -67,7 +67,7 @@ setNumber-below base lo hi (x ∷ xs) h k (a, b, r) =
     omega (arith, setNumber-below base (suc x) hi xs (omega arith) b r)
 
 -- a set's number has no bit for a number of hi or above
-pub setNumber-small : (lo hi : ℕ) (s : List ℕ) → lo ≤ hi → Rising lo hi s → setNumber lo s < 2 ^ (hi - lo)
+pub setNumber-small : (lo hi : ℕ) (s : List ℕ) → lo ≤ hi → RisingWithin lo hi s → setNumber lo s < 2 ^ (hi - lo)
 setNumber-small lo hi s h r =
     let e : 2 ^ (lo - lo) ≡ 1 = ap (λ i. 2 ^ i) (sub-self lo) ∙ pow-zero 2 in
     omega (arith, setNumber-below lo lo hi s (omega arith) h r)
@@ -111,31 +111,31 @@ picked-odd lo n m x e =
     let q : m / 2 ≡ x = omega arith in
     picked-suc lo n m ∙ rw (p, q)
 
-picked-lowest : (n lo hi k : ℕ) (ks : List ℕ) → lo ≡ k → Rising (suc lo) hi ks → picked (suc lo) n (setNumber (suc lo) ks) ≡ ks
+picked-lowest : (n lo hi k : ℕ) (ks : List ℕ) → lo ≡ k → RisingWithin (suc lo) hi ks → picked (suc lo) n (setNumber (suc lo) ks) ≡ ks
     → picked lo (suc n) (setNumber lo (k ∷ ks)) ≡ k ∷ ks
 picked-lowest n lo hi k ks e r back =
     subst (λ z. picked lo (suc n) (setNumber lo (z ∷ ks)) ≡ z ∷ ks) e
     (picked-odd lo n (setNumber lo (lo ∷ ks)) (setNumber (suc lo) ks) (setNumber-odd lo hi ks r) ∙ ap (λ l. lo ∷ l) back)
 
-picked-higher : (n lo hi : ℕ) (s : List ℕ) → Rising (suc lo) hi s → picked (suc lo) n (setNumber (suc lo) s) ≡ s
+picked-higher : (n lo hi : ℕ) (s : List ℕ) → RisingWithin (suc lo) hi s → picked (suc lo) n (setNumber (suc lo) s) ≡ s
     → picked lo (suc n) (setNumber lo s) ≡ s
 picked-higher n lo hi s r back =
     picked-even lo n (setNumber lo s) (setNumber (suc lo) s) (setNumber-double lo hi s r) ∙ back
 
-picked-read-back : (n lo hi : ℕ) (s : List ℕ) → hi ≤ lo + n → Rising lo hi s → picked lo n (setNumber lo s) ≡ s
+picked-read-back : (n lo hi : ℕ) (s : List ℕ) → hi ≤ lo + n → RisingWithin lo hi s → picked lo n (setNumber lo s) ≡ s
 unfolding picked
 picked-read-back zero lo hi [] h r = refl
 picked-read-back zero lo hi (k ∷ ks) h (a, b, r) = absurd (omega arith)
 picked-read-back (suc n) lo hi [] h r = picked-higher n lo hi [] tt (picked-read-back n (suc lo) hi [] (omega arith) tt)
 picked-read-back (suc n) lo hi (k ∷ ks) h (a, b, r) =
     ⊎-elim
-    (λ e. let q : Rising (suc lo) hi ks = rising-from-below (suc lo) (suc k) hi ks (omega arith) r in
+    (λ e. let q : RisingWithin (suc lo) hi ks = rising-from-below (suc lo) (suc k) hi ks (omega arith) r in
     picked-lowest n lo hi k ks e q (picked-read-back n (suc lo) hi ks (omega arith) q))
-    (λ e. let q : Rising (suc lo) hi (k ∷ ks) = (e, b, r) in
+    (λ e. let q : RisingWithin (suc lo) hi (k ∷ ks) = (e, b, r) in
     picked-higher n lo hi (k ∷ ks) q (picked-read-back n (suc lo) hi (k ∷ ks) (omega arith) q))
     (eq-or-lt-of-le a)
 
 -- a set within lo and hi is read back
-pub set-read-back : (lo hi : ℕ) (s : List ℕ) → Rising lo hi s → numberSet lo hi (setNumber lo s) ≡ s
+pub set-read-back : (lo hi : ℕ) (s : List ℕ) → RisingWithin lo hi s → numberSet lo hi (setNumber lo s) ≡ s
 unfolding numberSet picked
 set-read-back lo hi s r = picked-read-back (hi - lo) lo hi s (omega arith) r

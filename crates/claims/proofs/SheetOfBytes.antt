@@ -22,11 +22,11 @@ use Rattle.claims.proofs.WordBytes.{InRange}
 abbrev pub AllBytes : List ℕ → Type 0
 AllBytes bs = (b : ℕ) → In b bs → b < 256
 
-bytes-cons : (a : ℕ) (bs : List ℕ) → a < 256 → AllBytes bs → AllBytes (a ∷ bs)
+pub bytes-cons : (a : ℕ) (bs : List ℕ) → a < 256 → AllBytes bs → AllBytes (a ∷ bs)
 bytes-cons a bs h k b (here e) = omega arith
 bytes-cons a bs h k b (there i) = k b i
 
-bytes-nil : AllBytes []
+pub bytes-nil : AllBytes []
 bytes-nil b i = elim i [ ]
 
 bytes-append : (as′ bs : List ℕ) → AllBytes as′ → AllBytes bs → AllBytes (as′ ++ bs)

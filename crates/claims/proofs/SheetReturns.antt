@@ -16,7 +16,7 @@ use Rattle.claims.specs.Refusals.{ok}
 use Rattle.claims.specs.Verdicts.{GuardedWord, ProvedBy}
 use Rattle.claims.proofs.StandingBytes.{pathBytes-length, path-read-back, ringBytes-length, ring-read-back}
 use Rattle.claims.proofs.StandingShapes.{path-standings-shaped, ring-standings-shaped}
-use Rattle.claims.proofs.Pairwise.{Rising}
+use Rattle.claims.specs.Orders.{Rising}
 use Rattle.claims.proofs.Lawful.{path-lawful, ring-lawful}
 use Rattle.claims.proofs.WordBytes.{guarded-in-range, word-read-back}
 use Rattle.claims.proofs.Verdict.{refuted-is-within}

@@ -17,24 +17,26 @@ use Rattle.claims.specs.Words.{Refutes}
 use Rattle.claims.specs.Drawn.{drawn}
 use Rattle.claims.specs.Meaning.{Execution, MeetsAll, ClaimHolds}
 use Rattle.claims.proofs.Results.{refused-not-ok}
-use Rattle.claims.proofs.SearchOrder.{askedAs, sought, asked-accepted, search-reads-first, allowance-next, memory-next, spent-next, buffer-last, else-answered}
-use Rattle.claims.proofs.SearchMemory.{Outcome, unread, out, short, exhausted, unwritten, written, search-outcomes}
-use Rattle.claims.proofs.Pairwise.{Rising}
+use Rattle.claims.proofs.SearchOrder.{asked-accepted, search-reads-first, allowance-next, memory-next, spent-next, buffer-last, else-answered}
+use Rattle.claims.specs.CallOrder.{askedAs, sought, WayOut, unread, out, short, exhausted, unwritten, written}
+use Rattle.claims.proofs.SearchMemory.{search-outcomes}
+use Rattle.claims.specs.Orders.{Rising}
 use Rattle.claims.proofs.Lawful.{decision-rising}
 use Rattle.claims.proofs.Limits.{asked-within-limits, asked-read}
 use Rattle.claims.proofs.Soundness.{holds-in-every-graph}
 use Rattle.claims.proofs.Drawn.{drawn-is-counterexample}
-use Rattle.claims.proofs.Checked.{passing-proved, passing-refuted, Says}
-use Rattle.claims.proofs.Written.{passedAs, searched-passes}
+use Rattle.claims.proofs.Checked.{passing-proved, passing-refuted}
+use Rattle.claims.specs.Sheets.{SaysRefuted, passedAs}
+use Rattle.claims.proofs.Written.{searched-passes}
 
 module _ (bs : List ℕ) (a : Asked) (accepted : asked bs ≡ ok a) where
   is-decision : a .decided ≡ decision (a .query) (a .claim)
   is-decision = asked-read bs accepted .2
 
-  live-rises : Rising (a .decided .live)
+  pub live-rises : Rising (a .decided .live)
   live-rises = subst (λ (D : Decision). Rising (D .live)) (sym is-decision) (decision-rising (a .query) (a .claim))
 
-  check-is : (sheet : List ℕ) → check-call bs sheet ≡ checked (a .decided) sheet
+  pub check-is : (sheet : List ℕ) → check-call bs sheet ≡ checked (a .decided) sheet
   unfolding check-call
   check-is sheet = ap (λ r. onward r (λ b. checked (b .decided) sheet)) accepted
 
@@ -47,14 +49,14 @@ module _ (bs : List ℕ) (a : Asked) (accepted : asked bs ≡ ok a) where
 
   -- a passing sheet that says refuted holds a word that refutes
   pub passing-refuted-refutes : (sheet : List ℕ) → check-call bs sheet ≡ ok passedRefuted
-      → (w : Word) × Says (a .decided) (a .decided .ring) sheet w × Refutes (decision (a .query) (a .claim)) w
+      → (w : Word) × SaysRefuted (a .decided) (a .decided .ring) sheet w × Refutes (decision (a .query) (a .claim)) w
   passing-refuted-refutes sheet e =
       let (w, h, r) = passing-refuted (a .decided) live-rises sheet (sym (check-is sheet) ∙ e) in
       (w, h, subst (λ (D : Decision). Refutes D w) is-decision r)
 
   -- a passing sheet that says refuted: the graph drawn from its word meets the query's lines and breaks the claim
   pub passing-refuted-breaks : (sheet : List ℕ) → check-call bs sheet ≡ ok passedRefuted
-      → (w : Word) × Says (a .decided) (a .decided .ring) sheet w
+      → (w : Word) × SaysRefuted (a .decided) (a .decided .ring) sheet w
       × Execution (graph (drawn (a .query) (a .decided .ring) w)) (a .query)
       × MeetsAll (graph (drawn (a .query) (a .decided .ring) w)) (a .query)
       × (ClaimHolds (graph (drawn (a .query) (a .decided .ring) w)) (a .query) (a .claim) → ⊥)
@@ -81,10 +83,10 @@ abbrev Stands : List ℕ → Answer → List ℕ → Type 0
 Stands bs ans buffer = (sheet : List ℕ) × (rest : List ℕ) × (buffer ≡ sheet ++ rest) × (check-call bs sheet ≡ ok (passedAs ans))
 
 -- a call that ended in a refusal gave no answer
-no-answer : {B : Type 0} (d : Done) {r : Refusal} {m : Lent} {ans : Answer} → d ≡ record { result = refused r; lent = m } → d .result ≡ ok ans → B
+pub no-answer : {B : Type 0} (d : Done) {r : Refusal} {m : Lent} {ans : Answer} → d ≡ record { result = refused r; lent = m } → d .result ≡ ok ans → B
 no-answer d e h = refused-not-ok (sym (ap (λ (x : Done). x .result) e) ∙ h)
 
-left-buffer : (D : Decision) (allowance : ℕ) (sheet : List ℕ) (m : Lent)
+pub left-buffer : (D : Decision) (allowance : ℕ) (sheet : List ℕ) (m : Lent)
     → leftBehind D allowance sheet m .buffer ≡ sheet ++ drop (length sheet) (m .buffer)
 unfolding leftBehind
 left-buffer D allowance sheet m = refl
@@ -95,7 +97,7 @@ pub answered-sheet-passes : (bs : List ℕ) (allowance : ℕ) (m : Lent) (ans : 
     × (check-call bs sheet ≡ ok (passedAs ans))
 answered-sheet-passes bs allowance m ans e = go (search-outcomes bs allowance m)
   where
-    go : Outcome bs allowance m → Stands bs ans (search-call bs allowance m .lent .buffer)
+    go : WayOut bs allowance m → Stands bs ans (search-call bs allowance m .lent .buffer)
     go (unread r h) = no-answer (search-call bs allowance m) (search-reads-first bs allowance m r h) e
     go (out q a h) = no-answer (search-call bs allowance m) (allowance-next bs allowance m q a h) e
     go (short q a h k s) = no-answer (search-call bs allowance m) (memory-next bs allowance m q a h k s) e

@@ -22,14 +22,14 @@ use Rattle.claims.specs.Fields.{bigEndian, fromBytes, setNumber, numberS
 use Rattle.claims.specs.SheetBytes.{width, setBytes, rowBytes, pathBytes, ringBytes}
 use Rattle.claims.specs.SheetReading.{setOf, setFits, pathOf, rowNumbers, rowsPass, rowOfM, rowOfN, tableOf, ringOf}
 use Rattle.claims.proofs.Bytes.{bigEndian-length, bytes-read-back}
-use Rattle.claims.proofs.SetBytes.{Rising, rising-from-below, setNumber-even, setNumber-small, set-read-back}
+use Rattle.claims.proofs.SetBytes.{RisingWithin, rising-from-below, setNumber-even, setNumber-small, set-read-back}
 
 -- sets of 8 bytes
 pub setBytes-length : (s : List ℕ) → length (setBytes s) ≡ 8
 unfolding setBytes
 setBytes-length s = bigEndian-length 8 (setNumber 1 s)
 
-setBytes-number : (n : ℕ) (s : List ℕ) → n ≤ 64 → Rising 1 (suc n) s
+setBytes-number : (n : ℕ) (s : List ℕ) → n ≤ 64 → RisingWithin 1 (suc n) s
     → (fromBytes 0 (setBytes s) ≡ setNumber 1 s) × (setNumber 1 s < 2 ^ n)
 unfolding setBytes
 setBytes-number n s h r =
@@ -38,13 +38,13 @@ setBytes-number n s h r =
     let most : 2 ^ n ≤ 2 ^ 64 = pow-le-pow-right (omega arith) h in
     (bytes-read-back 8 (setNumber 1 s) (omega arith), small)
 
-pub setBytes-fit : (n : ℕ) (s : List ℕ) → n ≤ 64 → Rising 1 (suc n) s → setFits n (setBytes s) ≡ true
+pub setBytes-fit : (n : ℕ) (s : List ℕ) → n ≤ 64 → RisingWithin 1 (suc n) s → setFits n (setBytes s) ≡ true
 unfolding setFits
 setBytes-fit n s h r =
     let (e, small) = setBytes-number n s h r in
     lt-ltb (fromBytes 0 (setBytes s)) (2 ^ n) (omega arith)
 
-pub setBytes-read-back : (n : ℕ) (s : List ℕ) → n ≤ 64 → Rising 1 (suc n) s → setOf n (setBytes s) ≡ s
+pub setBytes-read-back : (n : ℕ) (s : List ℕ) → n ≤ 64 → RisingWithin 1 (suc n) s → setOf n (setBytes s) ≡ s
 unfolding setOf
 setBytes-read-back n s h r =
     let (e, small) = setBytes-number n s h r in
@@ -52,8 +52,8 @@ setBytes-read-back n s h r =
 
 -- a path standing that a sheet can hold: its sets rise within the occurrences of their sides
 pub record PathShaped (D : Decision) (s : Path) : Type 0 where
-  pub left : Rising 1 (suc (occurrences (D .left))) (s .P)
-  pub right : Rising 1 (suc (occurrences (D .right))) (s .S)
+  pub left : RisingWithin 1 (suc (occurrences (D .left))) (s .P)
+  pub right : RisingWithin 1 (suc (occurrences (D .right))) (s .S)
 
 pub pathBytes-length : (s : Path) → length (pathBytes s) ≡ 16
 unfolding pathBytes
@@ -109,7 +109,7 @@ unfolding rowsPass rowSets
 rows-pass f t p zero h = refl
 rows-pass f t p (suc n) h = and-both (h p) (rows-pass f t (suc p) n h)
 
-row-rising : (lo hi : ℕ) (t : List (List ℕ)) → ((x : List ℕ) → In x t → Rising lo hi x) → (q : ℕ) → Rising lo hi (row t q)
+row-rising : (lo hi : ℕ) (t : List (List ℕ)) → ((x : List ℕ) → In x t → RisingWithin lo hi x) → (q : ℕ) → RisingWithin lo hi (row t q)
 row-rising lo hi [] h q = tt
 row-rising lo hi (x ∷ xs) h zero = h x (here refl)
 row-rising lo hi (x ∷ xs) h (suc q) = row-rising lo hi xs (λ y i. h y (there i)) q
@@ -119,7 +119,7 @@ unfolding rowSets
 rowSets-behind x t p zero = refl
 rowSets-behind x t p (suc n) = ap (λ l. setNumber 0 (row t p) ∷ l) (rowSets-behind x t (suc p) n)
 
-table-read-back : (hi : ℕ) (t : List (List ℕ)) (n : ℕ) → length t ≤ n → ((x : List ℕ) → In x t → Rising 0 hi x)
+table-read-back : (hi : ℕ) (t : List (List ℕ)) (n : ℕ) → length t ≤ n → ((x : List ℕ) → In x t → RisingWithin 0 hi x)
     → map (numberSet 0 hi) (take (length t) (rowSets t 0 n)) ≡ t
 unfolding rowSets
 table-read-back hi [] n h k = refl
@@ -132,23 +132,23 @@ table-read-back hi (x ∷ t) (suc n) h k =
 -- occurrences, those of N within 0 and the occurrences, and row 0 of N is empty
 pub record RingShaped (D : Decision) (s : Ring) : Type 0 where
   pub first : s .first < D .atoms
-  pub left : Rising 1 (suc (occurrences (D .left))) (s .P)
+  pub left : RisingWithin 1 (suc (occurrences (D .left))) (s .P)
   pub sizeM : length (s .M) ≡ suc (occurrences (D .right))
-  pub rowsM : (x : List ℕ) → In x (s .M) → Rising 1 (suc (occurrences (D .right))) x
+  pub rowsM : (x : List ℕ) → In x (s .M) → RisingWithin 1 (suc (occurrences (D .right))) x
   pub sizeN : length (s .N) ≡ suc (occurrences (D .right))
-  pub rowsN : (x : List ℕ) → In x (s .N) → Rising 0 (suc (occurrences (D .right))) x
+  pub rowsN : (x : List ℕ) → In x (s .N) → RisingWithin 0 (suc (occurrences (D .right))) x
   pub emptyN : row (s .N) 0 ≡ []
 
 pub ringBytes-length : (s : Ring) → length (ringBytes s) ≡ 266
 unfolding ringBytes width
 ringBytes-length s = simp (length-append, setBytes-length, rowBytes-length)
 
-row-small : (r : ℕ) (x : List ℕ) → Rising 0 (suc r) x → setNumber 0 x < 2 ^ suc r
+row-small : (r : ℕ) (x : List ℕ) → RisingWithin 0 (suc r) x → setNumber 0 x < 2 ^ suc r
 row-small r x h =
     let e : suc r - 0 ≡ suc r = omega arith in
     subst (λ i. setNumber 0 x < 2 ^ i) e (setNumber-small 0 (suc r) x (omega arith) h)
 
-rows-fit : (r : ℕ) (t : List (List ℕ)) → r ≤ 31 → ((x : List ℕ) → In x t → Rising 0 (suc r) x) → RowsFit t
+rows-fit : (r : ℕ) (t : List (List ℕ)) → r ≤ 31 → ((x : List ℕ) → In x t → RisingWithin 0 (suc r) x) → RowsFit t
 rows-fit r t h k q =
     let most : 2 ^ suc r ≤ 2 ^ 32 = pow-le-pow-right (omega arith) {i = suc r} {j = 32} (omega arith) in
     omega (arith, row-small r (row t q) (row-rising 0 (suc r) t k q))
@@ -157,7 +157,7 @@ row-past : (t : List (List ℕ)) (q : ℕ) → length t ≤ q → setNumber 0 (r
 unfolding setNumber
 row-past t q h = ap (setNumber 0) (List·getD-eq-default t [] h)
 
-rows-of-M : (r : ℕ) (t : List (List ℕ)) → length t ≡ suc r → ((x : List ℕ) → In x t → Rising 1 (suc r) x)
+rows-of-M : (r : ℕ) (t : List (List ℕ)) → length t ≡ suc r → ((x : List ℕ) → In x t → RisingWithin 1 (suc r) x)
     → (q : ℕ) → rowOfM r q (setNumber 0 (row t q)) ≡ true
 unfolding rowOfM
 rows-of-M r t e k q = go (leb q r) refl
@@ -165,7 +165,7 @@ rows-of-M r t e k q = go (leb q r) refl
     m : ℕ
     m = setNumber 0 (row t q)
 
-    rising : Rising 1 (suc r) (row t q)
+    rising : RisingWithin 1 (suc r) (row t q)
     rising = row-rising 1 (suc r) t k q
 
     go : (b : Bool) → leb q r ≡ b → cond b (ltb m (2 ^ suc r) && eqb (m % 2) 0) (eqb m 0) ≡ true
@@ -174,7 +174,7 @@ rows-of-M r t e k q = go (leb q r) refl
         (eq-eqb (m % 2) 0 (setNumber-even (suc r) (row t q) rising))
     go false h = eq-eqb m 0 (row-past t q (omega (arith, leb-false q r h)))
 
-rows-of-N : (r : ℕ) (t : List (List ℕ)) → length t ≡ suc r → ((x : List ℕ) → In x t → Rising 0 (suc r) x) → row t 0 ≡ []
+rows-of-N : (r : ℕ) (t : List (List ℕ)) → length t ≡ suc r → ((x : List ℕ) → In x t → RisingWithin 0 (suc r) x) → row t 0 ≡ []
     → (q : ℕ) → rowOfN r q (setNumber 0 (row t q)) ≡ true
 unfolding rowOfN setNumber
 rows-of-N r t e k f zero = ap (λ x. eqb (setNumber 0 x) 0) f
@@ -224,10 +224,10 @@ ring-read-back D s l r h =
     R : ℕ
     R = occurrences (D .right)
 
-    risingM : (x : List ℕ) → In x (s .M) → Rising 0 (suc R) x
+    risingM : (x : List ℕ) → In x (s .M) → RisingWithin 0 (suc R) x
     risingM x i = rising-from-below 0 1 (suc R) x (omega arith) (h .rowsM x i)
 
-    table : (t : List (List ℕ)) → length t ≡ suc R → ((x : List ℕ) → In x t → Rising 0 (suc R) x)
+    table : (t : List (List ℕ)) → length t ≡ suc R → ((x : List ℕ) → In x t → RisingWithin 0 (suc R) x)
         → tableOf R (rowSets t 0 32) ≡ t
     table t e k =
         subst (λ n. map (numberSet 0 (suc R)) (take n (rowSets t 0 32)) ≡ t) e

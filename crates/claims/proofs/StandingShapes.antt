@@ -17,11 +17,11 @@ use Rattle.kat.proofs.Ranges.{reads-range}
 use Rattle.claims.specs.Sides.{Decision}
 use Rattle.claims.specs.Standings.{Letter, Path, pathStep, pathSystem, Ring, row, states, moves, ringBegin, pairs, ringStep, ringSystem}
 use Rattle.claims.specs.Verdicts.{StandingOf, begun, grown}
-use Rattle.claims.proofs.SetBytes.{Rising, filter-rising}
+use Rattle.claims.proofs.SetBytes.{RisingWithin, filter-rising}
 use Rattle.claims.proofs.StandingBytes.{PathShaped, RingShaped}
 
 -- the standings of path claims
-after-rising : (E : Expr) (P : List ℕ) (a r : ℕ) → Rising 1 (suc (occurrences E)) (after E P a r)
+after-rising : (E : Expr) (P : List ℕ) (a r : ℕ) → RisingWithin 1 (suc (occurrences E)) (after E P a r)
 unfolding after
 after-rising E P a r =
     filter-rising (λ q. reads E 0 q r && some (λ p. next E p q a) P) 1 (suc (occurrences E)) (omega arith)
@@ -44,9 +44,9 @@ unfolding states
 states-length D = upto-length (suc (occurrences (D .right)))
 
 -- each row of a table that is made over the states has a property that each of them gives it
-rows-of-states : (D : Decision) (f : ℕ → List ℕ) (lo hi : ℕ) → ((q : ℕ) → Rising lo hi (f q))
-    → (x : List ℕ) → In x (map f (states D)) → Rising lo hi x
-rows-of-states D f lo hi h x i = let (q, j, e) = map-in f (states D) i in subst (Rising lo hi) (sym e) (h q)
+rows-of-states : (D : Decision) (f : ℕ → List ℕ) (lo hi : ℕ) → ((q : ℕ) → RisingWithin lo hi (f q))
+    → (x : List ℕ) → In x (map f (states D)) → RisingWithin lo hi x
+rows-of-states D f lo hi h x i = let (q, j, e) = map-in f (states D) i in subst (RisingWithin lo hi) (sym e) (h q)
 
 pub ringBegin-shaped : (D : Decision) (l : Letter) → l .atom < D .atoms → RingShaped D (ringBegin D l)
 unfolding ringBegin
@@ -75,7 +75,7 @@ pairs-none D s l =
     (states D)
     (λ p. rw (some-none (λ o. moves D l o 0 && member p (row (s .N) o)) (states D) (λ o. rw (moves-none D l o)), moves-none D l 0))
 
-pairs-rising : (D : Decision) (s : Ring) (l : Letter) (q : ℕ) → Rising 0 (suc (occurrences (D .right))) (pairs D s l q)
+pairs-rising : (D : Decision) (s : Ring) (l : Letter) (q : ℕ) → RisingWithin 0 (suc (occurrences (D .right))) (pairs D s l q)
 unfolding pairs states
 pairs-rising D s l q =
     filter-rising
@@ -95,7 +95,7 @@ ringStep-shaped D s l h =
       sizeM = length-map (s .M) (λ o. after (D .right) o (l .atom) (l .relation)) ∙ h .sizeM;
       rowsM = λ x i.
           let (o, j, e) = map-in (λ o. after (D .right) o (l .atom) (l .relation)) (s .M) i in
-          subst (Rising 1 (suc (occurrences (D .right)))) (sym e) (after-rising (D .right) o (l .atom) (l .relation));
+          subst (RisingWithin 1 (suc (occurrences (D .right)))) (sym e) (after-rising (D .right) o (l .atom) (l .relation));
       sizeN = length-map (states D) (pairs D s l) ∙ states-length D;
       rowsN = rows-of-states D (pairs D s l) 0 (suc (occurrences (D .right))) (pairs-rising D s l);
       emptyN = row-zero D (pairs D s l) ∙ pairs-none D s l;

@@ -4,7 +4,6 @@
 use Prim.Native.Nat.{ℕ, suc, _≤_}
 use native.Mathlib.Omega.{arith}
 use mathlib.Core.Path.{_≡_, refl, _∙_, ap, subst}
-use mathlib.Core.Logic.{_⊎_}
 use mathlib.Core.Logic._⊎_.{inl, inr}
 use mathlib.Core.Bool.{true}
 use mathlib.Core.List.{List}
@@ -14,24 +13,11 @@ use Rattle.claims.specs.Standings.{System}
 use Rattle.claims.specs.SheetReading.{saysProved, saysRefuted}
 use Rattle.claims.specs.Passing.{passes}
 use Rattle.claims.specs.Search.{Verdict, proved, refuted, spent, verdict}
-use Rattle.claims.specs.Verdicts.{ProvedBy, RefutedBy, SpentAt}
-use Rattle.claims.proofs.Lawful.{Lawful}
-use Rattle.claims.proofs.Ordered.{InOrder}
+use Rattle.claims.specs.Verdicts.{ProvedBy, RefutedBy, SpentAt, Answered, ExactlyOne}
+use Rattle.claims.specs.Lawful.{Lawful}
+use Rattle.claims.specs.Orders.{InOrder}
 use Rattle.claims.proofs.Walk.{Means, verdict-means}
 use Rattle.claims.proofs.Plain.{proved-not-refuted, proved-not-spent, refuted-not-spent, proved-same-count, refuted-same, proved-passes, refuted-passes}
-
--- one of the three statements
-abbrev pub Answered : System → ℕ → Type 0
-Answered S allowance =
-    ((ss : List (S .Standing)) × ProvedBy S allowance ss)
-    ⊎ (((w : Word) × RefutedBy S allowance w) ⊎ ((n : ℕ) × SpentAt S allowance n))
-
--- one of them holds, and no two
-pub record ExactlyOne (S : System) (allowance : ℕ) : Type 0 where
-  pub one : Answered S allowance
-  pub not-proved-and-refuted : (ss : List (S .Standing)) (w : Word) → ProvedBy S allowance ss → RefutedBy S allowance w → ⊥
-  pub not-proved-and-spent : (ss : List (S .Standing)) (n : ℕ) → ProvedBy S allowance ss → SpentAt S allowance n → ⊥
-  pub not-refuted-and-spent : (w : Word) (n : ℕ) → RefutedBy S allowance w → SpentAt S allowance n → ⊥
 
 module _ (S : System) (laws : Lawful S) (allowance : ℕ) where
   means : (v : Verdict S) → verdict S allowance ≡ v → Means S allowance v

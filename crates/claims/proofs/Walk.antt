@@ -20,12 +20,12 @@ use Rattle.claims.specs.Standings.{System, letters}
 use Rattle.claims.specs.Passing.{refuting}
 use Rattle.claims.specs.Search.{Entry, Verdict, proved, refuted, spent, firstLevel, nextLevel, fresh, completed, levels, verdict}
 use Rattle.claims.specs.Verdicts.{NotAfter, GuardedWord, Within, ProvedBy, RefutedBy, SpentAt}
-use Rattle.claims.proofs.Lawful.{Lawful}
-use Rattle.claims.proofs.Pairwise.{Rising}
+use Rattle.claims.specs.Lawful.{Lawful}
+use Rattle.claims.specs.Orders.{Rising, InOrder}
 use Rattle.claims.proofs.Fresh.{standings}
 use Rattle.claims.proofs.Candidates.{Completes, completed-some}
 use Rattle.claims.proofs.Levels.{Reached, within-none, start-behind, first-offered, fresh-reached, longer, next-behind, next-offered}
-use Rattle.claims.proofs.Ordered.{InOrder, OrderedTo, start-ordered, next-ordered}
+use Rattle.claims.proofs.Ordered.{OrderedTo, start-ordered, next-ordered}
 use Rattle.claims.proofs.Answers.{first-lowest, spent-here, refuted-size, refuted-here, proved-here}
 
 -- what a verdict says; the list that proves is in order, and a refuting word is no longer than the allowance

@@ -15,17 +15,13 @@ use Rattle.claims.specs.SheetBytes.{sheetBytes, pathBytes, ringBytes}
 use Rattle.claims.specs.SheetReading.{Said, saysProved, saysRefuted, sheetIn, pathOf, ringOf, wordOf}
 use Rattle.claims.specs.Passing.{passes}
 use Rattle.claims.specs.Refusals.{Result, ok, refused, onward}
-use Rattle.claims.specs.Calls.{Answer, provedWith, refutedBy, Given, answerOf, searched, Passed, passedProved, passedRefuted, passedOf, checked}
-use Rattle.claims.proofs.Pairwise.{Rising}
+use Rattle.claims.specs.Calls.{provedWith, refutedBy, Given, answerOf, searched, Passed, passedProved, passedRefuted, passedOf, checked}
+use Rattle.claims.specs.Orders.{Rising}
 use Rattle.claims.proofs.Lawful.{path-lawful, ring-lawful}
 use Rattle.claims.proofs.Verdict.{proved-is-proved, refuted-is-least, search-proved-passes, search-refuted-passes}
 use Rattle.claims.proofs.Limits.{WithinLimits}
 use Rattle.claims.proofs.SheetReturns.{path-proved-returns, path-refuted-returns, ring-proved-returns, ring-refuted-returns}
-
--- what the sheet of an answer says
-abbrev pub passedAs : Answer → Passed
-passedAs (provedWith c) = passedProved
-passedAs (refutedBy w) = passedRefuted
+use Rattle.claims.specs.Sheets.{passedAs}
 
 abbrev isOk : {A : Type 0} → Result A → ℕ
 isOk (ok a) = 1

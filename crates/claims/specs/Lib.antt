@@ -13,20 +13,32 @@ pub mod Reading
 -- "Words": what a relation stands for, the two sides, refuting words.
 pub mod Sides
 pub mod Words
--- "Standings": path and ring, levels, the verdict.
+-- "Standings": path and ring as they are computed, and what their fields say; levels, the verdict.
 pub mod Standings
+pub mod JustRead
 pub mod Search
--- "Sheet and graph bytes": fields, the sheet written, read and passing; what a verdict says.
+-- "Sheet and graph bytes": fields, the sheet written, read and passing.
 pub mod Fields
 pub mod SheetBytes
 pub mod SheetReading
 pub mod Passing
+-- What a verdict says, the order of words and prefixes, and what every kind of standing keeps to.
 pub mod Verdicts
+pub mod Orders
+pub mod Lawful
 -- Graph bytes, the judgement, the relational meaning, the drawn graph.
 pub mod GraphBytes
+pub mod GraphWriting
 pub mod Judgement
 pub mod Meaning
+pub mod Judgements
 pub mod Drawn
 -- The calls with their lent memory, and the printed line.
 pub mod Calls
 pub mod Printed
+-- What is shown of them: what an answer says, and what a sheet says.
+pub mod Demands
+pub mod Sheets
+-- The rules of refusing, in plain words.
+pub mod RefusalOrder
+pub mod CallOrder

@@ -91,3 +91,16 @@ module _ (S : System) where
       MoreThan n allowance
       × NoneShorter n
       × ((m : ℕ) → 1 ≤ m → m < n → FreshAt m)
+
+-- one of the three statements
+abbrev pub Answered : System → ℕ → Type 0
+Answered S allowance =
+    ((ss : List (S .Standing)) × ProvedBy S allowance ss)
+    ⊎ (((w : Word) × RefutedBy S allowance w) ⊎ ((n : ℕ) × SpentAt S allowance n))
+
+-- one of them holds, and no two
+pub record ExactlyOne (S : System) (allowance : ℕ) : Type 0 where
+  pub one : Answered S allowance
+  pub not-proved-and-refuted : (ss : List (S .Standing)) (w : Word) → ProvedBy S allowance ss → RefutedBy S allowance w → ⊥
+  pub not-proved-and-spent : (ss : List (S .Standing)) (n : ℕ) → ProvedBy S allowance ss → SpentAt S allowance n → ⊥
+  pub not-refuted-and-spent : (w : Word) (n : ℕ) → RefutedBy S allowance w → SpentAt S allowance n → ⊥

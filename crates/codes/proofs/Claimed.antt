@@ -12,7 +12,8 @@ use Rattle.claims.specs.Tree.{Claim, includes, empty, irreflexive, claimLine}
 use Rattle.claims.specs.Query.{Query, each, claimsOf}
 use Rattle.claims.specs.Refusals.{ok}
 use Rattle.claims.specs.Reading.{claimOf, readLines}
-use Rattle.claims.proofs.LineOrder.{Taken, lines-taken}
+use Rattle.claims.proofs.LineOrder.{lines-taken}
+use Rattle.claims.specs.RefusalOrder.{Taken}
 use Rattle.claims.proofs.ClaimLast.{claim-is-last}
 use Rattle.codes.specs.Codes.{treeCodes, claimCodes, lineCodes, linesCodes, queryCodes, claimKind}
 use Rattle.codes.proofs.Orderly.{Orderly, taken-orderly}

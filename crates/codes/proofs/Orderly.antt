@@ -15,7 +15,8 @@ use Rattle.claims.specs.Query.{Query, Bound, each, relationNames, lets, relatio
 use Rattle.claims.specs.Refusals.{Cause, ok}
 use Rattle.claims.specs.Reading.{crowded, readLines}
 use Rattle.claims.proofs.Results.{same-is-equal, each-append}
-use Rattle.claims.proofs.LineOrder.{Taken, lines-taken}
+use Rattle.claims.proofs.LineOrder.{lines-taken}
+use Rattle.claims.specs.RefusalOrder.{Taken}
 use Rattle.claims.proofs.Limits.{Declared, nothing-declared, declared-more}
 use Rattle.codes.specs.Codes.{letNames}
 use Rattle.codes.proofs.Names.{has, same-turned, has-append}

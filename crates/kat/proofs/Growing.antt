@@ -11,7 +11,7 @@ use Rattle.kat.specs.Ring.{Prefix, nothing, then, join, start}
 use Rattle.kat.specs.Tables.{next, reads, stop, null}
 use Rattle.kat.specs.Way.{Way}
 use Rattle.kat.proofs.Shapes.{nothing-is-not-longer}
-use Rattle.kat.proofs.Turns.{NonEmpty, AtomIsWord, Pair}
+use Rattle.kat.specs.Turns.{NonEmpty, AtomIsWord, Pair}
 
 -- the parts of a prefix that has a relation
 abbrev before : Prefix → Prefix

@@ -38,12 +38,12 @@ null-rel (seq e f) u h = (
 null-rel (plus e) u h = once (null-rel e u h)
 
 module _ (e f : Expr) (k q r : ℕ) where
-  reads-left : Among k (occurrences e) q → (reads e k q r || reads f (k + occurrences e) q r) ≡ true → reads e k q r ≡ true
+  pub reads-left : Among k (occurrences e) q → (reads e k q r || reads f (k + occurrences e) q r) ≡ true → reads e k q r ≡ true
   reads-left h m =
       keep-left k (occurrences e) (occurrences f) q (reads e k q r) (reads f (k + occurrences e) q r) h
       (reads-range f (k + occurrences e) q r) m
 
-  reads-right : Among (k + occurrences e) (occurrences f) q → (reads e k q r || reads f (k + occurrences e) q r) ≡ true
+  pub reads-right : Among (k + occurrences e) (occurrences f) q → (reads e k q r || reads f (k + occurrences e) q r) ≡ true
       → reads f (k + occurrences e) q r ≡ true
   reads-right h m =
       keep-right k (occurrences e) (occurrences f) q (reads e k q r) (reads f (k + occurrences e) q r) h (reads-range e k q r) m

@@ -17,5 +17,7 @@ pub mod Turns
 pub mod Growing
 pub mod Words
 pub mod Prefixes
+-- What can have been read of a prefix.
+pub mod Read
 -- Tables of pairs.
 pub mod Closure

@@ -5,7 +5,8 @@ use Prim.Native.Nat.{ℕ, zero, suc}
 use mathlib.Core.Path.{_≡_, refl, sym, _∙_, ap}
 use Rattle.kat.specs.Word.{Word, end, at, first, last}
 use Rattle.kat.specs.Ring.{Prefix, nothing, then, body, join, times, start}
-use Rattle.kat.proofs.Turns.{NonEmpty, join-nothing, start-join}
+use Rattle.kat.proofs.Turns.{join-nothing, start-join}
+use Rattle.kat.specs.Turns.{NonEmpty}
 use Rattle.kat.proofs.Words.{first-onto, word-of-body}
 
 pub join-assoc : (u v w : Prefix) → join (join u v) w ≡ join u (join v w)

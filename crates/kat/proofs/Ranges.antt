@@ -85,3 +85,22 @@ follows-range (plus e) k p q a h =
     ⊎-elim (λ g. follows-range e k p q a g)
     (λ g. firsts-range e k q a (and-right (lasts e k p a) (firsts e k q a) g))
     (or-cases (follows e k p q a) (lasts e k p a && firsts e k q a) h)
+
+-- the occurrence that is followed
+pub follows-before : (E : Expr) (k p q a : ℕ) → follows E k p q a ≡ true → Among k (occurrences E) p
+follows-before (step s) k p q a e = absurd (true≢false (sym e))
+follows-before (test s) k p q a e = absurd (true≢false (sym e))
+follows-before (alt e f) k p q a h =
+    among-either k (occurrences e) (occurrences f) p (follows e k p q a) (follows f (k + occurrences e) p q a)
+    (follows-before e k p q a) (follows-before f (k + occurrences e) p q a) h
+follows-before (seq e f) k p q a h =
+    ⊎-elim
+    (λ g. among-either k (occurrences e) (occurrences f) p (follows e k p q a) (follows f (k + occurrences e) p q a)
+    (follows-before e k p q a) (follows-before f (k + occurrences e) p q a) g)
+    (λ g. among-left k (occurrences e) (occurrences f) p
+    (lasts-range e k p a (and-left (lasts e k p a) (firsts f (k + occurrences e) q a) g)))
+    (or-cases (follows e k p q a || follows f (k + occurrences e) p q a) (lasts e k p a && firsts f (k + occurrences e) q a) h)
+follows-before (plus e) k p q a h =
+    ⊎-elim (λ g. follows-before e k p q a g)
+    (λ g. lasts-range e k p a (and-left (lasts e k p a) (firsts e k q a) g))
+    (or-cases (follows e k p q a) (lasts e k p a && firsts e k q a) h)

@@ -14,12 +14,8 @@ use Rattle.kat.specs.Language.{Lang}
 use Rattle.kat.specs.Ring.{Prefix, nothing, then, join, times, start, round, Covered}
 use Rattle.kat.specs.Tables.{stop, null}
 use Rattle.kat.specs.Way.{Way}
+use Rattle.kat.specs.Turns.{NonEmpty, Turns, Turn, Round, AtomIsWord, FromStart, FromInside}
 use Rattle.kat.proofs.Runs.{language-by-ways}
-
--- the prefix has a relation
-abbrev pub NonEmpty : Prefix → Type 0
-NonEmpty nothing = ⊥
-NonEmpty (then l a r) = Unit {0}
 
 pub join-nothing : (l : Prefix) → join nothing l ≡ l
 join-nothing nothing = refl
@@ -38,48 +34,35 @@ way-join E p u (then v a r) q = (
 )
 
 module _ (E : Expr) (l : Prefix) where
-  -- from p, n turns lead to q
-  abbrev pub Turns : ℕ → ℕ → ℕ → Type 0
-  Turns zero p q = p ≡ q
-  Turns (suc n) p q = (o : ℕ) × Turns n p o × Way E o l q
-
-  pub way-times : (n p q : ℕ) → Way E p (times n l) q ↔ Turns n p q
+  pub way-times : (n p q : ℕ) → Way E p (times n l) q ↔ Turns E l n p q
   way-times zero p q = ((λ h. h), (λ h. h))
   way-times (suc n) p q = (
     (λ h. let (o, x, y) = way-join E p (times n l) l q .0 h in (o, way-times n p o .0 x, y)),
     (λ (o, x, y). way-join E p (times n l) l q .1 (o, way-times n p o .1 x, y)),
   )
 
-  -- one turn
-  abbrev pub Turn : ℕ → ℕ → Type 0
-  Turn p q = Way E p l q
-
-  plus-more : {p o q : ℕ} → Plus Turn p o → Turn o q → Plus Turn p q
+  plus-more : {p o q : ℕ} → Plus (Turn E l) p o → Turn E l o q → Plus (Turn E l) p q
   plus-more (once h) k = more h (once k)
   plus-more (more h t) k = more h (plus-more t k)
 
-  turns-first : (n p o q : ℕ) → Turn p o → Turns n o q → Turns (suc n) p q
-  turns-first zero p o q h e = (p, refl, subst (Turn p) e h)
+  turns-first : (n p o q : ℕ) → Turn E l p o → Turns E l n o q → Turns E l (suc n) p q
+  turns-first zero p o q h e = (p, refl, subst (Turn E l p) e h)
   turns-first (suc n) p o q h (m, t, k) = (m, turns-first n p o m h t, k)
 
   -- one or more turns
-  pub plus-of-turns : (n p q : ℕ) → Turns (suc n) p q → Plus Turn p q
-  plus-of-turns zero p q (o, e, k) = once (subst (λ x. Turn x q) (sym e) k)
+  pub plus-of-turns : (n p q : ℕ) → Turns E l (suc n) p q → Plus (Turn E l) p q
+  plus-of-turns zero p q (o, e, k) = once (subst (λ x. Turn E l x q) (sym e) k)
   plus-of-turns (suc n) p q (o, t, k) = plus-more (plus-of-turns n p o t) k
 
-  pub turns-of-plus : {p q : ℕ} → Plus Turn p q → (n : ℕ) × Turns (suc n) p q
+  pub turns-of-plus : {p q : ℕ} → Plus (Turn E l) p q → (n : ℕ) × Turns E l (suc n) p q
   turns-of-plus (once {x = p} h) = (zero, (p, refl, h))
   turns-of-plus (more {x = p} {y = o} {z = q} h t) = let (n, k) = turns-of-plus t in (suc n, turns-first (suc n) p o q h k)
 
-  -- none or more turns
-  abbrev pub Round : ℕ → ℕ → Type 0
-  Round p q = (p ≡ q) ⊎ Plus Turn p q
-
-  pub round-of-turns : (n p q : ℕ) → Turns n p q → Round p q
+  pub round-of-turns : (n p q : ℕ) → Turns E l n p q → Round E l p q
   round-of-turns zero p q e = inl e
   round-of-turns (suc n) p q t = inr (plus-of-turns n p q t)
 
-  pub turns-of-round : (p q : ℕ) → Round p q → (n : ℕ) × Turns n p q
+  pub turns-of-round : (p q : ℕ) → Round E l p q → (n : ℕ) × Turns E l n p q
   turns-of-round p q (inl e) = (zero, e)
   turns-of-round p q (inr t) = let (n, k) = turns-of-plus t in (suc n, k)
 
@@ -106,34 +89,16 @@ rotated E u v (suc n) p q = (
 )
 
 module _ (E : Expr) (b : ℕ) (l : Prefix) where
-  -- an atom before one of the relations is a word
-  abbrev pub AtomIsWord : Type 0
-  AtomIsWord = (u : Prefix) × (v : Prefix) × (l ≡ join u v) × NonEmpty v × (null E (start b v) ≡ true)
-
-  -- one or more turns from the first atom
-  abbrev pub FromStart : Type 0
-  FromStart = (q : ℕ) × Plus (Turn E l) 0 q × (stop E q (start b l) ≡ true)
-
-  -- at an atom strictly inside, q is reached from 0 by the part after it, and from p the part before it reaches an occurrence that may
-  -- end there
-  abbrev pub Pair : ℕ → ℕ → Type 0
-  Pair q p =
-      (u : Prefix) × (v : Prefix) × (l ≡ join u v) × NonEmpty u × NonEmpty v
-      × Way E 0 v q × ((o : ℕ) × Way E p u o × (stop E o (start b v) ≡ true))
-
-  abbrev pub FromInside : Type 0
-  FromInside = (q : ℕ) × (p : ℕ) × Pair q p × Round E l q p
-
   word-of-ways : (x : Prefix) (n : ℕ) → Lang E (round b n x) ↔ ((q : ℕ) × Way E 0 (times n x) q × (stop E q (start b x) ≡ true))
   word-of-ways x n = language-by-ways E (times n x) (start b x)
 
-  atom-of-word : (u v : Prefix) → NonEmpty l → l ≡ join u v → null E (start b (join v u)) ≡ true → AtomIsWord
+  atom-of-word : (u v : Prefix) → NonEmpty l → l ≡ join u v → null E (start b (join v u)) ≡ true → AtomIsWord E b l
   atom-of-word u nothing h e n =
       (nothing, u, e ∙ sym (join-nothing u), subst NonEmpty e h, subst (λ x. null E (start b x) ≡ true) (join-nothing u) n)
   atom-of-word u (then v a r) h e n =
       (u, then v a r, e, tt, subst (λ x. null E x ≡ true) (start-join b b (then v a r) u tt) n)
 
-  turned-from-start : (x : Prefix) (n q : ℕ) → x ≡ l → Way E 0 (times (suc n) x) q → stop E q (start b x) ≡ true → FromStart
+  turned-from-start : (x : Prefix) (n q : ℕ) → x ≡ l → Way E 0 (times (suc n) x) q → stop E q (start b x) ≡ true → FromStart E b l
   turned-from-start x n q e w s = (
     q,
     plus-of-turns E l n 0 q (way-times E l (suc n) 0 q .0 (subst (λ y. Way E 0 (times (suc n) y) q) e w)),
@@ -141,7 +106,7 @@ module _ (E : Expr) (b : ℕ) (l : Prefix) where
   )
 
   turned : (u v : Prefix) (n q : ℕ) → l ≡ join u v → Way E 0 (times (suc n) (join v u)) q → stop E q (start b (join v u)) ≡ true
-      → FromStart ⊎ FromInside
+      → FromStart E b l ⊎ FromInside E b l
   turned u nothing n q e w s = inl (turned-from-start (join nothing u) n q (join-nothing u ∙ sym e) w s)
   turned nothing (then v a r) n q e w s = inl (turned-from-start (then v a r) n q (sym (join-nothing (then v a r)) ∙ sym e) w s)
   turned (then u c k) (then v a r) n q e w s =
@@ -154,16 +119,16 @@ module _ (E : Expr) (b : ℕ) (l : Prefix) where
       )
 
   -- a ring word with a relation is covered exactly by an atom, by turns from the start or by turns from inside
-  pub covered-by-turns : NonEmpty l → Covered E b l ↔ (AtomIsWord ⊎ (FromStart ⊎ FromInside))
+  pub covered-by-turns : NonEmpty l → Covered E b l ↔ (AtomIsWord E b l ⊎ (FromStart E b l ⊎ FromInside E b l))
   covered-by-turns h = ((λ (u, v, e, n, w). to u v e n w), from)
     where
-      to : (u v : Prefix) → l ≡ join u v → (n : ℕ) → Lang E (round b n (join v u)) → AtomIsWord ⊎ (FromStart ⊎ FromInside)
+      to : (u v : Prefix) → l ≡ join u v → (n : ℕ) → Lang E (round b n (join v u)) → AtomIsWord E b l ⊎ (FromStart E b l ⊎ FromInside E b l)
       to u v e zero w =
           let (q, z, s) = word-of-ways (join v u) zero .0 w in
           inl (atom-of-word u v h e (subst (λ x. stop E x (start b (join v u)) ≡ true) (sym z) s))
       to u v e (suc n) w = let (q, z, s) = word-of-ways (join v u) (suc n) .0 w in inr (turned u v n q e z s)
 
-      from : AtomIsWord ⊎ (FromStart ⊎ FromInside) → Covered E b l
+      from : AtomIsWord E b l ⊎ (FromStart E b l ⊎ FromInside E b l) → Covered E b l
       from (inl (u, v, e, k, n)) =
           (u, v, e, zero, word-of-ways (join v u) zero .1 (0, refl, subst (λ x. null E x ≡ true) (sym (start-join b b v u k)) n))
       from (inr (inl (q, t, s))) =

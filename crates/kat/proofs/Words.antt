@@ -12,7 +12,8 @@ use Rattle.kat.specs.Ring.{Prefix, nothing, then, onto, body, join, time
 use Rattle.kat.specs.Tables.{null}
 use Rattle.kat.proofs.Shapes.{nothing-is-not-longer}
 use Rattle.kat.proofs.Runs.{language-is-read}
-use Rattle.kat.proofs.Turns.{NonEmpty, join-nothing}
+use Rattle.kat.proofs.Turns.{join-nothing}
+use Rattle.kat.specs.Turns.{NonEmpty}
 use Rattle.kat.proofs.Growing.{start-own}
 
 pub first-onto : (l : Prefix) (w : Word) → first (onto l w) ≡ start (first w) l

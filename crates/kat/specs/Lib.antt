@@ -13,5 +13,8 @@ pub mod Tables
 pub mod Way
 -- Rings: rotations and repetitions.
 pub mod Ring
+pub mod Turns
+-- What can have been read of a prefix, by the expression alone.
+pub mod Read
 -- Tables of pairs, closed.
 pub mod Closure

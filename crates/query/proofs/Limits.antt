@@ -14,7 +14,7 @@ use Rattle.side_build.specs.Built.{builtFrom}
 use Rattle.read_text.specs.declared.Summary.{Summary}
 use Rattle.query.specs.declared.Facts.{Facts}
 use Rattle.query.specs.declared.Answer.the-variants.{Accepted, Refused}
-use Rattle.query.specs.inner.Counted.{isRing, factsFrom, LeavesTables, Judged, inLimits, Limited}
+use Rattle.query.specs.inner.Counted.{isRing, factsFrom, LeavesTables, LimitsSay, inLimits, Limited}
 
 is-false : (b : Bool) → not b ≡ true → b ≡ false
 is-false true e = sym e
@@ -32,12 +32,12 @@ module _ (k : Summary) (ring : Bool) (is-it : ring ≡ isRing k) (out l r : List
   pub over-limits : not b ≡ true → (out′ : List ℕ) → length out ≡ 4096 → out′ ≡ zeros (length out)
       → Limited k out l r (Refused OverLimit (k .lines)) out′ l r
   over-limits t out′ n z =
-      subst⁻¹ (λ x. Judged k out l r x (Refused OverLimit (k .lines)) out′ l r) (outcome false (is-false b t)) (refl, z ∙ ap zeros n, refl, refl)
+      subst⁻¹ (λ x. LimitsSay k out l r x (Refused OverLimit (k .lines)) out′ l r) (outcome false (is-false b t)) (refl, z ∙ ap zeros n, refl, refl)
 
   pub within-limits : not b ≡ false → (f : Facts) (l′ r′ : List ℕ) → f ≡ factsFrom k ring (take (k .codes) out)
       → LeavesTables (take (k .codes) out) l′ r′ → Limited k out l r (Accepted f) out l′ r′
   within-limits t f l′ r′ e x =
-      subst⁻¹ (λ y. Judged k out l r y (Accepted f) out l′ r′) (outcome true (is-true b t))
+      subst⁻¹ (λ y. LimitsSay k out l r y (Accepted f) out l′ r′) (outcome true (is-true b t))
       (ap Accepted (e ∙ ap (λ y. factsFrom k y (take (k .codes) out)) is-it), refl, x)
 
 -- the facts, put together from what is known and what is built

@@ -15,7 +15,7 @@ use Rattle.claims.specs.Reading.{read}
 use Rattle.claims.specs.Refusals.{overLimit, Result, ok, refused, refuse}
 use Rattle.codes.specs.Codes.{queryCodes}
 use Rattle.refusals.specs.Causes.{causeOf}
-use Rattle.read_text.specs.Reading.{readable, leftCodes, summaryOf, Says as Says-readable}
+use Rattle.read_text.specs.Reading.{readable, leftCodes, summaryOf, SaysSummary}
 use Rattle.words.specs.Memory.{zeros}
 use Rattle.refusals.specs.declared.Reason.{Reason}
 use Rattle.refusals.specs.declared.Reason.the-variants.{OverLimit}
@@ -31,7 +31,7 @@ use Rattle.side_relations.proofs.Removed.{below-sixty-four}
 use Rattle.query.specs.declared.Answer.{Answer}
 use Rattle.query.specs.declared.Answer.the-variants.{Accepted, Refused}
 use Rattle.query.specs.Answer.{factsOf, Says, claimTable, tableAfter, leftAfter, rightAfter}
-use Rattle.query.specs.inner.Counted.{isRing, factsFrom, LeavesTables, Judged, inLimits, Limited}
+use Rattle.query.specs.inner.Counted.{isRing, factsFrom, LeavesTables, LimitsSay, inLimits, Limited}
 use Rattle.query.proofs.Readings.{Accepts, accepts, taken-claimed, ring-told, read-within, read-over, read-refused}
 
 -- the answer and every lent word are what the reading says
@@ -42,12 +42,12 @@ record Right (x : Result Query) (a : Answer) (codes left right : List ℕ) : Typ
   pub right-table : right ≡ rightAfter x
 
 -- a refusal of 1 to 7
-refusal-right : (bs : List ℕ) (why : Reason) (p : ℕ) (out l r : List ℕ) → Says-readable (readable bs) (Refused-codes why p)
+refusal-right : (bs : List ℕ) (why : Reason) (p : ℕ) (out l r : List ℕ) → SaysSummary (readable bs) (Refused-codes why p)
     → out ≡ leftCodes (readable bs) → l ≡ zeros 4241 → r ≡ zeros 4241 → Right (read bs) (Refused why p) out l r
 unfolding tableAfter
 refusal-right bs why p out l r s w x y = go (readable bs) refl s w
   where
-    go : (z : Result Query) → readable bs ≡ z → Says-readable z (Refused-codes why p) → out ≡ leftCodes z → Right (read bs) (Refused why p) out l r
+    go : (z : Result Query) → readable bs ≡ z → SaysSummary z (Refused-codes why p) → out ≡ leftCodes z → Right (read bs) (Refused why p) out l r
     go (ok q) e s w = absurd s
     go (refused f) e s w =
         subst⁻¹ (λ v. Right v (Refused why p) out l r) (read-refused bs f e)
@@ -131,35 +131,35 @@ module _ (bs : List ℕ) (s : Summary) (out : List ℕ) (a : Accepts bs s out) (
       → Limited s out l r x out′ l′ r′ → Right (read bs) x out′ l′ r′
   limits-right l r y v x out′ l′ r′ j = go (inLimits s out) refl j
     where
-      go : (b : Bool) → inLimits s out ≡ b → Judged s out l r b x out′ l′ r′ → Right (read bs) x out′ l′ r′
+      go : (b : Bool) → inLimits s out ≡ b → LimitsSay s out l r b x out′ l′ r′ → Right (read bs) x out′ l′ r′
       go true t (e, k, f) = subst⁻¹ (λ o. Right (read bs) x o l′ r′) k (within-right x l′ r′ t e f)
       go false t (e, z, f, g) = over-right x out′ l′ r′ t e z (f ∙ y) (g ∙ v)
 
 -- what the contract of `read` says
-abbrev pub Outcome : Result Query → Answer → List ℕ → List ℕ → List ℕ → Type 0
-Outcome x a out l r = Says x a × (out ≡ leftCodes x) × (l ≡ leftAfter x) × (r ≡ rightAfter x)
+abbrev pub ReadOutcome : Result Query → Answer → List ℕ → List ℕ → List ℕ → Type 0
+ReadOutcome x a out l r = Says x a × (out ≡ leftCodes x) × (l ≡ leftAfter x) × (r ≡ rightAfter x)
 
-outcome : (x : Result Query) (a : Answer) (out l r : List ℕ) → Right x a out l r → Outcome x a out l r
+outcome : (x : Result Query) (a : Answer) (out l r : List ℕ) → Right x a out l r → ReadOutcome x a out l r
 outcome x a out l r y = (y .answer, y .codes-left, y .left-table, y .right-table)
 
-module _ (bs : List ℕ) (res : Reading) (out : List ℕ) (said : Says-readable (readable bs) res) (left-codes : out ≡ leftCodes (readable bs)) where
+module _ (bs : List ℕ) (res : Reading) (out : List ℕ) (said : SaysSummary (readable bs) res) (left-codes : out ≡ leftCodes (readable bs)) where
   -- the first way out
   pub refused-way : (why : Reason) (p : ℕ) → res ≡ Refused-codes why p → (j k : ℕ) (l r : List ℕ) → j ≡ 4241 → l ≡ zeros j → k ≡ 4241 → r ≡ zeros k
-      → Outcome (read bs) (Refused why p) out l r
+      → ReadOutcome (read bs) (Refused why p) out l r
   refused-way why p e j k l r f x g y =
       outcome (read bs) (Refused why p) out l r
-      (refusal-right bs why p out l r (subst (Says-readable (readable bs)) e said) left-codes (x ∙ ap zeros f) (y ∙ ap zeros g))
+      (refusal-right bs why p out l r (subst (SaysSummary (readable bs)) e said) left-codes (x ∙ ap zeros f) (y ∙ ap zeros g))
 
   module _ (s : Summary) (e : res ≡ Accepted-codes s) (size : length out ≡ 4096) where
     accepted : Accepts bs s out
-    accepted = accepts bs s out size (subst (Says-readable (readable bs)) e said) left-codes
+    accepted = accepts bs s out size (subst (SaysSummary (readable bs)) e said) left-codes
 
     pub accepted-room : (s .codes ≤ 4096) × (length out ≡ 4096)
     accepted-room = (accepted .room, size)
 
     -- and the others
     pub accepted-way : (j k : ℕ) (l r : List ℕ) → j ≡ 4241 → l ≡ zeros j → k ≡ 4241 → r ≡ zeros k
-        → (a : Answer) (out′ l′ r′ : List ℕ) → Limited s out l r a out′ l′ r′ → Outcome (read bs) a out′ l′ r′
+        → (a : Answer) (out′ l′ r′ : List ℕ) → Limited s out l r a out′ l′ r′ → ReadOutcome (read bs) a out′ l′ r′
     accepted-way j k l r f x g y a out′ l′ r′ z =
         outcome (read bs) a out′ l′ r′
         (limits-right bs s out accepted left-codes l r (x ∙ ap zeros f) (y ∙ ap zeros g) a out′ l′ r′ z)

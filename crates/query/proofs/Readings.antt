@@ -18,7 +18,7 @@ use Rattle.claims.specs.Counting.{withinLimits}
 use Rattle.claims.specs.Reading.{badLine, claimOf, readLines, limited, read}
 use Rattle.claims.specs.Refusals.{tooLong, badByte, noClaim, overLimit, Refusal, Result, ok, refused, refuse, onward}
 use Rattle.codes.specs.Codes.{queryCodes}
-use Rattle.read_text.specs.Reading.{claimed, inLines, readable, leftCodes, summaryOf, Says}
+use Rattle.read_text.specs.Reading.{claimed, inLines, readable, leftCodes, summaryOf, SaysSummary}
 use Rattle.words.specs.Memory.{zeros}
 use Rattle.read_text.specs.declared.Summary.{Summary}
 use Rattle.read_text.specs.declared.Reading.the-variants.{Accepted}
@@ -35,60 +35,60 @@ not-both : (r : Refusal) (q : Query) → _≡_ {A = Result Query} (refused r) (o
 not-both r q e = let z : _≡_ {A = ℕ} 0 1 = cc in omega arith
 
 -- a query that the reader takes
-pub record Taken (bs : List ℕ) (q : Query) : Type 0 where
+pub record ReadAs (bs : List ℕ) (q : Query) : Type 0 where
   pub lines : readLines [] 1 (rawLines bs) ≡ ok q
   pub claim : Claim
   pub found : claimOf q ≡ some claim
 
-claimed-taken : (bs : List ℕ) (p q : Query) → readLines [] 1 (rawLines bs) ≡ ok p → claimed p ≡ ok q → Taken bs q
+claimed-taken : (bs : List ℕ) (p q : Query) → readLines [] 1 (rawLines bs) ≡ ok p → claimed p ≡ ok q → ReadAs bs q
 unfolding claimed
 claimed-taken bs p q l e = go (claimOf p) refl e
   where
-    go : (o : Option Claim) → claimOf p ≡ o → _≡_ {A = Result Query} (elim o [ none ↦ refuse noClaim 0 | some c ↦ ok p ]) (ok q) → Taken bs q
+    go : (o : Option Claim) → claimOf p ≡ o → _≡_ {A = Result Query} (elim o [ none ↦ refuse noClaim 0 | some c ↦ ok p ]) (ok q) → ReadAs bs q
     go none f h = absurd (not-both _ q h)
     go (some c) f h =
         let z : p ≡ q = same-query p q h in
         record { lines = l ∙ ap ok z; claim = c; found = ap claimOf (sym z) ∙ f }
 
-lines-taken : (bs : List ℕ) (q : Query) → inLines bs ≡ ok q → Taken bs q
+lines-taken : (bs : List ℕ) (q : Query) → inLines bs ≡ ok q → ReadAs bs q
 unfolding inLines
 lines-taken bs q e = go (readLines [] 1 (rawLines bs)) refl e
   where
-    go : (r : Result Query) → readLines [] 1 (rawLines bs) ≡ r → onward r claimed ≡ ok q → Taken bs q
+    go : (r : Result Query) → readLines [] 1 (rawLines bs) ≡ r → onward r claimed ≡ ok q → ReadAs bs q
     go (ok p) f h = claimed-taken bs p q f h
     go (refused r) f h = absurd (not-both r q h)
 
-pub readable-taken : (bs : List ℕ) (q : Query) → readable bs ≡ ok q → Taken bs q
+pub readable-taken : (bs : List ℕ) (q : Query) → readable bs ≡ ok q → ReadAs bs q
 unfolding readable
 readable-taken bs q e = go (leb (length bs) 4096) (badLine 1 bs) e
   where
     go : (t : Bool) (o : Option ℕ)
         → _≡_ {A = Result Query} (elim t [ false ↦ refuse tooLong 0 | true ↦ elim o [ some n ↦ refuse badByte n | none ↦ inLines bs ] ]) (ok q)
-        → Taken bs q
+        → ReadAs bs q
     go false o h = absurd (not-both _ q h)
     go true (some n) h = absurd (not-both _ q h)
     go true none h = lines-taken bs q h
 
-pub taken-claimed : (bs : List ℕ) (q : Query) (t : Taken bs q) → Claimed q (t .claim)
+pub taken-claimed : (bs : List ℕ) (q : Query) (t : ReadAs bs q) → Claimed q (t .claim)
 taken-claimed bs q t = read-claimed (rawLines bs) q (t .claim) (t .lines) (t .found)
 
 -- an accepted reading is that of a query, of which s is the summary, and whose codes are the first of the array
 pub record Accepts (bs : List ℕ) (s : Summary) (out : List ℕ) : Type 0 where
   pub query : Query
   pub is-it : readable bs ≡ ok query
-  pub taken : Taken bs query
+  pub taken : ReadAs bs query
   pub codes : take (s .codes) out ≡ queryCodes query
   pub known : s ≡ summaryOf query
   pub room : s .codes ≤ 4096
 
-pub accepts : (bs : List ℕ) (s : Summary) (out : List ℕ) → length out ≡ 4096 → Says (readable bs) (Accepted s) → out ≡ leftCodes (readable bs) → Accepts bs s out
+pub accepts : (bs : List ℕ) (s : Summary) (out : List ℕ) → length out ≡ 4096 → SaysSummary (readable bs) (Accepted s) → out ≡ leftCodes (readable bs) → Accepts bs s out
 unfolding leftCodes summaryOf
 accepts bs s out l said w = go (readable bs) refl said w
   where
     count : (q : Query) → s ≡ summaryOf q → s .codes ≡ length (queryCodes q)
     count q e = ap (λ (x : Summary). x .codes) e
 
-    go : (r : Result Query) → readable bs ≡ r → Says r (Accepted s) → out ≡ leftCodes r → Accepts bs s out
+    go : (r : Result Query) → readable bs ≡ r → SaysSummary r (Accepted s) → out ≡ leftCodes r → Accepts bs s out
     go (ok q) e k w =
         record {
           query = q;

@@ -21,7 +21,7 @@ use Rattle.read_tokens.proofs.Tokens.{ScannedMark}
 use Rattle.read_tests.specs.declared.Place.{Place}
 use Rattle.read_tests.specs.declared.Parsed.{Parsed}
 use Rattle.read_tests.specs.declared.Parsed.the-variants.{Got, Wrong, Deep}
-use Rattle.read_tests.specs.Places.{Outcome, Is}
+use Rattle.read_tests.specs.Places.{ReaderOutcome, Is}
 use Rattle.read_names.specs.Keys.{Knows}
 use Rattle.read_names.specs.Slips.{firstOf, slipNumber}
 use Rattle.read_bodies.specs.Bodies.{Behind, Ends, Reads, ending, TestThen, BodyOutcome}
@@ -72,7 +72,7 @@ code-left Deep f code out = (refl, refl)
 -- a tree, and a tree with a code behind it
 module _ {A : Type 0} (D : List Token → Found A) (codes : Query → A → List ℕ) (uses : A → List Use) (s names : List ℕ) (n : ℕ) (p : Place)
     (before mid : List ℕ) where
-  pub tree-read : (r : Parsed) → Outcome (Is D) codes uses s names n p before mid r → Reads D codes uses 0 s names n p before mid r
+  pub tree-read : (r : Parsed) → ReaderOutcome (Is D) codes uses s names n p before mid r → Reads D codes uses 0 s names n p before mid r
   tree-read (Got g) o = (
     record { onward = o .moved .onward; within = o .moved .within; room = omega (arith, o .moved .room) },
     (λ q k. let c = o .told q k in record { tree = o .tree; read = o .read; written = c .written; used = c .used; slip = c .slip }),

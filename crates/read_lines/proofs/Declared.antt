@@ -18,7 +18,7 @@ use Rattle.claims.proofs.ClaimLast.{claims-none}
 use Rattle.codes.specs.Codes.{queryCodes, linesCodes, lineCodes}
 use Rattle.read_tokens.specs.Scan.{keyOf, Spelled}
 use Rattle.read_bodies.specs.Bodies.{Bare}
-use Rattle.read_lines.specs.State.{hasClaim, After, Knows}
+use Rattle.read_lines.specs.State.{hasClaim, After, Tabled}
 use Rattle.read_lines.specs.inner.Declaring.{numberOf, oneMore, DeclaresName}
 use Rattle.read_names.specs.Keys.{entered}
 use Rattle.read_lines.specs.declared.State.{State}
@@ -136,11 +136,11 @@ module _ (q : Query) (st : State) (before out : List ℕ) (a : After q st before
       (omega (arith, ap length (p .tests), ap length (p .relations), ap length (p .lets))) (ap (λ x. st .claimed || x) (sym (p .claim)))
 
 -- the table of names after a line more
-module _ (names : List ℕ) (n : ℕ) (q : Query) (k : Knows names n q) where
+module _ (names : List ℕ) (n : ℕ) (q : Query) (k : Tabled names n q) where
   pub knows-declared : (of : ℕ) (w : Name) (l : Line) → DeclaresName of w l → (c : ℕ) → Spelled w → n < 64 → firstSlip q (uses l) ≡ none
-      → c ≡ of + numberOf of q → Knows (entered names n (keyOf w) c) (n + 1) (q ++ (l ∷ []))
+      → c ≡ of + numberOf of q → Tabled (entered names n (keyOf w) c) (n + 1) (q ++ (l ∷ []))
   knows-declared of w l d c s h e f =
       knows-entered names n q l w c k s h (d .fresh q e) (d .others) (d .coded q (d .fresh q e) ∙ sym f) (omega (arith, d .code))
 
-  pub knows-plain : (c : Bool) (l : Line) → Plain c l → Knows names n (q ++ (l ∷ []))
+  pub knows-plain : (c : Bool) (l : Line) → Plain c l → Tabled names n (q ++ (l ∷ []))
   knows-plain c l p = knows-kept names n q l k (p .none)

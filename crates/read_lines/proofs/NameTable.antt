@@ -21,7 +21,7 @@ use Rattle.read_tokens.specs.Scan.{wordByte, keyOf, Spelled}
 use Rattle.read_names.specs.Keys.{sameKey, findIn, entered}
 use Rattle.read_tokens.specs.declared.Key.{Key}
 use Rattle.read_names.proofs.Names.{same-key}
-use Rattle.read_lines.specs.State.{Entries, Knows}
+use Rattle.read_lines.specs.State.{Entries, Tabled}
 use Rattle.codes.proofs.NameKinds.{code-none, code-other}
 
 -- an entry behind others, and behind none
@@ -97,9 +97,9 @@ find-new (suc n) (a ∷ b ∷ d ∷ names) k c x (u, w) h e z =
     go false f g = g f
 
 -- a line that declares the new name w and no other, with the code c
-pub knows-entered : (names : List ℕ) (n : ℕ) (q : Query) (l : Line) (w : Name) (c : ℕ) → Knows names n q → Spelled w → n < 64
+pub knows-entered : (names : List ℕ) (n : ℕ) (q : Query) (l : Line) (w : Name) (c : ℕ) → Tabled names n q → Spelled w → n < 64
     → kindOf q w ≡ none → ((v : Name) → same w v ≡ false → declares? l v ≡ none) → codeOf (q ++ (l ∷ [])) w ≡ c → 0 < c
-    → Knows (entered names n (keyOf w) c) (n + 1) (q ++ (l ∷ []))
+    → Tabled (entered names n (keyOf w) c) (n + 1) (q ++ (l ∷ []))
 knows-entered names n q l w c k s room fresh others new p =
     rw (add-one n)
     (record {
@@ -123,7 +123,7 @@ knows-entered names n q l w c k s room fresh others new p =
         ∙ k .found v like bytes ∙ sym (code-other q l v (others v e))
 
 -- a line that declares no name
-pub knows-kept : (names : List ℕ) (n : ℕ) (q : Query) (l : Line) → Knows names n q → ((v : Name) → declares? l v ≡ none)
-    → Knows names n (q ++ (l ∷ []))
+pub knows-kept : (names : List ℕ) (n : ℕ) (q : Query) (l : Line) → Tabled names n q → ((v : Name) → declares? l v ≡ none)
+    → Tabled names n (q ++ (l ∷ []))
 knows-kept names n q l k others =
     record { size = k .size; entries = k .entries; found = λ v like bytes. k .found v like bytes ∙ sym (code-other q l v (others v)) }

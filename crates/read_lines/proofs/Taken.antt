@@ -30,7 +30,7 @@ use Rattle.read_lines.specs.declared.State.{State}
 use Rattle.read_lines.specs.declared.LineRead.{LineRead}
 use Rattle.read_lines.specs.declared.LineRead.the-variants.{Taken, Refused}
 use Rattle.read_names.specs.Keys as Keys
-use Rattle.read_lines.specs.State.{After, Small, Knows}
+use Rattle.read_lines.specs.State.{After, Small, Tabled}
 use Rattle.refusals.specs.Causes.{causeOf}
 use Rattle.read_names.specs.Keys.{entered}
 use Rattle.read_lines.specs.inner.Declaring.{countOf, numberOf, mostOf, oneIf, oneMore, declaredRead, declaredNames, DeclaresNext}
@@ -41,7 +41,7 @@ use Rattle.read_lines.proofs.Declared.{bare-plain, after-declared, afte
 use Rattle.read_lines.proofs.Fates.{Whole, fine-whole, faulty-fate, fate-crowded, fate-taken, clean-slips}
 
 -- the table of names, as the readers of T and E want it
-known : (q : Query) (st : State) (before out names : List ℕ) → After q st before out → Small st → Knows names (st .names) q
+known : (q : Query) (st : State) (before out names : List ℕ) → After q st before out → Small st → Tabled names (st .names) q
     → Keys.Knows names (st .names) q
 unfolding letNames
 known q st before out names a m k =
@@ -92,7 +92,7 @@ module _ (D : List Notation.Token → Found Line) (K : Line → Type 0) (s : Lis
   abbrev most : ℕ
   most = st .used + (length s - at) + 1
 
-  module _ (q : Query) (before : List ℕ) (a : After q st before out) (k : Knows names (st .names) q) where
+  module _ (q : Query) (before : List ℕ) (a : After q st before out) (k : Tabled names (st .names) q) where
     says : BodySays D K q s at (st .used) out out′ r
     says = body .1 q (known q st before out names a small k)
 
@@ -165,7 +165,7 @@ module _ (D : List Notation.Token → Found Line) (K : Line → Type 0) (s : Lis
             fated = taken u e (d .crowds q ∙ ap (leb (mostOf of)) (sym (counted of q st before out a)) ∙ h);
             after = after-declared q st before out a of w l d u out′ (stored u e) (grown u e);
             knows =
-                subst⁻¹ (λ x. Knows (entered names (st .names) x (of + countOf of st)) (st .names + 1) (q ++ (l ∷ []))) (i .key)
+                subst⁻¹ (λ x. Tabled (entered names (st .names) x (of + countOf of st)) (st .names + 1) (q ++ (l ∷ []))) (i .key)
                 (knows-declared names (st .names) q k of w l d (of + countOf of st) (i .spelled) (omega (arith, small .names)) (clean u e)
                 (ap (λ x. of + x) (counted of q st before out a)));
             small = small-more of u st small (a .names) (d .one) (omega (arith, m));

@@ -58,7 +58,7 @@ Entries (suc n) (h ∷ l ∷ []) = ⊥
 Entries (suc n) (h ∷ l ∷ c ∷ names) = (0 < c) × Entries n names
 
 -- the table of names: a name is found in its n entries with the code that the lines of q give it, and with 0 where they declare it not
-pub record Knows (names : List ℕ) (n : ℕ) (q : Query) : Type 0 where
+pub record Tabled (names : List ℕ) (n : ℕ) (q : Query) : Type 0 where
   pub size : length names ≡ 192
   pub entries : Entries n names
   pub found : (w : Name) → wordLike w ≡ true → every wordByte w ≡ true → findIn n names (keyOf w) ≡ codeOf q w
@@ -68,7 +68,7 @@ pub record Took (q : Query) (raw : RawLine) (st next : State) (before names out 
   pub line : Line
   pub fate : (n : ℕ) → lineFate q n raw ≡ ok line
   pub after : After (q ++ (line ∷ [])) next before out
-  pub knows : Knows names (next .names) (q ++ (line ∷ []))
+  pub knows : Tabled names (next .names) (q ++ (line ∷ []))
   pub small : Small next
   pub short : next .used ≤ st .used + length (raw .bytes)
 
@@ -80,5 +80,5 @@ LineSays q raw st before names out (Refused c) = (n : ℕ) → lineFate q n raw 
 -- so it is after the lines of every query, where the state, the table and the array are those after them
 abbrev pub ReadsLine : RawLine → State → List ℕ → List ℕ → LineRead → List ℕ → List ℕ → Type 0
 ReadsLine raw st names out r namesAfter outAfter =
-    (q : Query) (before : List ℕ) → After q st before out → Knows names (st .names) q
+    (q : Query) (before : List ℕ) → After q st before out → Tabled names (st .names) q
     → LineSays q raw st before namesAfter outAfter r

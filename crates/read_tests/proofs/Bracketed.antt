@@ -17,7 +17,7 @@ use Rattle.read_tests.specs.declared.Place.{Place}
 use Rattle.read_tests.specs.declared.Parsed.{Parsed}
 use Rattle.read_tests.specs.declared.Parsed.the-variants.{Got, Wrong}
 use Rattle.read_tests.specs.Next.{markNext}
-use Rattle.read_tests.specs.Places.{Room, Read, Outcome, Finds}
+use Rattle.read_tests.specs.Places.{Room, Read, ReaderOutcome, Finds}
 use Rattle.read_tests.proofs.Told.{told-store, told-as, told-from}
 use Rattle.read_tests.proofs.Next.{mark-stands, mark-missing, goes-on, passed, one-fewer}
 use Rattle.read_tests.proofs.Outcomes.{NoTree, handed-on}
@@ -66,12 +66,12 @@ through K s at next m x y e h (suc f) l =
 -- the ways out, over the answers of the functions that are called
 module _ {A B : Type 0} (K : Bracket A B) (s names : List ℕ) (n : ℕ) (p : Place) (before : List ℕ) (next : ℕ)
     (asked : next ≡ markNext s (p .at) (K .opening)) (stands : next ≡ 0 → ⊥) (x : Parsed) (mid : List ℕ)
-    (o : Outcome (Finds (K .inner) (K .within) 4) (K .innerCodes) (K .innerUses) s names n (behind p next) before mid x) where
+    (o : ReaderOutcome (Finds (K .inner) (K .within) 4) (K .innerCodes) (K .innerUses) s names n (behind p next) before mid x) where
   abbrev Inner : Parsed → Type 0
-  Inner = Outcome (Finds (K .inner) (K .within) 4) (K .innerCodes) (K .innerUses) s names n (behind p next) before mid
+  Inner = ReaderOutcome (Finds (K .inner) (K .within) 4) (K .innerCodes) (K .innerUses) s names n (behind p next) before mid
 
   abbrev Outer : List ℕ → Parsed → Type 0
-  Outer = Outcome (Finds (K .outer) (K .depth) 1) (K .outerCodes) (K .outerUses) s names n p before
+  Outer = ReaderOutcome (Finds (K .outer) (K .depth) 1) (K .outerCodes) (K .outerUses) s names n p before
 
   opened : ScannedMark s (p .at) (K .opening) next
   opened = mark-stands s (p .at) (K .opening) next asked stands

@@ -15,7 +15,7 @@ use Rattle.read_tests.specs.declared.Place.{Place}
 use Rattle.read_tests.specs.declared.Parsed.{Parsed}
 use Rattle.read_tests.specs.declared.Parsed.the-variants.{Got}
 use Rattle.read_tests.specs.Next.{markNext}
-use Rattle.read_tests.specs.Places.{Room, Told, Read, Outcome, Finds}
+use Rattle.read_tests.specs.Places.{Room, Told, Read, ReaderOutcome, Finds}
 use Rattle.read_tests.proofs.Told.{told-then, told-store, told-as}
 use Rattle.read_tests.proofs.Next.{mark-stands, mark-missing, goes-on, passed, one-fewer}
 use Rattle.read_tests.proofs.Outcomes.{NoTree, handed-on}
@@ -23,13 +23,13 @@ use Rattle.read_tests.proofs.Chains.{Chain, Waiting, joined, leftCodes,
 
 module _ {A : Type 0} {C : Chain A} {d k : ℕ} {s names : List ℕ} {n : ℕ} {p : Place} {before : List ℕ} {place : Place} {more : ℕ} {now : List ℕ}
     (w : Waiting C d k s names n p before place more now) (x : Parsed) (mid : List ℕ)
-    (o : Outcome (Finds (C .operand) d k) (C .codes) (C .uses) s names n place now mid x) where
+    (o : ReaderOutcome (Finds (C .operand) d k) (C .codes) (C .uses) s names n place now mid x) where
   -- the operand's answer, and the chain's
   abbrev Operand : Parsed → Type 0
-  Operand = Outcome (Finds (C .operand) d k) (C .codes) (C .uses) s names n place now mid
+  Operand = ReaderOutcome (Finds (C .operand) d k) (C .codes) (C .uses) s names n place now mid
 
   abbrev Whole : List ℕ → Parsed → Type 0
-  Whole = Outcome (Finds (C .whole) d (suc k)) (C .codes) (C .uses) s names n p before
+  Whole = ReaderOutcome (Finds (C .whole) d (suc k)) (C .codes) (C .uses) s names n p before
 
   -- what the operand's reader finds makes what the chain's finds
   through : (y z : Found A) → ((f : ℕ) → andThen y (λ u us. C .more f d (joined C (w .left) u) us) ≡ z)

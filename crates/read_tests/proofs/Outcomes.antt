@@ -14,13 +14,13 @@ use Rattle.claims.specs.Query.{Query}
 use Rattle.read_tests.specs.declared.Place.{Place}
 use Rattle.read_tests.specs.declared.Parsed.{Parsed}
 use Rattle.read_tests.specs.declared.Parsed.the-variants.{Got, Wrong, Deep}
-use Rattle.read_tests.specs.Places.{Outcome, Finds, Is}
+use Rattle.read_tests.specs.Places.{ReaderOutcome, Finds, Is}
 use Rattle.read_tests.proofs.Parsed.{the-type}
 
 pub outcome-by : {A : Type 0} (Reads Also : List Token → Found A → Type 0) (codes : Query → A → List ℕ) (uses : A → List Use) (s names : List ℕ)
     (n : ℕ) (p : Place) (before after : List ℕ)
     → ((x : Found A) → Reads (tokens (drop (p .at) s)) x → Also (tokens (drop (p .at) s)) x)
-    → (y : Parsed) → Outcome Reads codes uses s names n p before after y → Outcome Also codes uses s names n p before after y
+    → (y : Parsed) → ReaderOutcome Reads codes uses s names n p before after y → ReaderOutcome Also codes uses s names n p before after y
 outcome-by Reads Also codes uses s names n p before after h (Got r) o =
     record { tree = o .tree; read = h (got (o .tree) (tokens (drop (r .at) s))) (o .read); moved = o .moved; told = o .told }
 outcome-by Reads Also codes uses s names n p before after h Wrong o = h wrong o
@@ -28,8 +28,8 @@ outcome-by Reads Also codes uses s names n p before after h Deep o = h deep o
 
 -- with no open bracket: the depth of calls that a line gives is enough
 pub outcome-of-all : {A : Type 0} (D : ℕ → ℕ → List Token → Found A) (codes : Query → A → List ℕ) (uses : A → List Use) (s names : List ℕ) (n : ℕ)
-    (p : Place) (before after : List ℕ) (y : Parsed) → Outcome (Finds D 0 4) codes uses s names n p before after y
-    → Outcome (Is (λ ts. D (enough ts) 0 ts)) codes uses s names n p before after y
+    (p : Place) (before after : List ℕ) (y : Parsed) → ReaderOutcome (Finds D 0 4) codes uses s names n p before after y
+    → ReaderOutcome (Is (λ ts. D (enough ts) 0 ts)) codes uses s names n p before after y
 unfolding enough
 outcome-of-all D codes uses s names n p before after y o =
     outcome-by (Finds D 0 4) (Is (λ ts. D (enough ts) 0 ts)) codes uses s names n p before after

@@ -17,7 +17,7 @@ use Rattle.claims.specs.Query.{Query}
 use Rattle.read_tests.specs.declared.Place.{Place}
 use Rattle.read_tests.specs.declared.Parsed.{Parsed}
 use Rattle.read_tests.specs.Next.{markNext}
-use Rattle.read_tests.specs.Places.{Outcome, Finds}
+use Rattle.read_tests.specs.Places.{ReaderOutcome, Finds}
 use Rattle.read_tests.proofs.Next.{mark-stands, mark-missing, goes-on}
 use Rattle.read_tests.proofs.Outcomes.{outcome-by}
 use Rattle.read_tests.proofs.Bracketed.{Bracket}
@@ -83,8 +83,8 @@ module _ {A : Type 0} {R : Rounds A} (L : Rounded R) (d : ℕ) where
 
     pub round-none : next ≡ 0 → (Reads : List Token → Found A → Type 0)
         → ((y : Found A) → Reads (tokens (drop (p .at) s)) y → (f : ℕ) → R .plain f d (tokens (drop (p .at) s)) ≡ y)
-        → (names : List ℕ) (n : ℕ) (before after : List ℕ) (x : Parsed) → Outcome Reads (R .codes) (R .uses) s names n p before after x
-        → Outcome (Finds (R .outer) d 1) (R .codes) (R .uses) s names n p before after x
+        → (names : List ℕ) (n : ℕ) (before after : List ℕ) (x : Parsed) → ReaderOutcome Reads (R .codes) (R .uses) s names n p before after x
+        → ReaderOutcome (Finds (R .outer) d 1) (R .codes) (R .uses) s names n p before after x
     round-none z Reads h names n before after =
         outcome-by Reads (Finds (R .outer) d 1) (R .codes) (R .uses) s names n p before after
         (λ y r. no-bracket (tokens (drop (p .at) s)) y (mark-missing s (p .at) (byte "(") next asked z) (h y r))

@@ -48,18 +48,18 @@ module _ {A : Type 0} (Reads : List Token → Found A → Type 0) (codes : Query
     pub moved : Moved s p r
     pub told : (q : Query) → Knows names n q → Told q p before after r (codes q tree) (uses tree)
 
-  abbrev pub Outcome : Parsed → Type 0
-  Outcome (Got r) = Read r
-  Outcome Wrong = Reads (tokens (drop (p .at) s)) wrong
-  Outcome Deep = Reads (tokens (drop (p .at) s)) deep
+  abbrev pub ReaderOutcome : Parsed → Type 0
+  ReaderOutcome (Got r) = Read r
+  ReaderOutcome Wrong = Reads (tokens (drop (p .at) s)) wrong
+  ReaderOutcome Deep = Reads (tokens (drop (p .at) s)) deep
 
 -- a reader of T
 abbrev pub TestOutcome : (List Token → Found TestTree → Type 0) → List ℕ → List ℕ → ℕ → Place → List ℕ → List ℕ → Parsed → Type 0
-TestOutcome Reads s names n p before after r = Outcome Reads testCodes testUses s names n p before after r
+TestOutcome Reads s names n p before after r = ReaderOutcome Reads testCodes testUses s names n p before after r
 
 -- a reader of E
 abbrev pub TreeOutcome : (List Token → Found Tree → Type 0) → List ℕ → List ℕ → ℕ → Place → List ℕ → List ℕ → Parsed → Type 0
-TreeOutcome Reads s names n p before after r = Outcome Reads treeCodes treeUses s names n p before after r
+TreeOutcome Reads s names n p before after r = ReaderOutcome Reads treeCodes treeUses s names n p before after r
 
 -- The reader D of the grammar, at d open brackets, finds x in the tokens ts with any depth of calls that is enough for them: 8 for each
 -- token, and k more.

@@ -15,7 +15,7 @@ use Rattle.claims.specs.Query.{Query}
 use Rattle.claims.specs.Reading.{badLine, claimOf, readLines, limited, read}
 use Rattle.claims.specs.Refusals.{tooLong, badByte, noClaim, Result, ok, refused, refuse, onward}
 use Rattle.codes.specs.Codes.{queryCodes}
-use Rattle.read_text.specs.Reading.{claimed, inLines, readable, Says, leftCodes}
+use Rattle.read_text.specs.Reading.{claimed, inLines, readable, SaysSummary, leftCodes}
 use Rattle.read_text.specs.inner.Steps.{orZero, Written}
 use Rattle.words.specs.Memory.{zeros}
 use Rattle.refusals.specs.Causes.{causeOf}
@@ -29,7 +29,7 @@ use Rattle.refusals.proofs.Causes.{one-reason}
 use Rattle.words.proofs.Zeros.{drop-zeros}
 
 -- what was read has one answer
-pub one-answer : (r : Result Query) (x y : Reading) → Says r x → Says r y → x ≡ y
+pub one-answer : (r : Result Query) (x y : Reading) → SaysSummary r x → SaysSummary r y → x ≡ y
 one-answer (ok q) (Accepted m) (Accepted n) a b = ap Accepted (a ∙ sym b)
 one-answer (ok q) (Accepted m) (Refused c p) a b = absurd b
 one-answer (ok q) (Refused c p) y a b = absurd a
@@ -51,25 +51,25 @@ unfolding readable
 readable-lines bs h e = rw (le-leb (length bs) 4096 h, readable, e)
 
 -- the array as the answer leaves it
-left-accepted : (r : Result Query) (n : Summary) (before out : List ℕ) → before ≡ zeros 4096 → Says r (Accepted n) → Written r before out → out ≡ leftCodes r
+left-accepted : (r : Result Query) (n : Summary) (before out : List ℕ) → before ≡ zeros 4096 → SaysSummary r (Accepted n) → Written r before out → out ≡ leftCodes r
 unfolding leftCodes
 left-accepted (ok q) n before out e s w =
     w ∙ ap (λ l. queryCodes q ++ l) (ap (drop (length (queryCodes q))) e ∙ drop-zeros (length (queryCodes q)) 4096)
 left-accepted (refused r) n before out e s w = absurd s
 
-left-refused : (r : Result Query) (c : Reason) (p : ℕ) → Says r (Refused c p) → zeros 4096 ≡ leftCodes r
+left-refused : (r : Result Query) (c : Reason) (p : ℕ) → SaysSummary r (Refused c p) → zeros 4096 ≡ leftCodes r
 unfolding leftCodes
 left-refused (ok q) c p s = absurd s
 left-refused (refused r) c p s = refl
 
 -- the answer to a text with what is left in the array, by what the text is
 abbrev Answered : List ℕ → Reading → List ℕ → Type 0
-Answered bs r out = Says (readable bs) r × (out ≡ leftCodes (readable bs))
+Answered bs r out = SaysSummary (readable bs) r × (out ≡ leftCodes (readable bs))
 
 module _ (bs out : List ℕ) where
   refused-as : (c : Reason) (p n : ℕ) → readable bs ≡ refuse (causeOf c) p → n ≡ 4096 → out ≡ zeros n → Answered bs (Refused c p) out
   refused-as c p n e m z =
-      let s : Says (readable bs) (Refused c p) = subst⁻¹ (λ x. Says x (Refused c p)) e (refl, refl) in
+      let s : SaysSummary (readable bs) (Refused c p) = subst⁻¹ (λ x. SaysSummary x (Refused c p)) e (refl, refl) in
       (s, z ∙ ap zeros m ∙ left-refused (readable bs) c p s)
 
   pub answer-long : (n : ℕ) → 4096 < length bs → n ≡ 4096 → out ≡ zeros n → Answered bs (Refused TooLong 0) out
@@ -86,17 +86,17 @@ module _ (bs out : List ℕ) where
     read-by-lines : readable bs ≡ inLines bs
     read-by-lines = readable-lines bs h (bad-line-none bs b e none-bad)
 
-    pub answer-refused : (r : Reading) (c : Reason) (p n : ℕ) → Says (inLines bs) r → r ≡ Refused c p → n ≡ 4096 → out ≡ zeros n
+    pub answer-refused : (r : Reading) (c : Reason) (p n : ℕ) → SaysSummary (inLines bs) r → r ≡ Refused c p → n ≡ 4096 → out ≡ zeros n
         → Answered bs (Refused c p) out
     answer-refused r c p n s f m z =
-        let t : Says (readable bs) (Refused c p) = subst⁻¹ (λ x. Says x (Refused c p)) read-by-lines (subst (Says (inLines bs)) f s) in
+        let t : SaysSummary (readable bs) (Refused c p) = subst⁻¹ (λ x. SaysSummary x (Refused c p)) read-by-lines (subst (SaysSummary (inLines bs)) f s) in
         (t, z ∙ ap zeros m ∙ left-refused (readable bs) c p t)
 
-    pub answer-accepted : (r : Reading) (k : Summary) (n : ℕ) (before : List ℕ) → Says (inLines bs) r → Written (inLines bs) before out → r ≡ Accepted k
+    pub answer-accepted : (r : Reading) (k : Summary) (n : ℕ) (before : List ℕ) → SaysSummary (inLines bs) r → Written (inLines bs) before out → r ≡ Accepted k
         → n ≡ 4096 → before ≡ zeros n → Answered bs (Accepted k) out
     answer-accepted r k n before s w f m z =
-        let t : Says (inLines bs) (Accepted k) = subst (Says (inLines bs)) f s in (
-          subst⁻¹ (λ x. Says x (Accepted k)) read-by-lines t,
+        let t : SaysSummary (inLines bs) (Accepted k) = subst (SaysSummary (inLines bs)) f s in (
+          subst⁻¹ (λ x. SaysSummary x (Accepted k)) read-by-lines t,
           left-accepted (inLines bs) k before out (z ∙ ap zeros m) t w ∙ ap leftCodes (sym read-by-lines),
         )
 

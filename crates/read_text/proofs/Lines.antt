@@ -22,9 +22,9 @@ use Rattle.claims.specs.Names.{kindOf}
 use Rattle.codes.specs.Codes.{codeOf, kindCode, queryCodes, linesCodes}
 use Rattle.read_tokens.specs.Scan.{front}
 use Rattle.read_names.specs.Keys.{findIn}
-use Rattle.read_text.specs.Reading.{claimed, inLines, summaryOf, Says}
+use Rattle.read_text.specs.Reading.{claimed, inLines, summaryOf, SaysSummary}
 use Rattle.read_text.specs.inner.Steps.{inLine, known, Written}
-use Rattle.read_lines.specs.State.{After, Small, Knows, Took, LineSays, ReadsLine, lineFate}
+use Rattle.read_lines.specs.State.{After, Small, Tabled, Took, LineSays, ReadsLine, lineFate}
 use Rattle.refusals.specs.Causes.{causeOf}
 use Rattle.refusals.specs.declared.Reason.{Reason}
 use Rattle.refusals.specs.declared.Reason.the-variants.{NoClaim}
@@ -53,7 +53,7 @@ pub record Going (text before : List ℕ) (st : State) (names out : List ℕ) (n
   pub query : Query
   pub left : readLines query n (rawLines (drop at text)) ≡ readLines [] 1 (rawLines text)
   pub after : After query st before out
-  pub knows : Knows names (st .names) query
+  pub knows : Tabled names (st .names) query
   pub small : Small st
   pub used : st .used ≤ at
   pub short : st .used ≤ length text
@@ -127,8 +127,8 @@ module _ (text before : List ℕ) (st : State) (names out : List ℕ) (n at e : 
 
 -- a refusal's answer, with nothing said of the array
 pub refused-answer : (r : Result Query) (c : Reason) (p : ℕ) (before out : List ℕ) → r ≡ refuse (causeOf c) p
-    → Says r (Refused c p) × Written r before out
-refused-answer r c p before out e = subst⁻¹ (λ x. Says x (Refused c p) × Written x before out) e ((refl, refl), tt)
+    → SaysSummary r (Refused c p) × Written r before out
+refused-answer r c p before out e = subst⁻¹ (λ x. SaysSummary x (Refused c p) × Written x before out) e ((refl, refl), tt)
 
 sets-from-start : (before codes : List ℕ) → length codes ≤ length before → sets before 0 codes ≡ codes ++ drop (length codes) before
 sets-from-start before codes h =
@@ -142,7 +142,7 @@ module _ (text before : List ℕ) (st : State) (names out : List ℕ) (n at : �
       let e : readLines (g .query) n (rawLines (drop at text)) ≡ ok (g .query) = rw (drop-of-length-le text h) in
       ap (λ x. onward x claimed) (sym (g .left) ∙ e)
 
-  pub over-unclaimed : st .claimed ≡ false → Says (inLines text) (Refused NoClaim 0) × Written (inLines text) before out
+  pub over-unclaimed : st .claimed ≡ false → SaysSummary (inLines text) (Refused NoClaim 0) × Written (inLines text) before out
   unfolding causeOf
   over-unclaimed e = refused-answer (inLines text) NoClaim 0 before out (all-read ∙ go (claimOf (g .query)) refl (sym (g .after .claimed) ∙ e))
     where
@@ -167,9 +167,9 @@ module _ (text before : List ℕ) (st : State) (names out : List ℕ) (n at : �
       rw (known, summaryOf, front, lines, g .after .used, g .after .tests, g .after .relations) refl
 
   pub over-claimed : length text ≤ length before → st .claimed ≡ true → (s : Summary) → s ≡ known st (n - 1) (take (st .used) out)
-      → Says (inLines text) (Accepted s) × Written (inLines text) before out
+      → SaysSummary (inLines text) (Accepted s) × Written (inLines text) before out
   over-claimed m e s i =
-      subst⁻¹ (λ x. Says x (Accepted s) × Written x before out) (all-read ∙ go (claimOf (g .query)) refl (sym (g .after .claimed) ∙ e))
+      subst⁻¹ (λ x. SaysSummary x (Accepted s) × Written x before out) (all-read ∙ go (claimOf (g .query)) refl (sym (g .after .claimed) ∙ e))
       (i ∙ known-summary m, read-so-far m)
     where
       go : (o : Option Claim) → claimOf (g .query) ≡ o → elim o [ some c ↦ true | none ↦ false ] ≡ true → claimed (g .query) ≡ ok (g .query)

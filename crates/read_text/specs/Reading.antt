@@ -47,11 +47,11 @@ summaryOf q =
     }
 
 -- the answer says what was read: the summary of the query, or the cause and the place
-abbrev pub Says : Result Query → Reading → Type 0
-Says (ok q) (Accepted s) = s ≡ summaryOf q
-Says (ok q) (Refused c p) = ⊥
-Says (refused r) (Accepted s) = ⊥
-Says (refused r) (Refused c p) = (causeOf c ≡ r .cause) × (p ≡ r .place)
+abbrev pub SaysSummary : Result Query → Reading → Type 0
+SaysSummary (ok q) (Accepted s) = s ≡ summaryOf q
+SaysSummary (ok q) (Refused c p) = ⊥
+SaysSummary (refused r) (Accepted s) = ⊥
+SaysSummary (refused r) (Refused c p) = (causeOf c ≡ r .cause) × (p ≡ r .place)
 
 -- the lent array: the codes of the query, and zeros behind; all zeros after a refusal
 unfoldable pub leftCodes : Result Query → List ℕ

@@ -9,7 +9,7 @@ ghost use Prim.Native.Nat.{_+_, _≤_};
 ghost use lib.ListN.{length, take, drop};
 ghost use Rattle.claims.specs.Reading.{badLine};
 ghost use Rattle.read_tokens.specs.Scan.{front};
-ghost use Rattle.read_text.specs.Reading.{inLines, readable, Says, leftCodes};
+ghost use Rattle.read_text.specs.Reading.{inLines, readable, SaysSummary, leftCodes};
 ghost use Rattle.read_text.specs.inner.Steps.{inLine, orZero, known, Written};
 
 // What the reader knows of a query that it has read: how many codes, lines, tests and relations it has, and the last code, which tells the
@@ -85,7 +85,7 @@ fn known_of(out: &[u64], st: State, lines: usize) -> Summary
 // The lines from the top.
 fn every_line(text: &[u8], names: &mut [u64; 192], out: &mut [u64; 4096]) -> Reading
     requires { ⌜ (length (now text) ≤ 4096) × (length (now names) ≡ 192) × (length (now out) ≡ 4096) ⌝ }
-    ensures { λ r. ⌜ Says (inLines (now (text .entry))) r × Written (inLines (now (text .entry))) (now (out .entry)) (now (out .exit)) ⌝ }
+    ensures { λ r. ⌜ SaysSummary (inLines (now (text .entry))) r × Written (inLines (now (text .entry))) (now (out .entry)) (now (out .exit)) ⌝ }
 {
     let mut st = State {
         used: 0,
@@ -120,7 +120,7 @@ fn every_line(text: &[u8], names: &mut [u64; 192], out: &mut [u64; 4096]) -> Rea
 // Refusals 1 and 2, and then the lines. `names` is lent for the table of names.
 fn read_text(text: &[u8], names: &mut [u64; 192], out: &mut [u64; 4096]) -> Reading
     requires { ⌜ length (now names) ≡ 192 ⌝ }
-    ensures { λ r. ⌜ Says (readable (now (text .entry))) r × (now (out .exit) ≡ leftCodes (readable (now (text .entry)))) ⌝ }
+    ensures { λ r. ⌜ SaysSummary (readable (now (text .entry))) r × (now (out .exit) ≡ leftCodes (readable (now (text .entry)))) ⌝ }
 {
     clear(out);
     if 4096 < text.len() {
@@ -142,7 +142,7 @@ fn read_text(text: &[u8], names: &mut [u64; 192], out: &mut [u64; 4096]) -> Read
 
 // The query that the text is, as codes in `out`, or the first refusal of 1 to 7.
 pub fn read(text: &[u8], out: &mut [u64; 4096]) -> Reading
-    ensures { λ r. ⌜ Says (readable (now (text .entry))) r × (now (out .exit) ≡ leftCodes (readable (now (text .entry)))) ⌝ }
+    ensures { λ r. ⌜ SaysSummary (readable (now (text .entry))) r × (now (out .exit) ≡ leftCodes (readable (now (text .entry)))) ⌝ }
 {
     let mut names = [0u64; 192];
     read_text(text, &mut names, out)

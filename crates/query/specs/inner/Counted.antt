@@ -39,10 +39,10 @@ abbrev pub LeavesTables : List ℕ → List ℕ → List ℕ → Type 0
 LeavesTables ks l r = (l ≡ leftTable (take 4096 ks)) × (r ≡ rightTable (take 4096 ks))
 
 -- the codes of the query, the first of the array, are within the limits, or not
-abbrev pub Judged : Summary → List ℕ → List ℕ → List ℕ → Bool → Answer → List ℕ → List ℕ → List ℕ → Type 0
-Judged s out l r true a out′ l′ r′ =
+abbrev pub LimitsSay : Summary → List ℕ → List ℕ → List ℕ → Bool → Answer → List ℕ → List ℕ → List ℕ → Type 0
+LimitsSay s out l r true a out′ l′ r′ =
     (a ≡ Accepted (factsFrom s (isRing s) (take (s .codes) out))) × (out′ ≡ out) × LeavesTables (take (s .codes) out) l′ r′
-Judged s out l r false a out′ l′ r′ =
+LimitsSay s out l r false a out′ l′ r′ =
     (a ≡ Refused OverLimit (s .lines)) × (out′ ≡ zeros 4096) × (l′ ≡ l) × (r′ ≡ r)
 
 -- what the test of the limits says of them
@@ -50,4 +50,4 @@ abbrev pub inLimits : Summary → List ℕ → Bool
 inLimits s out = withinTest (sizesOf (isRing s) (take (s .codes) out))
 
 abbrev pub Limited : Summary → List ℕ → List ℕ → List ℕ → Answer → List ℕ → List ℕ → List ℕ → Type 0
-Limited s out l r a out′ l′ r′ = Judged s out l r (inLimits s out) a out′ l′ r′
+Limited s out l r a out′ l′ r′ = LimitsSay s out l r (inLimits s out) a out′ l′ r′

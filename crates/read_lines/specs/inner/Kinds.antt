@@ -29,7 +29,7 @@ use Rattle.read_lines.specs.declared.LineRead.the-variants.{Taken, Refus
 use Rattle.read_bodies.specs.Bodies.{Bare}
 use Rattle.codes.specs.Codes.{A-TEST, A-RELATION, A-LET}
 use Rattle.read_lines.specs.inner.Declaring.{DeclaresNext}
-use Rattle.read_lines.specs.State.{After, Small, Knows}
+use Rattle.read_lines.specs.State.{After, Small, Tabled}
 use Rattle.refusals.specs.Causes.{causeOf}
 
 -- the reason that a slip is
@@ -58,7 +58,7 @@ pub record Takes (fate : ℕ → Result Line) (q : Query) (next : State) (most :
   pub line : Line
   pub fated : (n : ℕ) → fate n ≡ ok line
   pub after : After (q ++ (line ∷ [])) next before out
-  pub knows : Knows names (next .names) (q ++ (line ∷ []))
+  pub knows : Tabled names (next .names) (q ++ (line ∷ []))
   pub small : Small next
   pub short : next .used ≤ most
 
@@ -69,7 +69,7 @@ KindSays fate q most before names out (Refused c) = (n : ℕ) → fate n ≡ ref
 -- what stands from `at` on is a line as D reads it, after the lines of every query whose state, table and codes these are
 abbrev pub KindOutcome : (List Piece → Found Line) → List ℕ → ℕ → Bool → State → List ℕ → List ℕ → LineRead → List ℕ → List ℕ → Type 0
 KindOutcome D s at ended st names out r namesAfter outAfter =
-    (q : Query) (before : List ℕ) → After q st before out → Knows names (st .names) q
+    (q : Query) (before : List ℕ) → After q st before out → Tabled names (st .names) q
     → KindSays (λ n. readLine q n (wholeLine ended (D (tokens (drop at s))))) q (st .used + (length s - at) + 1) before namesAfter outAfter r
 
 -- the place of the first word with the key k among those that the choices name; their number, if there is none

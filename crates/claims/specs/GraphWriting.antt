@@ -1,0 +1,56 @@
+-- The bytes of a graph, and what holds of a graph that is read. (Document 01, "Sheet and graph bytes".)
+-- Assumes nothing.
+use Prim.Native.Nat.{ℕ, _≤_, _<_}
+use mathlib.Core.Bool.{Bool}
+use mathlib.Core.List.{List, [], _∷_, _++_, map, flatMap}
+use lib.ListN.{length}
+use Rattle.kat.specs.Lists.{In, upto, filter}
+use Rattle.kat.specs.Graph.{Finite}
+use Rattle.claims.specs.Fields.{field}
+use Rattle.claims.specs.Verdicts.{Distinct}
+use Rattle.claims.specs.GraphBytes.{Edge, Listed, Ranges}
+use Rattle.claims.specs.Query.{atoms, relations}
+
+-- one after the other, what f makes of each
+abbrev pub joined : {A : Type 0} → (A → List ℕ) → List A → List ℕ
+joined f [] = []
+joined f (x ∷ xs) = f x ++ joined f xs
+
+-- the bytes of an event, of an edge, and of a graph
+abbrev pub eventField : ℕ → List ℕ
+eventField a = field 1 (a ∷ [])
+
+abbrev pub edgeField : Edge → List ℕ
+edgeField e = field 2 (e .relation ∷ e .from ∷ e .to ∷ [])
+
+abbrev pub graphBytes : Listed → List ℕ
+graphBytes L = joined eventField (L .atoms) ++ joined edgeField (L .edges)
+
+-- what holds of the events and edges that were read
+pub record WellListed (R : Ranges) (L : Listed) : Type 0 where
+  pub atoms-known : (a : ℕ) → In a (L .atoms) → a < R .atoms
+  pub edges-known : (e : Edge) → In e (L .edges) → e .relation < R .relations
+  pub from-event : (e : Edge) → In e (L .edges) → e .from < length (L .atoms)
+  pub to-event : (e : Edge) → In e (L .edges) → e .to < length (L .atoms)
+  pub at-most-64 : length (L .atoms) ≤ 64
+  pub once-each : Distinct (L .edges)
+
+-- the edge of relation r from x to y
+abbrev pub edgeOf : ℕ → ℕ → ℕ → Edge
+edgeOf r x y = record { relation = r; from = x; to = y }
+
+-- all edges that there may be of the relations rs between the events xs, by relation, from and to
+unfoldable pub edgesOver : List ℕ → List ℕ → List Edge
+edgesOver rs xs = flatMap (λ r. flatMap (λ x. map (edgeOf r x) xs) xs) rs
+
+-- the edge is one of the graph's
+abbrev pub isEdge : Finite → Edge → Bool
+isEdge G e = G .edges (e .relation) (e .from) (e .to)
+
+-- the listed form of a graph with n relations: its events, and its edges by relation, from and to
+unfoldable pub listedOf : Finite → ℕ → Listed
+listedOf G n =
+    record {
+      atoms = G .atoms;
+      edges = filter (isEdge G) (edgesOver (upto 0 n) (upto 0 (length (G .atoms))));
+    }
