@@ -1,51 +1,51 @@
--- The desk's cases C1 to C12 as one table and one statement, from the bytes of the queries to the printed line, with the 61 bytes of
--- C1's sheet. (Document 01, "The desk's cases".) All of it holds by computation over the definitions. Behind the table stand further
+-- The desk's cases C1 to C12 as one table and one statement, from the bytes of the queries through the search call to the printed line
+-- with its last byte, and the 61 bytes of C1's sheet in the buffer. (Document 01, "The desk's cases".) All of it holds by computation over the definitions. Behind the table stand further
 -- rows, each of which tells apart a way to go wrong that C1 to C12 leave open.
 -- Assumes nothing.
 use Prim.Native.Nat.{ℕ}
 use Prim.Native.String.{String}
 use mathlib.Core.Path.{_≡_, refl}
+use mathlib.Core.Bool.{Bool}
 use mathlib.Core.List.{List, [], _∷_, map}
-use lib.ListN.{length}
+use lib.ListN.{length, take}
 use Rattle.claims.specs.Bytes.{text}
-use Rattle.claims.specs.Refusals.{Result, ok, refused}
-use Rattle.claims.specs.Calls.{Given}
-use Rattle.claims.specs.Printed.{answered, printed}
+use Rattle.claims.specs.Calls.{search-call}
+use Rattle.claims.specs.Printed.{programAllowance, memoryFor, printed}
 use Rattle.claims.proofs.Evaluate.{everything}
 
 pub record Case : Type 0 where
-  pub allowance : ℕ
+  pub allowance : Bool → ℕ
   pub query : String
   pub line : String
 
--- the table: allowance, query, line
+-- the table: the allowance by the kind of the claim, the query, the line
 abbrev pub desk : List Case
 desk =
     -- C1
-    record { allowance = 200; query = "test R\ntest W\nrel rf\nrel co\nnever R & W\nwithin rf [W] [R]\nwithin co [W] [W]\nclosed co\nlet eco = (rf | co)+\nclaim include eco in rf | co;rf?\n"; line = "proved 3" }
+    record { allowance = programAllowance; query = "test R\ntest W\nrel rf\nrel co\nnever R & W\nwithin rf [W] [R]\nwithin co [W] [W]\nclosed co\nlet eco = (rf | co)+\nclaim include eco in rf | co;rf?\n"; line = "proved 3\n" }
     -- C2: no `never`
-    ∷ record { allowance = 200; query = "test R\ntest W\nrel rf\nrel co\nwithin rf [W] [R]\nwithin co [W] [W]\nclosed co\nlet eco = (rf | co)+\nclaim include eco in rf | co;rf?\n"; line = "refuted 2 0 3 0 1" }
+    ∷ record { allowance = programAllowance; query = "test R\ntest W\nrel rf\nrel co\nwithin rf [W] [R]\nwithin co [W] [W]\nclosed co\nlet eco = (rf | co)+\nclaim include eco in rf | co;rf?\n"; line = "refuted 2 0 3 0 1\n" }
     -- C3: no `closed`
-    ∷ record { allowance = 200; query = "test R\ntest W\nrel rf\nrel co\nnever R & W\nwithin rf [W] [R]\nwithin co [W] [W]\nlet eco = (rf | co)+\nclaim include eco in rf | co;rf?\n"; line = "refuted 2 1 2 1 2" }
+    ∷ record { allowance = programAllowance; query = "test R\ntest W\nrel rf\nrel co\nnever R & W\nwithin rf [W] [R]\nwithin co [W] [W]\nlet eco = (rf | co)+\nclaim include eco in rf | co;rf?\n"; line = "refuted 2 1 2 1 2\n" }
     -- C4: C1 with allowance 2, and with 3
-    ∷ record { allowance = 2; query = "test R\ntest W\nrel rf\nrel co\nnever R & W\nwithin rf [W] [R]\nwithin co [W] [W]\nclosed co\nlet eco = (rf | co)+\nclaim include eco in rf | co;rf?\n"; line = "refusal 10 line 0" }
-    ∷ record { allowance = 3; query = "test R\ntest W\nrel rf\nrel co\nnever R & W\nwithin rf [W] [R]\nwithin co [W] [W]\nclosed co\nlet eco = (rf | co)+\nclaim include eco in rf | co;rf?\n"; line = "proved 3" }
+    ∷ record { allowance = λ k. 2; query = "test R\ntest W\nrel rf\nrel co\nnever R & W\nwithin rf [W] [R]\nwithin co [W] [W]\nclosed co\nlet eco = (rf | co)+\nclaim include eco in rf | co;rf?\n"; line = "refusal 10 line 0\n" }
+    ∷ record { allowance = λ k. 3; query = "test R\ntest W\nrel rf\nrel co\nnever R & W\nwithin rf [W] [R]\nwithin co [W] [W]\nclosed co\nlet eco = (rf | co)+\nclaim include eco in rf | co;rf?\n"; line = "proved 3\n" }
     -- C5
-    ∷ record { allowance = 200; query = "rel r\nassume irreflexive r;r\nclaim irreflexive r\n"; line = "proved 1" }
+    ∷ record { allowance = programAllowance; query = "rel r\nassume irreflexive r;r\nclaim irreflexive r\n"; line = "proved 1\n" }
     -- C6: the reverse
-    ∷ record { allowance = 200; query = "rel r\nassume irreflexive r\nclaim irreflexive r;r\n"; line = "refuted 0 0 0 0 0" }
+    ∷ record { allowance = programAllowance; query = "rel r\nassume irreflexive r\nclaim irreflexive r;r\n"; line = "refuted 0 0 0 0 0\n" }
     -- C7
-    ∷ record { allowance = 200; query = "rel a\nrel b\nassume irreflexive a;b\nclaim irreflexive b;a\n"; line = "proved 2" }
+    ∷ record { allowance = programAllowance; query = "rel a\nrel b\nassume irreflexive a;b\nclaim irreflexive b;a\n"; line = "proved 2\n" }
     -- C8
-    ∷ record { allowance = 200; query = "test T\nrel r\nassume irreflexive [T]\nclaim irreflexive r;[T];r\n"; line = "proved 4" }
+    ∷ record { allowance = programAllowance; query = "test T\nrel r\nassume irreflexive [T]\nclaim irreflexive r;[T];r\n"; line = "proved 4\n" }
     -- C9
-    ∷ record { allowance = 200; query = "rel r\nassume irreflexive r\nclaim empty r\n"; line = "refuted 0 0 0" }
+    ∷ record { allowance = programAllowance; query = "rel r\nassume irreflexive r\nclaim empty r\n"; line = "refuted 0 0 0\n" }
     -- C10
-    ∷ record { allowance = 200; query = "claim irreflexive [true]\n"; line = "refuted 0" }
+    ∷ record { allowance = programAllowance; query = "claim irreflexive [true]\n"; line = "refuted 0\n" }
     -- C11: C10 after `never true`
-    ∷ record { allowance = 200; query = "never true\nclaim irreflexive [true]\n"; line = "proved 0" }
+    ∷ record { allowance = programAllowance; query = "never true\nclaim irreflexive [true]\n"; line = "proved 0\n" }
     -- C12: no bytes
-    ∷ record { allowance = 200; query = ""; line = "refusal 7 line 0" }
+    ∷ record { allowance = programAllowance; query = ""; line = "refusal 7 line 0\n" }
     ∷ []
 
 -- the sheet of C1: proved, and the standings P = {1}, S = {1, 4}; {2}, {2, 4}; {1}, {3, 4}
@@ -63,25 +63,24 @@ prints c = printed (c .allowance) (text (c .query))
 abbrev pub says : Case → List ℕ
 says c = text (c .line)
 
--- the sheet of a query at an allowance; none where it is refused
-abbrev pub sheetOf : Result Given → List ℕ
-sheetOf (ok g) = g .sheet
-sheetOf (refused r) = []
+-- what the call of the query program leaves at the start of its buffer, n bytes
+unfoldable pub leaves : ℕ → String → List ℕ
+leaves n q = take n (search-call (text q) 200 (memoryFor 200) .lent .buffer)
 
 abbrev pub C1 : String
 C1 = "test R\ntest W\nrel rf\nrel co\nnever R & W\nwithin rf [W] [R]\nwithin co [W] [W]\nclosed co\nlet eco = (rf | co)+\nclaim include eco in rf | co;rf?\n"
 
-pub desk-cases : (map prints desk ≡ map says desk) × (sheetOf (answered 200 (text C1)) ≡ sheetOfC1) × (length sheetOfC1 ≡ 61)
-unfolding prints everything
+pub desk-cases : (map prints desk ≡ map says desk) × (leaves 61 C1 ≡ sheetOfC1) × (length sheetOfC1 ≡ 61)
+unfolding prints leaves everything
 desk-cases = (refl, refl, refl)
 
 -- rows that tell apart what the table does not
 abbrev pub beside : List Case
 beside =
     -- assumed emptiness over more than one turn of a ring: r;r lies in the ring of one r, twice round
-    record { allowance = 200; query = "rel r\nassume empty r;r\nclaim irreflexive r\n"; line = "proved 1" }
+    record { allowance = programAllowance; query = "rel r\nassume empty r;r\nclaim irreflexive r\n"; line = "proved 1\n" }
     -- the allowance is tested before the refuting word of the same length
-    ∷ record { allowance = 1; query = "rel a\nrel b\nclaim empty a|b\n"; line = "refusal 10 line 0" }
+    ∷ record { allowance = λ k. 1; query = "rel a\nrel b\nclaim empty a|b\n"; line = "refusal 10 line 0\n" }
     ∷ []
 
 pub cases-beside : map prints beside ≡ map says beside

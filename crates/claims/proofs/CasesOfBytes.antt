@@ -17,9 +17,9 @@ use Rattle.claims.specs.Judgement.{Judgement, Outcome, holdsIn, breaksAt
 use Rattle.claims.specs.GraphWriting.{joined}
 use Rattle.claims.specs.Drawn.{drawn}
 use Rattle.claims.specs.Calls.{Asked, asked, provedWith, refutedBy, Lent, search-call, Passed, passedProved, passedRefuted, check-call, judge-call}
-use Rattle.claims.specs.Printed.{spaced, refusalLine, answered}
+use Rattle.claims.specs.Printed.{spaced, refusalLine}
 use Rattle.claims.proofs.Evaluate.{everything}
-use Rattle.claims.proofs.Cases.{sheetOf}
+use Rattle.claims.proofs.Cases.{leaves}
 
 -- a sheet or a graph with its query, and the line that is printed
 pub record Sent : Type 0 where
@@ -63,9 +63,8 @@ sheetOfC7 =
 abbrev pub sheetOfWord : List ℕ
 sheetOfWord = 1 ∷ 0 ∷ 1 ∷ 2 ∷ 2 ∷ 0 ∷ 3 ∷ 0 ∷ 0 ∷ 0 ∷ []
 
-pub sheets-written : (sheetOf (answered 200 (text C7)) ≡ sheetOfC7) × (length sheetOfC7 ≡ 542)
-    × (sheetOf (answered 200 (text "rel r\nclaim empty r\n")) ≡ sheetOfWord)
-unfolding everything
+pub sheets-written : (leaves 542 C7 ≡ sheetOfC7) × (length sheetOfC7 ≡ 542) × (leaves 10 "rel r\nclaim empty r\n" ≡ sheetOfWord)
+unfolding leaves everything
 sheets-written = (refl, refl, refl)
 
 -- the check of a sheet

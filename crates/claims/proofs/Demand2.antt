@@ -185,9 +185,14 @@ module _ (bs : List ℕ) (a : Asked) (accepted : asked bs ≡ ok a) where
       (sym (call-is-searched allowance m ready room)) (searched-exactly-by-words allowance)
 
   -- a buffer for a proof that uses the whole allowance is enough: 4 and 19 bytes, or 269 for a ring claim, for each standing of it
+  pub fits-full : (allowance : ℕ) (m : Lent) → Ready (a .decided) allowance m
+      → sheetLength (provedWith allowance) (a .decided .ring) ≤ length (m .buffer)
+      → (g : Given) → searched (a .decided) allowance ≡ ok g → length (g .sheet) ≤ length (m .buffer)
+  fits-full allowance m ready full g e =
+      let h = searched-sheet-fits (a .decided) allowance g e live-rises (ready .some-allowance) in omega arith
+
   pub call-with-full-buffer-exactly-by-words : (allowance : ℕ) (m : Lent) → Ready (a .decided) allowance m
       → sheetLength (provedWith allowance) (a .decided .ring) ≤ length (m .buffer)
       → FixedByWords (a .decided) (systemOf (a .decided .ring) (a .decided)) allowance (search-call bs allowance m .result)
   call-with-full-buffer-exactly-by-words allowance m ready full =
-      call-exactly-by-words allowance m ready
-      (λ g e. let h = searched-sheet-fits (a .decided) allowance g e live-rises (ready .some-allowance) in omega arith)
+      call-exactly-by-words allowance m ready (fits-full allowance m ready full)

@@ -78,7 +78,7 @@ unfolding Standings.lettersAt Standings.lettersOf Standings.letters Standings.al
 open-Standings = tt
 
 unfoldable pub open-Search : Unit {0}
-unfolding Search.firstLevel Search.grown Search.nextLevel Search.seenIn Search.fresh Search.completed Search.levels Search.verdict
+unfolding Search.firstLevel Search.grown Search.nextLevel Search.seenIn Search.fresh Search.completed Search.levels Search.verdictWithin Search.verdict
 open-Search = tt
 
 unfoldable pub open-Fields : Unit {0}
@@ -114,7 +114,7 @@ unfolding Calls.answerOf Calls.searched Calls.asked Calls.neededRecords Calls.ne
 open-Calls = tt
 
 unfoldable pub open-Printed : Unit {0}
-unfolding Printed.digitsBefore Printed.decimal Printed.spaced Printed.answerLine Printed.refusalLine Printed.lineOf Printed.answered Printed.printed
+unfolding Printed.digitsBefore Printed.decimal Printed.spaced Printed.answerLine Printed.refusalLine Printed.lineOf Printed.answered Printed.programAllowance Printed.memoryFor Printed.asksRing Printed.programResult Printed.printed
 open-Printed = tt
 
 unfoldable pub everything : Unit {0}

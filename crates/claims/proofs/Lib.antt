@@ -35,6 +35,7 @@ pub mod Levels
 pub mod Ordered
 pub mod Answers
 pub mod Walk
+pub mod MoreLevels
 pub mod Plain
 pub mod Verdict
 pub mod VerdictsByWords
@@ -80,5 +81,6 @@ pub mod SheetLength
 pub mod RefutedExactly
 -- The second and the third demand, each end to end.
 pub mod Demand2
+pub mod Program
 pub mod Demand3
 pub mod DrawnBytes

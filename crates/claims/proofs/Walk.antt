@@ -18,7 +18,7 @@ use Rattle.kat.specs.Word.{Word, end, at, size, numbers}
 use Rattle.kat.proofs.Sets.{member-in, in-member}
 use Rattle.claims.specs.Standings.{System, letters}
 use Rattle.claims.specs.Passing.{refuting}
-use Rattle.claims.specs.Search.{Entry, Verdict, proved, refuted, spent, firstLevel, nextLevel, fresh, completed, levels, verdict}
+use Rattle.claims.specs.Search.{Entry, Verdict, proved, refuted, spent, firstLevel, nextLevel, fresh, completed, levels, verdictWithin, verdict}
 use Rattle.claims.specs.Verdicts.{NotAfter, GuardedWord, Within, ProvedBy, RefutedBy, SpentAt}
 use Rattle.claims.specs.Lawful.{Lawful}
 use Rattle.claims.specs.Orders.{Rising, InOrder}
@@ -36,20 +36,20 @@ Means S c spent = (n : ℕ) × SpentAt S c n
 
 -- the cases of the search
 module _ (S : System) (f c : ℕ) (seen : List (Entry S)) where
-  levels-spent : (new : List (Entry S)) → ltb c (length seen) ≡ true → levels S (suc f) c seen new ≡ spent
+  pub levels-spent : (new : List (Entry S)) → ltb c (length seen) ≡ true → levels S (suc f) c seen new ≡ spent
   unfolding levels
   levels-spent new h = rw (h, levels) refl
 
-  levels-refuted : (new : List (Entry S)) (w : Word) → ltb c (length seen) ≡ false → completed S new ≡ some w
+  pub levels-refuted : (new : List (Entry S)) (w : Word) → ltb c (length seen) ≡ false → completed S new ≡ some w
       → levels S (suc f) c seen new ≡ refuted w
   unfolding levels
   levels-refuted new w h e = rw (h, e, levels) refl
 
-  levels-proved : ltb c (length seen) ≡ false → levels S (suc f) c seen [] ≡ proved (standings S seen)
+  pub levels-proved : ltb c (length seen) ≡ false → levels S (suc f) c seen [] ≡ proved (standings S seen)
   unfolding levels completed
   levels-proved h = rw (h, levels) refl
 
-  levels-next : (e : Entry S) (es : List (Entry S)) → ltb c (length seen) ≡ false → completed S (e ∷ es) ≡ none
+  pub levels-next : (e : Entry S) (es : List (Entry S)) → ltb c (length seen) ≡ false → completed S (e ∷ es) ≡ none
       → levels S (suc f) c seen (e ∷ es)
       ≡ levels S f c (seen ++ fresh S seen (nextLevel S (e ∷ es))) (fresh S seen (nextLevel S (e ∷ es)))
   unfolding levels
@@ -142,23 +142,30 @@ module _ (S : System) (laws : Lawful S) (c : ℕ) where
       alone-first (at b r v) g n h = absurd (omega arith)
 
   -- the search by the refuting atoms
-  abbrev opening : List ℕ → Verdict S
-  opening as′ =
+  abbrev pub opening : ℕ → List ℕ → Verdict S
+  opening f as′ =
       elim as′ [
         | a ∷ bs ↦ refuted (end a)
-        | [] ↦ levels S (suc (suc c)) c (fresh S [] (firstLevel S (letters S))) (fresh S [] (firstLevel S (letters S)))
+        | [] ↦ levels S f c (fresh S [] (firstLevel S (letters S))) (fresh S [] (firstLevel S (letters S)))
       ]
 
-  verdict-opens : (as′ : List ℕ) → S .alone ≡ as′ → verdict S c ≡ opening as′
-  unfolding verdict
-  verdict-opens as′ e = ap opening e
+  pub verdict-opens : (f : ℕ) (as′ : List ℕ) → S .alone ≡ as′ → verdictWithin S f c ≡ opening f as′
+  unfolding verdictWithin
+  verdict-opens f as′ e = ap (opening f) e
+
+  -- the first level, where no atom refutes by itself
+  pub first-reached : S .alone ≡ [] → Reached S laws 0 [] (fresh S [] (firstLevel S (letters S)))
+  first-reached e = fresh-reached S laws 0 [] (firstLevel S (letters S)) (start-behind S laws e) (first-offered S laws)
+
+  within-means : (f : ℕ) → c + 2 ≤ f → Means S c (verdictWithin S f c)
+  within-means f h = go (S .alone) refl
+    where
+      go : (as′ : List ℕ) → S .alone ≡ as′ → Means S c (verdictWithin S f c)
+      go [] e =
+          rw (verdict-opens f [] e)
+          (levels-mean f 0 (omega arith) [] (fresh S [] (firstLevel S (letters S))) (first-reached e) (start-ordered S))
+      go (a ∷ as′) e = rw (verdict-opens f (a ∷ as′) e) (alone-means a as′ e, zero-le)
 
   pub verdict-means : Means S c (verdict S c)
-  verdict-means = go (S .alone) refl
-    where
-      go : (as′ : List ℕ) → S .alone ≡ as′ → Means S c (verdict S c)
-      go [] e =
-          rw (verdict-opens [] e)
-          (levels-mean (suc (suc c)) 0 (omega arith) [] (fresh S [] (firstLevel S (letters S)))
-          (fresh-reached S laws 0 [] (firstLevel S (letters S)) (start-behind S laws e) (first-offered S laws)) (start-ordered S))
-      go (a ∷ as′) e = rw (verdict-opens (a ∷ as′) e) (alone-means a as′ e, zero-le)
+  unfolding verdict
+  verdict-means = within-means (suc (suc c)) (omega arith)

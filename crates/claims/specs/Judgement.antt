@@ -66,7 +66,6 @@ module _ (G : Finite) where
     unfoldable pub firstBroken : ℕ → List Line → ℕ
     firstBroken n [] = 0
     firstBroken n (l ∷ ls) = elim (breaks l) [ true ↦ n | false ↦ firstBroken (suc n) ls ]
-    -- whether the claim holds, or what breaks it
 
 -- whether the claim holds, or the event or pair that breaks it ("Sheet and graph bytes")
 pub data Outcome : Type 0 where
@@ -109,6 +108,12 @@ pub record Judgement : Type 0 where
   pub line : ℕ
   pub outcome : Outcome
 
+-- the graph that is judged: here relations mean the listed edges, and nothing is closed ("Sheet and graph bytes")
+abbrev pub judgedGraph : Query → Finite → Finite
+judgedGraph q G = G
+
 -- the judgement of a graph ("Sheet and graph bytes")
 unfoldable pub judgement : Finite → Query → Claim → Judgement
-judgement G q c = record { line = firstBroken G q 1 q; outcome = claimed G q c }
+judgement G q c =
+    let H : Finite = judgedGraph q G in
+    record { line = firstBroken H q 1 q; outcome = claimed H q c }

@@ -75,11 +75,15 @@ module _ (S : System) where
         ]
       ]
 
-  -- level 0 has no standing; then level by level. Each level but the last adds a standing, so there are at most as many as the
-  -- allowance, and two more. ("Standings")
-  unfoldable pub verdict : ℕ → Verdict S
-  verdict allowance =
+  -- level 0 has no standing; then level by level, at most so many levels ("Standings")
+  unfoldable pub verdictWithin : ℕ → ℕ → Verdict S
+  verdictWithin most allowance =
       elim (S .alone) [
         | a ∷ as′ ↦ refuted (end a)
-        | [] ↦ let new : List (Entry S) = fresh [] (firstLevel (letters S)) in levels (suc (suc allowance)) allowance new new
+        | [] ↦ let new : List (Entry S) = fresh [] (firstLevel (letters S)) in levels most allowance new new
       ]
+
+  -- each level but the last adds a standing, so that two levels more than the allowance are enough: `more-levels` of `proofs/` shows that
+  -- any greater number gives the same ("Standings")
+  unfoldable pub verdict : ℕ → Verdict S
+  verdict allowance = verdictWithin (suc (suc allowance)) allowance
