@@ -1,10 +1,9 @@
--- Tests over lists: what is picked and what is found go by the test's values on the list alone; picking twice is picking by both
--- tests; some member passes exactly where something is picked.
+-- Tests over lists: picking twice is picking by both tests; some member passes exactly where something is picked.
 -- Assumes nothing.
 use mathlib.Core.Path.{_≡_, refl, _∙_, ap}
 use mathlib.Core.Bool.{Bool, true, false, cond, not, _&&_, _||_}
 use mathlib.Core.List.{List, [], _∷_, map}
-use Rattle.kat.specs.Lists.{In, here, there, isEmpty, filter, some}
+use Rattle.kat.specs.Lists.{isEmpty, filter, some}
 
 four : (a b c d : Bool) → ((a || b) || (c || d)) ≡ ((a || c) || (b || d))
 four true b c d = refl
@@ -13,15 +12,6 @@ four false true false d = refl
 four false false c d = refl
 
 module _ {A : Type 0} where
-  -- tests that agree on the list
-  pub filter-same : (p q : A → Bool) (l : List A) → ((x : A) → In x l → p x ≡ q x) → filter p l ≡ filter q l
-  filter-same p q [] h = refl
-  filter-same p q (x ∷ xs) h = rw (h x (here refl), filter-same p q xs (λ y i. h y (there i)))
-
-  pub some-same : (p q : A → Bool) (l : List A) → ((x : A) → In x l → p x ≡ q x) → some p l ≡ some q l
-  some-same p q [] h = refl
-  some-same p q (x ∷ xs) h = rw (h x (here refl), some-same p q xs (λ y i. h y (there i)))
-
   -- picked twice
   pub filter-filter : (p q : A → Bool) (l : List A) → filter q (filter p l) ≡ filter (λ x. p x && q x) l
   filter-filter p q [] = refl

@@ -18,12 +18,12 @@ use lib.Pow.{pow-pos}
 use borrow.Author.Tests.{eq-eqb, eqb-true}
 use Rattle.kat.specs.Lists.{In, counted, upto, member, isEmpty, filter, some}
 use Rattle.kat.proofs.Bools.{bool-ext, le-or-lt, false-of-not}
-use Rattle.kat.proofs.Sets.{member-in, in-member, filter-in, in-filter, in-upto, upto-in}
+use Rattle.kat.proofs.Sets.{member-in, in-member, filter-in, in-filter, filter-same, some-same, in-upto, upto-in}
 use Rattle.claims.specs.Query.{bit}
 use Rattle.claims.specs.Fields.{setNumber, numberSet}
 use Rattle.claims.proofs.SetBytes.{RisingWithin, filter-rising, setNumber-small, set-read-back, picked, picked-even, picked-odd}
 use Rattle.bits.proofs.Bit.{digit, bit-above, bit-or, bit-and, bit-ext}
-use Rattle.bits.proofs.Lists.{filter-same, filter-filter, some-filter, some-same, some-either, some-map}
+use Rattle.bits.proofs.Lists.{filter-filter, some-filter, some-either, some-map}
 
 module _ (lo hi m k : ℕ) where
   -- a member, by its bit

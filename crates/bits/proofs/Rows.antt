@@ -14,11 +14,12 @@ use lib.Pow.{pow-pos, pow-lt, ones-lt, shl-exact}
 use borrow.Author.Tests.{lt-ltb, le-ltb, eqb-true, eqb-false, ne-eqb}
 use Rattle.kat.specs.Lists.{In, here, there, isEmpty, some}
 use Rattle.kat.proofs.Bools.{le-or-lt}
+use Rattle.kat.proofs.Sets.{some-same}
 use Rattle.claims.specs.Query.{bit}
 use Rattle.claims.specs.Fields.{numberSet}
 use Rattle.bits.specs.Sets.{including, allBelow, row, unionOver, unionRows, meets, meetsRows, anyMember}
 use Rattle.bits.proofs.Bit.{bit-or, bit-none, bit-pow, bit-ones, bits-equal, and-or}
-use Rattle.bits.proofs.Lists.{some-same, some-filled}
+use Rattle.bits.proofs.Lists.{some-filled}
 use Rattle.bits.proofs.Members.{number-and, some-or, empty-test}
 
 -- the code's 1 << k

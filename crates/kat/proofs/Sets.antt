@@ -65,6 +65,15 @@ module _ {A : Type 0} where
       go true j = there j
       go false j = j
 
+  -- tests that agree on the list
+  pub filter-same : (p q : A → Bool) (l : List A) → ((x : A) → In x l → p x ≡ q x) → filter p l ≡ filter q l
+  filter-same p q [] h = refl
+  filter-same p q (x ∷ xs) h = rw (h x (here refl), filter-same p q xs (λ y i. h y (there i)))
+
+  pub some-same : (p q : A → Bool) (l : List A) → ((x : A) → In x l → p x ≡ q x) → some p l ≡ some q l
+  some-same p q [] h = refl
+  some-same p q (x ∷ xs) h = rw (h x (here refl), some-same p q xs (λ y i. h y (there i)))
+
   -- a test that nothing passes
   pub some-none : (p : A → Bool) (l : List A) → ((x : A) → p x ≡ false) → some p l ≡ false
   some-none p [] h = refl
@@ -96,6 +105,11 @@ module _ {A B : Type 0} where
   map-in f [] i = elim i [ ]
   map-in f (x ∷ xs) (here e) = (x, here refl, e)
   map-in f (x ∷ xs) (there i) = let (z, j, e) = map-in f xs i in (z, there j, e)
+
+  -- functions that agree on the list
+  pub map-same : (f g : A → B) (l : List A) → ((x : A) → In x l → f x ≡ g x) → map f l ≡ map g l
+  map-same f g [] h = refl
+  map-same f g (x ∷ xs) h = rw (h x (here refl), map-same f g xs (λ y i. h y (there i)))
 
 -- ranges
 pub in-counted : (a i n : ℕ) → i ≤ a → a < i + n → In a (counted i n)
