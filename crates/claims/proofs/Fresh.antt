@@ -33,20 +33,20 @@ module _ (S : System) where
   entryAfter e l = record { standing = S .onward (e .standing) l; prefix = then (e .prefix) (l .atom) (l .relation) }
 
 module _ (S : System) (laws : Lawful S) where
-  seen-in : (seen : List (Entry S)) (s : S .Standing) → seenIn S seen s ≡ true → In s (standings S seen)
+  pub seen-in : (seen : List (Entry S)) (s : S .Standing) → seenIn S seen s ≡ true → In s (standings S seen)
   unfolding seenIn
   seen-in seen s h =
       let (e, i, q) = some-in (λ f. S .equal s (f .standing)) seen h in
       subst (λ t. In t (standings S seen)) (sym (laws .equal-sound s (e .standing) q)) (in-map (λ f. f .standing) i)
 
-  in-seen : (seen : List (Entry S)) (s : S .Standing) → In s (standings S seen) → seenIn S seen s ≡ true
+  pub in-seen : (seen : List (Entry S)) (s : S .Standing) → In s (standings S seen) → seenIn S seen s ≡ true
   unfolding seenIn
   in-seen seen s i =
       let (e, j, q) = map-in (λ f. f .standing) seen i in
       in-some (λ f. S .equal s (f .standing)) j (subst (λ t. S .equal s t ≡ true) q (laws .equal-self s))
 
   -- the test by which an entry is kept
-  abbrev keeps : List (Entry S) → Entry S → Bool
+  abbrev pub keeps : List (Entry S) → Entry S → Bool
   keeps seen e = S .possible (e .standing) && not (seenIn S seen (e .standing))
 
   keeps-possible : (seen : List (Entry S)) (e : Entry S) → keeps seen e ≡ true → S .possible (e .standing) ≡ true
@@ -57,12 +57,12 @@ module _ (S : System) (laws : Lawful S) where
       true-not-false (in-seen seen (e .standing) i)
       (not-true-false (seenIn S seen (e .standing)) (and-right (S .possible (e .standing)) (not (seenIn S seen (e .standing))) h))
 
-  kept : (seen : List (Entry S)) (e : Entry S) (es : List (Entry S)) → keeps seen e ≡ true
+  pub kept : (seen : List (Entry S)) (e : Entry S) (es : List (Entry S)) → keeps seen e ≡ true
       → fresh S seen (e ∷ es) ≡ e ∷ fresh S (e ∷ seen) es
   unfolding fresh
   kept seen e es h = rw (h, fresh) refl
 
-  dropped : (seen : List (Entry S)) (e : Entry S) (es : List (Entry S)) → keeps seen e ≡ false
+  pub dropped : (seen : List (Entry S)) (e : Entry S) (es : List (Entry S)) → keeps seen e ≡ false
       → fresh S seen (e ∷ es) ≡ fresh S seen es
   unfolding fresh
   dropped seen e es h = rw (h, fresh) refl

@@ -39,6 +39,8 @@ pub mod MoreLevels
 pub mod Plain
 pub mod Verdict
 pub mod VerdictsByWords
+-- Letters that the search and the check of a sheet may leave out.
+pub mod Thinned
 -- Sheets as bytes.
 pub mod Bytes
 pub mod SetBytes
