@@ -20,12 +20,12 @@ use Rattle.claims.proofs.Letters.{Fits, in-letters, letters-in, letters
 use Rattle.claims.proofs.Fresh.{Ahead, entryOf, entryAfter}
 
 module _ (S : System) where
-  first-map : (ls : List Letter) → firstLevel S ls ≡ map (entryOf S) ls
+  pub first-map : (ls : List Letter) → firstLevel S ls ≡ map (entryOf S) ls
   unfolding firstLevel
   first-map [] = refl
   first-map (l ∷ ls) = ap (λ es. entryOf S l ∷ es) (first-map ls)
 
-  grown-map : (e : Entry S) (ls : List Letter) → grown S e ls ≡ map (entryAfter S e) ls
+  pub grown-map : (e : Entry S) (ls : List Letter) → grown S e ls ≡ map (entryAfter S e) ls
   unfolding grown
   grown-map e [] = refl
   grown-map e (l ∷ ls) = ap (λ es. entryAfter S e l ∷ es) (grown-map e ls)

@@ -41,6 +41,7 @@ pub mod Verdict
 pub mod VerdictsByWords
 -- Letters that the search and the check of a sheet may leave out.
 pub mod Thinned
+pub mod ThinVerdict
 -- Sheets as bytes.
 pub mod Bytes
 pub mod SetBytes
