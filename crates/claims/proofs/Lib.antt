@@ -42,6 +42,8 @@ pub mod VerdictsByWords
 -- Letters that the search and the check of a sheet may leave out.
 pub mod Thinned
 pub mod ThinVerdict
+pub mod Alike
+pub mod AlikePath
 -- Sheets as bytes.
 pub mod Bytes
 pub mod SetBytes

@@ -24,6 +24,7 @@ pub mod SheetReading
 pub mod Passing
 -- Letters that the search and the check of a sheet may leave out.
 pub mod Thin
+pub mod Alike
 -- What a verdict says, the order of words and prefixes, and what every kind of standing keeps to.
 pub mod Verdicts
 pub mod Orders
