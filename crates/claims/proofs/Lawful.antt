@@ -35,7 +35,7 @@ rows-self : (xs : List (List ℕ)) → sameRows xs xs ≡ true
 rows-self [] = refl
 rows-self (x ∷ xs) = and-both (same-self x) (rows-self xs)
 
-beq-sound : (a b : Bool) → Bool·beq a b ≡ true → a ≡ b
+pub beq-sound : (a b : Bool) → Bool·beq a b ≡ true → a ≡ b
 beq-sound true true e = refl
 beq-sound true false e = sym e
 beq-sound false true e = e
@@ -45,7 +45,7 @@ beq-self : (a : Bool) → Bool·beq a a ≡ true
 beq-self true = refl
 beq-self false = refl
 
-and-false : (a : Bool) → (a && false) ≡ false
+pub and-false : (a : Bool) → (a && false) ≡ false
 and-false true = refl
 and-false false = refl
 

@@ -44,6 +44,7 @@ pub mod Thinned
 pub mod ThinVerdict
 pub mod Alike
 pub mod AlikePath
+pub mod AlikeRing
 -- Sheets as bytes.
 pub mod Bytes
 pub mod SetBytes

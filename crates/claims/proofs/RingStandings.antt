@@ -44,7 +44,7 @@ module _ (D : Decision) where
       own o (here e) = sym e
 
   -- no row of the first table N holds anything
-  begin-N : (q p : ℕ) → In p (row (map (λ (o : ℕ). []) (states D)) q) → ⊥
+  pub begin-N : (q p : ℕ) → In p (row (map (λ (o : ℕ). []) (states D)) q) → ⊥
   unfolding states
   begin-N q p = go (le-or-lt (suc (occurrences (D .right))) q)
     where
