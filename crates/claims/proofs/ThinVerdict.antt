@@ -16,7 +16,7 @@ use lib.ListN.{length}
 use Rattle.kat.specs.Lists.{In, here, there, filter, every}
 use Rattle.kat.specs.Word.{end}
 use Rattle.claims.specs.Standings.{System, Letter, letters}
-use Rattle.claims.specs.Search.{Entry, refuted, spent, firstLevel, grown, nextLevel, fresh, completed, levels, verdict}
+use Rattle.claims.specs.Search.{Entry, refuted, spent, firstLevel, grown, nextLevel, fresh, completed, levels, verdictWithin, verdict}
 use Rattle.claims.specs.SheetReading.{Said, saysProved, saysRefuted}
 use Rattle.claims.specs.Passing.{listed, passes}
 use Rattle.claims.specs.Thin.{thinNextLevel, thinLevels, thinVerdict, thinPasses}
@@ -141,5 +141,5 @@ module _ (S : System) (laws : Lawful S) where
 
     -- the verdict over such tests is the verdict
     pub thin-verdict : (allowance : ℕ) → thinVerdict S first later allowance ≡ verdict S allowance
-    unfolding thinVerdict verdict
+    unfolding thinVerdict verdict verdictWithin
     thin-verdict allowance = ap (λ v. elim (S .alone) [ a ∷ as′ ↦ refuted (end a) | [] ↦ v ]) (from-first _ allowance)
