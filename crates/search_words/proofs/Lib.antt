@@ -1,0 +1,2 @@
+-- The table of a side shows its expression.
+pub mod Tables
