@@ -1,0 +1,2 @@
+-- Places past the end of a table.
+pub mod Places

@@ -1,0 +1,21 @@
+-- `search_steps::ends_set` meets its contract: the test is whether the set meets those that may be last at the atom.
+-- Assumes nothing.
+use mathlib.Core.Path.{ap}
+use mathlib.Core.Bool.{not}
+use lib.Bits.{bitAnd}
+use lib.Dec.{eqb}
+use Rattle.bits.specs.Sets.{meets}
+use Rattle.search_words.specs.Steps.{enders, endsSet}
+use borrow.Author.Needs.{needs}
+use Rattle.search_steps.proofs.ends_set.Statement.{statement}
+use Rattle.search_steps.proofs.ends_set.Tie as tie
+
+word-behind-requires : tie.Need-word-behind-requires
+word-behind-requires c κs = search needs
+
+returns : tie.Need-returns
+unfolding endsSet meets enders
+returns c = ap (λ w. not (eqb (bitAnd (c .before .before .args .s) w) 0)) (c .word-behind .ensures)
+
+pub ends-set-spec : {M : Type 1} → statement M
+ends-set-spec = tie.close (tie.spec word-behind-requires returns)
