@@ -1,2 +1,5 @@
+-- The verdict over chosen letters, and of standings that show others.
+pub mod Over
+pub mod Shows
 -- The table of a side shows its expression.
 pub mod Tables

@@ -4,3 +4,5 @@ pub mod Steps
 pub mod PathWords
 pub mod RingWords
 pub mod Systems
+-- The verdict over chosen letters.
+pub mod Over
