@@ -3,3 +3,7 @@ pub mod Over
 pub mod Shows
 -- The table of a side shows its expression.
 pub mod Tables
+-- Ring standings on words.
+pub mod RingLayout
+pub mod RingColumns
+pub mod RingShown

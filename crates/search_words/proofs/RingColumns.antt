@@ -1,0 +1,210 @@
+-- The bits of a column of a ring standing. One law carries the step: bit i of column q one letter on is set where q is read from some o whose
+-- column has bit i, or is read first and bit i is among the pairs that open. Below 32 that is M, from 32 on N.
+-- Assumes nothing.
+use Prim.Native.Nat.{ℕ, zero, suc, _+_, _*_, _-_, _/_, _%_, _^_, _≤_, _<_, min}
+use native.Mathlib.Nat.{pow-suc, div-div-eq-div-mul}
+use native.Mathlib.Omega.{arith}
+use mathlib.Core.Path.{_≡_, refl, sym, _∙_, ap, ap₂}
+use mathlib.Core.Logic.{⊎-elim}
+use mathlib.Core.Bool.{Bool, true, false, cond, _&&_, _||_}
+use mathlib.Core.List.{List, [], _∷_}
+use lib.Bits.{bitOr, or-lt}
+use lib.Dec.{eqb}
+use lib.ListN.{getD, take, drop, length-take, List·getD-eq-default}
+use lib.Pow.{pow-pos, pow-lt, field, mod-mod-pow}
+use lib.Seq.{getD-take, getD-drop}
+use borrow.Author.Tests.{eq-eqb, eqb-true}
+use Rattle.kat.specs.Lists.{In, here, there, upto, some}
+use Rattle.kat.proofs.Bools.{bool-ext, le-or-lt, true-not-false, and-left, and-right, and-both}
+use Rattle.kat.proofs.Sets.{some-in, in-some, in-upto, upto-in}
+use Rattle.claims.specs.Query.{bit}
+use Rattle.claims.specs.Standings.{Letter}
+use Rattle.claims.proofs.SetBytes.{bit-zero, bit-suc}
+use Rattle.bits.specs.Sets.{row, unionRows}
+use Rattle.bits.proofs.Bit.{bit-none, bit-or, bit-pow, bit-above}
+use Rattle.bits.proofs.Lists.{some-same}
+use Rattle.bits.proofs.Members.{some-number}
+use Rattle.bits.proofs.Rows.{bit-union}
+use Rattle.search_words.specs.Steps.{enders}
+use Rattle.search_words.specs.RingWords.{leads, joined, beginColumn, opened, onwardColumn}
+
+-- a test found in one range of numbers and a test found in another
+pub some-range : (p q : ℕ → Bool) (i e j f : ℕ) → ((k : ℕ) → i ≤ k → k < e → p k ≡ true → (j ≤ k) × (k < f) × (q k ≡ true))
+    → ((k : ℕ) → j ≤ k → k < f → q k ≡ true → (i ≤ k) × (k < e) × (p k ≡ true)) → some p (upto i e) ≡ some q (upto j f)
+some-range p q i e j f onto back =
+    bool-ext (some p (upto i e)) (some q (upto j f))
+    (λ s. let (k, m, t) = some-in p (upto i e) s in
+    let (a, b) = upto-in k i e m in
+    let (c, d, r) = onto k a b t in
+    in-some q (in-upto k j f c d) r)
+    (λ s. let (k, m, t) = some-in q (upto j f) s in
+    let (a, b) = upto-in k j f m in
+    let (c, d, r) = back k a b t in
+    in-some p (in-upto k i e c d) r)
+
+halved : (m w : ℕ) → m * 2 ^ suc w / 2 ≡ m * 2 ^ w
+halved m w = ap (λ k. m * k / 2) (pow-suc 2 w) ∙ omega arith
+
+-- bits of a number moved up, moved down, and cut off
+pub bit-up : (w i m : ℕ) → bit (w + i) (m * 2 ^ w) ≡ bit i m
+bit-up zero i m = ap₂ bit (omega arith) (omega arith)
+bit-up (suc w) i m =
+    ap (λ j. bit j (m * 2 ^ suc w)) (omega arith) ∙ bit-suc (w + i) (m * 2 ^ suc w) ∙ ap (bit (w + i)) (halved m w) ∙ bit-up w i m
+
+pub bit-up-below : (w i m : ℕ) → i < w → bit i (m * 2 ^ w) ≡ false
+bit-up-below zero i m h = absurd (omega arith)
+bit-up-below (suc w) zero m h =
+    let e : m * 2 ^ suc w % 2 ≡ 0 = ap (λ k. m * k % 2) (pow-suc 2 w) ∙ omega arith in
+    bit-zero (m * 2 ^ suc w) ∙ ap (λ d. eqb d 1) e
+bit-up-below (suc w) (suc i) m h =
+    bit-suc i (m * 2 ^ suc w) ∙ ap (bit i) (halved m w) ∙ bit-up-below w i m (omega arith)
+
+pub bit-down : (w i m : ℕ) → bit i (m / 2 ^ w) ≡ bit (w + i) m
+bit-down zero i m = ap₂ bit (omega arith) (omega arith)
+bit-down (suc w) i m =
+    let e : m / 2 ^ suc w ≡ m / 2 / 2 ^ w =
+    ap (λ k. m / k) (omega (arith, pow-suc 2 w)) ∙ sym (div-div-eq-div-mul m 2 (2 ^ w)) in
+    ap (bit i) e ∙ bit-down w i (m / 2) ∙ sym (bit-suc (w + i) m) ∙ ap (λ j. bit j m) (omega arith)
+
+pub bit-cut : (w i m : ℕ) → i < w → bit i (m % 2 ^ w) ≡ bit i m
+bit-cut zero i m h = absurd (omega arith)
+bit-cut (suc w) zero m h =
+    let z : suc w ≡ w + 1 = omega arith in
+    bit-zero (m % 2 ^ suc w) ∙ ap (λ k. eqb (m % 2 ^ k % 2) 1) z ∙ ap (λ d. eqb d 1) (mod-mod-pow m w 1) ∙ sym (bit-zero m)
+bit-cut (suc w) (suc i) m h =
+    let z : suc w ≡ w + 1 = omega arith in
+    bit-suc i (m % 2 ^ suc w) ∙ ap (λ k. bit i (m % 2 ^ k / 2)) z ∙ ap (bit i) (field m w 1) ∙ bit-cut w i (m / 2) (omega arith)
+    ∙ sym (bit-suc i m)
+
+-- a word or nothing, by a test
+bit-cond : (b : Bool) (i w : ℕ) → bit i (cond b w 0) ≡ (b && bit i w)
+bit-cond true i w = refl
+bit-cond false i w = bit-none i
+
+cond-small : (b : Bool) (n w : ℕ) → w < 2 ^ n → cond b w 0 < 2 ^ n
+cond-small true n w h = h
+cond-small false n w h = pow-pos n
+
+module _ (right : List ℕ) (l : Letter) where
+  pub joined-bit : (w : ℕ → ℕ) (q i : ℕ) (os : List ℕ) → bit i (joined right l w q os) ≡ some (λ o. leads right l o q && bit i (w o)) os
+  unfolding joined
+  joined-bit w q i [] = bit-none i
+  joined-bit w q i (o ∷ os) =
+      bit-or i (cond (leads right l o q) (w o) 0) (joined right l w q os)
+      ∙ ap₂ _||_ (bit-cond (leads right l o q) i (w o)) (joined-bit w q i os)
+
+  pub joined-small : (w : ℕ → ℕ) (q n : ℕ) (os : List ℕ) → ((o : ℕ) → In o os → w o < 2 ^ n) → joined right l w q os < 2 ^ n
+  unfolding joined
+  joined-small w q n [] h = pow-pos n
+  joined-small w q n (o ∷ os) h =
+      or-lt n (cond (leads right l o q) (w o) 0) (joined right l w q os) (cond-small (leads right l o q) n (w o) (h o (here refl)))
+      (joined-small w q n os (λ k j. h k (there j)))
+
+  -- a column that is read from nowhere
+  pub joined-none : (w : ℕ → ℕ) (q : ℕ) (os : List ℕ) → ((o : ℕ) → leads right l o q ≡ false) → joined right l w q os ≡ 0
+  unfolding joined
+  joined-none w q [] h = refl
+  joined-none w q (o ∷ os) h = ap₂ (λ b m. bitOr (cond b (w o) 0) m) (h o) (joined-none w q os h)
+
+  -- a prefix of one relation: bit p is set where q is read from p
+  pub begin-bit : (n q p : ℕ) → n ≤ 31 → p ≤ n → bit p (beginColumn right n l q) ≡ leads right l p q
+  unfolding beginColumn
+  begin-bit n q p few h =
+      joined-bit (λ o. 2 ^ o) q p (upto 0 (suc (min n 31)))
+      ∙ bool-ext (some (λ o. leads right l o q && bit p (2 ^ o)) (upto 0 (suc (min n 31)))) (leads right l p q)
+      (λ s. let (o, i, t) = some-in (λ o. leads right l o q && bit p (2 ^ o)) (upto 0 (suc (min n 31))) s in
+      let e : p ≡ o = eqb-true p o (sym (bit-pow p o) ∙ and-right (leads right l o q) (bit p (2 ^ o)) t) in
+      ap (λ k. leads right l k q) e ∙ and-left (leads right l o q) (bit p (2 ^ o)) t)
+      (λ t. in-some (λ o. leads right l o q && bit p (2 ^ o)) (in-upto p 0 (suc (min n 31)) (omega arith) (omega arith))
+      (and-both t (bit-pow p p ∙ eq-eqb p p refl)))
+
+  pub begin-past : (n q i : ℕ) → n ≤ 31 → n < i → bit i (beginColumn right n l q) ≡ false
+  unfolding beginColumn
+  begin-past n q i few h =
+      bit-above (suc n) i (beginColumn right n l q)
+      (joined-small (λ p. 2 ^ p) q (suc n) (upto 0 (suc (min n 31)))
+      (λ o j. let (a, b) = upto-in o 0 (suc (min n 31)) j in pow-lt (omega arith)))
+      h
+
+  pub begin-small : (n q : ℕ) → beginColumn right n l q < 2 ^ 32
+  unfolding beginColumn
+  begin-small n q =
+      joined-small (λ p. 2 ^ p) q 32 (upto 0 (suc (min n 31)))
+      (λ o j. let (a, b) = upto-in o 0 (suc (min n 31)) j in pow-lt {j = 32} (omega arith))
+
+  pub begin-none : (n q : ℕ) → ((o : ℕ) → leads right l o q ≡ false) → beginColumn right n l q ≡ 0
+  unfolding beginColumn
+  begin-none n q h = joined-none (λ p. 2 ^ p) q (upto 0 (suc (min n 31))) h
+
+  -- a prefix one relation longer
+  module _ (s : List ℕ) where
+    pub onward-bit : (q i : ℕ) → bit i (onwardColumn right s l q)
+        ≡ (some (λ o. leads right l o q && bit i (getD s o 0)) (upto 1 32) || (leads right l 0 q && bit i (opened right s (l .atom))))
+    unfolding onwardColumn
+    onward-bit q i =
+        bit-or i (joined right l (λ o. getD s o 0) q (upto 1 32)) (cond (leads right l 0 q) (opened right s (l .atom)) 0)
+        ∙ ap₂ _||_ (joined-bit (λ o. getD s o 0) q i (upto 1 32)) (bit-cond (leads right l 0 q) i (opened right s (l .atom)))
+
+    pub onward-none : (q : ℕ) → ((o : ℕ) → leads right l o q ≡ false) → onwardColumn right s l q ≡ 0
+    unfolding onwardColumn
+    onward-none q h =
+        ap₂ (λ m b. bitOr m (cond b (opened right s (l .atom)) 0)) (joined-none (λ o. getD s o 0) q (upto 1 32) h) (h 0)
+
+    pub opened-small : (a : ℕ) → opened right s a < 2 ^ 64
+    unfolding opened
+    opened-small a = omega arith
+
+    pub onward-small : (q : ℕ) → ((o : ℕ) → 1 ≤ o → o < 32 → getD s o 0 < 2 ^ 64) → onwardColumn right s l q < 2 ^ 64
+    unfolding onwardColumn
+    onward-small q h =
+        or-lt 64 (joined right l (λ o. getD s o 0) q (upto 1 32)) (cond (leads right l 0 q) (opened right s (l .atom)) 0)
+        (joined-small (λ o. getD s o 0) q 64 (upto 1 32) (λ o j. let (a, b) = upto-in o 1 32 j in h o a b))
+        (cond-small (leads right l 0 q) 64 (opened right s (l .atom)) (opened-small (l .atom)))
+
+-- the columns as rows
+column-row : (s : List ℕ) (k : ℕ) → k < 31 → row (take 31 (drop 1 s)) k ≡ getD s (suc k) 0
+column-row s k h = getD-take 31 (drop 1 s) k 0 h ∙ getD-drop 1 s k 0 ∙ ap (λ i. getD s i 0) (omega arith)
+
+column-past : (s : List ℕ) (k : ℕ) → 31 ≤ k → row (take 31 (drop 1 s)) k ≡ 0
+column-past s k h = List·getD-eq-default (take 31 (drop 1 s)) 0 (omega (arith, length-take 31 (drop 1 s)))
+
+-- the pairs that open: below bit 32 nothing, and from there on p where an occurrence of row p of M may end
+module _ (right s : List ℕ) (a : ℕ) where
+  pub opened-low : (i : ℕ) → i < 32 → bit i (opened right s a) ≡ false
+  unfolding opened
+  opened-low i h = bit-up-below 32 i (unionRows (take 31 (drop 1 s)) (enders right a) % 2 ^ 32) h
+
+  module _ (p : ℕ) where
+    abbrev below : ℕ → Bool
+    below k = bit (k - 0) (enders right a) && bit p (row (take 31 (drop 1 s)) k)
+
+    abbrev above : ℕ → Bool
+    above q = bit (q - 1) (enders right a) && bit p (getD s q 0)
+
+    below-above : (k : ℕ) → k < 31 → below k ≡ above (suc k)
+    below-above k l = ap₂ _&&_ (ap (λ i. bit i (enders right a)) (omega arith)) (ap (bit p) (column-row s k l))
+
+    forth : some below (upto 0 64) ≡ true → some above (upto 1 32) ≡ true
+    forth e =
+        let (k, i, t) = some-in below (upto 0 64) e in
+        let (u, v) = upto-in k 0 64 i in
+        ⊎-elim
+        (λ l. absurd (true-not-false (and-right (bit (k - 0) (enders right a)) (bit p (row (take 31 (drop 1 s)) k)) t)
+        (ap (bit p) (column-past s k l) ∙ bit-none p)))
+        (λ l. in-some above (in-upto (suc k) 1 32 (omega arith) (omega arith)) (sym (below-above k l) ∙ t)) (le-or-lt 31 k)
+
+    back : some above (upto 1 32) ≡ true → some below (upto 0 64) ≡ true
+    back e =
+        let (q, i, t) = some-in above (upto 1 32) e in
+        let (u, v) = upto-in q 1 32 i in
+        let z : suc (q - 1) ≡ q = omega arith in
+        in-some below (in-upto (q - 1) 0 64 (omega arith) (omega arith)) (below-above (q - 1) (omega arith) ∙ ap above z ∙ t)
+
+    pub opened-high : p < 32 → bit (32 + p) (opened right s a) ≡ some (λ q. bit (q - 1) (enders right a) && bit p (getD s q 0)) (upto 1 32)
+    unfolding opened
+    opened-high h =
+        bit-up 32 p (unionRows (take 31 (drop 1 s)) (enders right a) % 2 ^ 32)
+        ∙ bit-cut 32 p (unionRows (take 31 (drop 1 s)) (enders right a)) h
+        ∙ bit-union (take 31 (drop 1 s)) (enders right a) p
+        ∙ some-number (λ k. bit p (row (take 31 (drop 1 s)) k)) 0 64 (enders right a)
+        ∙ bool-ext (some below (upto 0 64)) (some above (upto 1 32)) forth back
