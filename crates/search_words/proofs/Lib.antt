@@ -7,3 +7,6 @@ pub mod Tables
 pub mod RingLayout
 pub mod RingColumns
 pub mod RingShown
+pub mod RingEqual
+pub mod RingRows
+pub mod RingFinals

@@ -22,7 +22,6 @@ use Rattle.claims.specs.Standings.{Letter}
 use Rattle.claims.proofs.SetBytes.{bit-zero, bit-suc}
 use Rattle.bits.specs.Sets.{row, unionRows}
 use Rattle.bits.proofs.Bit.{bit-none, bit-or, bit-pow, bit-above}
-use Rattle.bits.proofs.Lists.{some-same}
 use Rattle.bits.proofs.Members.{some-number}
 use Rattle.bits.proofs.Rows.{bit-union}
 use Rattle.search_words.specs.Steps.{enders}

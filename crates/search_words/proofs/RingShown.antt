@@ -2,19 +2,18 @@
 -- occurrences; begin and onward give good words, and show what the definition's begin and step give. (Document 01, "Standings".) The rows
 -- are filters over the definition's own ranges, so each row is one comparison of tests.
 -- Assumes nothing.
-use Prim.Native.Nat.{ℕ, zero, suc, _+_, _-_, _^_, _≤_, _<_, min}
+use Prim.Native.Nat.{ℕ, zero, suc, _+_, _-_, _^_, _≤_, _<_}
 use native.Mathlib.Omega.{arith}
-use mathlib.Core.Path.{_≡_, refl, sym, _∙_, ap, ap₂, subst}
+use mathlib.Core.Path.{_≡_, refl, sym, _∙_, ap, ap₂}
 use mathlib.Core.Logic.{⊎-elim}
 use mathlib.Core.Bool.{Bool, true, false, cond, not, _&&_, _||_, and-comm, and-false, or-false}
 use mathlib.Core.List.{List, [], _∷_, map, map-map}
 use lib.Dec.{eqb}
 use lib.ListN.{length, getD}
-use lib.Pow.{pow-lt}
 use borrow.Author.Tests.{ne-eqb}
 use Rattle.kat.specs.Lists.{In, here, there, upto, filter, some, member}
-use Rattle.kat.specs.Tables.{occurrences, reads, null, next, stop, after, ends}
-use Rattle.kat.proofs.Bools.{bool-cases, true-not-false, false-of-not, and-left, and-right, and-both, le-or-lt}
+use Rattle.kat.specs.Tables.{occurrences, reads, next, stop, after, ends}
+use Rattle.kat.proofs.Bools.{true-not-false, false-of-not, and-left, and-right, and-both, le-or-lt}
 use Rattle.kat.proofs.Sets.{some-in, some-none, filter-none, upto-in, at-upto}
 use Rattle.kat.proofs.Ranges.{reads-range}
 use Rattle.claims.specs.Query.{bit}
@@ -67,7 +66,7 @@ made f z p m n = record { first = f; Z = z; P = p; M = m; N = n }
 pub ring-equal : (s t : Ring) → s .first ≡ t .first → s .Z ≡ t .Z → s .P ≡ t .P → s .M ≡ t .M → s .N ≡ t .N → s ≡ t
 ring-equal s t f z p m n = λ i. made (f i) (z i) (p i) (m i) (n i)
 
-map-same : {A B : Type 0} (f g : A → B) (l : List A) → ((x : A) → In x l → f x ≡ g x) → map f l ≡ map g l
+pub map-same : {A B : Type 0} (f g : A → B) (l : List A) → ((x : A) → In x l → f x ≡ g x) → map f l ≡ map g l
 map-same f g [] h = refl
 map-same f g (x ∷ xs) h = ap₂ _∷_ (h x (here refl)) (map-same f g xs (λ y i. h y (there i)))
 
@@ -318,8 +317,12 @@ module _ (D : Decision) (l : Letter) (low : l .atom < 64) (letter : l .relation 
       paired q p h k j = from-columns q (32 + p) h k
           ∙ some-range (λ o. moves D l o q && bit (32 + p) (getD s o 0))
           (λ o. moves D l o q && member p (row (map (rowN n s) (upto 0 (suc n))) o)) 1 (suc n) 0 (suc n)
-          (λ o a b e. (omega arith, b, and-both (and-left (moves D l o q) _ e)
-          (shown-N o p (omega arith) j ∙ inN-some s o p a ∙ and-right (moves D l o q) _ e)))
+          (λ o a b e. (
+            omega arith,
+            b,
+            and-both (and-left (moves D l o q) _ e)
+                (shown-N o p (omega arith) j ∙ inN-some s o p a ∙ and-right (moves D l o q) _ e),
+          ))
           (λ o a b e. let y : inN s o p ≡ true = sym (shown-N o p (omega arith) j) ∙ and-right (moves D l o q) _ e in
           let z : 1 ≤ o = inN-from s o p y in
           (z, b, and-both (and-left (moves D l o q) _ e) (sym (inN-some s o p z) ∙ y)))
@@ -333,9 +336,13 @@ module _ (D : Decision) (l : Letter) (low : l .atom < 64) (letter : l .relation 
           (λ q a b e. let y : bit p (getD s q 0) ≡ true = and-right (bit (q - 1) (enders (sideTable (D .right)) (l .atom))) _ e in
           let z : q ≤ n = has-bit q p b y in
           (a, omega arith, and-both y (sym (ends-bit (D .right) (l .atom) q low a (omega arith)) ∙ and-left _ (bit p (getD s q 0)) e)))
-          (λ q a b e. (a, omega arith, and-both
-          (ends-bit (D .right) (l .atom) q low a b ∙ and-right (bit p (getD s q 0)) (stop (D .right) q (l .atom)) e)
-          (and-left (bit p (getD s q 0)) (stop (D .right) q (l .atom)) e)))
+          (λ q a b e. (
+            a,
+            omega arith,
+            and-both
+                (ends-bit (D .right) (l .atom) q low a b ∙ and-right (bit p (getD s q 0)) (stop (D .right) q (l .atom)) e)
+                (and-left (bit p (getD s q 0)) (stop (D .right) q (l .atom)) e),
+          ))
           ∙ sym (some-filter (λ q. bit p (getD s q 0)) (λ q. stop (D .right) q (l .atom)) (upto 1 (suc n)))
           ∙ ap (some (λ q. stop (D .right) q (l .atom))) (sym (shown-M p h))
 
