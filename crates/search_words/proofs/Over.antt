@@ -9,7 +9,7 @@ use lib.Dec.{ltb}
 use lib.ListN.{length}
 use Rattle.kat.specs.Word.{Word, end}
 use Rattle.claims.specs.Standings.{System, Letter, letters}
-use Rattle.claims.specs.Search.{Entry, Verdict, proved, refuted, spent, firstLevel, grown, nextLevel, fresh, completed, levels, verdict}
+use Rattle.claims.specs.Search.{Entry, Verdict, proved, refuted, spent, firstLevel, grown, nextLevel, fresh, completed, levels, verdictWithin, verdict}
 use Rattle.search_words.specs.Over.{nextLevelOver, levelsOver, verdictOver}
 
 module _ (S : System) where
@@ -81,7 +81,7 @@ module _ (S : System) where
       cases false none (e ∷ es) h = h (e ∷ es)
 
   pub verdict-all : (allowance : ℕ) → verdictOver S (letters S) (letters S) (suc (suc allowance)) allowance ≡ verdict S allowance
-  unfolding verdictOver verdict
+  unfolding verdictOver verdict verdictWithin
   verdict-all allowance = go (S .alone)
     where
       go : (as′ : List ℕ)

@@ -13,12 +13,11 @@ use native.Mathlib.Nat.{pow-le-pow-right, lt-of-lt-of-le}
 use borrow.Author.Tests.{ne-eqb}
 use Rattle.kat.specs.Lists.{counted, upto, filter}
 use Rattle.kat.proofs.Bools.{le-or-lt}
-use Rattle.kat.proofs.Sets.{filter-none, counted-in, at-upto, past-upto}
+use Rattle.kat.proofs.Sets.{filter-none, counted-in, at-upto, past-upto, filter-same}
 use Rattle.claims.specs.Query.{bit}
 use Rattle.claims.specs.Fields.{setNumber}
 use Rattle.claims.specs.Standings.{row}
 use Rattle.bits.proofs.Bit.{bit-none, bit-above, bit-ext}
-use Rattle.bits.proofs.Lists.{filter-same}
 use Rattle.side_atoms.proofs.Atoms.{bit-of, number-small}
 use Rattle.search_words.specs.RingWords.{inM, inN}
 use Rattle.search_words.proofs.RingColumns.{bit-down}

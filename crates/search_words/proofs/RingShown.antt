@@ -14,7 +14,7 @@ use borrow.Author.Tests.{ne-eqb}
 use Rattle.kat.specs.Lists.{In, here, there, upto, filter, some, member}
 use Rattle.kat.specs.Tables.{occurrences, reads, next, stop, after, ends}
 use Rattle.kat.proofs.Bools.{true-not-false, false-of-not, and-left, and-right, and-both, le-or-lt}
-use Rattle.kat.proofs.Sets.{some-in, some-none, filter-none, upto-in, at-upto}
+use Rattle.kat.proofs.Sets.{some-in, some-none, filter-none, upto-in, at-upto, filter-same, some-same}
 use Rattle.kat.proofs.Ranges.{reads-range}
 use Rattle.claims.specs.Query.{bit}
 use Rattle.claims.specs.Fields.{numberSet}
@@ -22,7 +22,7 @@ use Rattle.claims.specs.Sides.{Decision}
 use Rattle.claims.specs.Standings.{Letter, Ring, row, states, moves, pairs, ringStep}
 use Rattle.claims.specs.Standings as ring
 use Rattle.bits.proofs.Bit.{bit-none, bit-above}
-use Rattle.bits.proofs.Lists.{filter-same, some-same, some-filter}
+use Rattle.bits.proofs.Lists.{some-filter}
 use Rattle.side_atoms.proofs.Atoms.{member-filter}
 use Rattle.side_turned.specs.SideTable.{sideTable}
 use Rattle.search_words.specs.Steps.{stepFrom, stepSet, enders, nullAt}

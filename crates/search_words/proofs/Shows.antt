@@ -14,11 +14,11 @@ use Rattle.kat.specs.Lists.{In, here, there, upto}
 use Rattle.kat.specs.Word.{Word, end}
 use Rattle.kat.specs.Ring.{onto}
 use Rattle.kat.proofs.Bools.{bool-cases}
-use Rattle.kat.proofs.Sets.{in-append}
+use Rattle.kat.proofs.Sets.{in-append, some-same}
 use Rattle.claims.specs.Standings.{System, Letter, letters, lettersOf}
 use Rattle.claims.specs.Search.{Entry, Verdict, proved, refuted, firstLevel, grown, seenIn, fresh, completed, verdict}
 use Rattle.claims.proofs.Letters.{Fits, letters-in}
-use Rattle.bits.proofs.Lists.{some-same, some-map}
+use Rattle.bits.proofs.Lists.{some-map}
 use Rattle.search_words.specs.Over.{nextLevelOver, levelsOver, verdictOver, shown}
 use Rattle.search_words.proofs.Over.{over-spent, over-refuted, over-proved, over-more, verdict-all}
 

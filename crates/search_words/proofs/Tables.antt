@@ -14,11 +14,11 @@ use lib.Seq.{getD-take, getD-drop}
 use Rattle.kat.specs.Lists.{some}
 use Rattle.kat.specs.Expr.{Expr}
 use Rattle.kat.specs.Tables.{occurrences, reads, null, next, stop, after, ends}
+use Rattle.kat.proofs.Sets.{some-same}
 use Rattle.claims.specs.Query.{bit}
 use Rattle.claims.specs.Fields.{numberSet}
 use Rattle.bits.specs.Sets.{row, unionRows}
 use Rattle.bits.proofs.Bit.{bit-and}
-use Rattle.bits.proofs.Lists.{some-same}
 use Rattle.bits.proofs.Members.{number-in, number-filter, number-wide, some-shift}
 use Rattle.bits.proofs.Rows.{bit-union, meets-some}
 use Rattle.side_atoms.proofs.Atoms.{bit-of, number-small, atoms-bit}
