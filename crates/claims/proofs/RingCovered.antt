@@ -17,11 +17,11 @@ use Rattle.kat.specs.Tables.{occurrences, stop}
 use Rattle.kat.proofs.Bools.{or-cases, or-left, or-right, and-left, and-right, and-both}
 use Rattle.kat.proofs.Sets.{some-in, in-some, in-upto, upto-in, member-in, in-member}
 use Rattle.kat.proofs.Closure.{Below, closure-is-plus}
+use Rattle.kat.proofs.Runs.{way-range}
 use Rattle.kat.proofs.Turns.{covered-by-turns}
 use Rattle.kat.specs.Turns.{Turn, Round, Pair, FromStart, FromInside}
 use Rattle.claims.specs.Sides.{Decision}
 use Rattle.claims.specs.Standings.{Ring, row, states, covered}
-use Rattle.claims.proofs.RingStandings.{way-range}
 use Rattle.claims.specs.JustRead.{RingReads}
 
 module _ (D : Decision) (l : Prefix) (s : Ring) (k : RingReads D l s) where
@@ -31,7 +31,7 @@ module _ (D : Decision) (l : Prefix) (s : Ring) (k : RingReads D l s) where
 
   turn-below : (p q : ℕ) → p ≤ occurrences (D .right) → Turn (D .right) l p q → Below (suc (occurrences (D .right))) turning p q
   turn-below p q h t =
-      let b = way-range D (D .right) p l q (k .longer) t in
+      let (lo, b) = way-range (D .right) p l q (k .longer) t in
       (omega arith, omega arith, in-member q (k .tableM p q h .1 t))
 
   below-turn : (p q : ℕ) → Below (suc (occurrences (D .right))) turning p q → Turn (D .right) l p q
@@ -39,14 +39,14 @@ module _ (D : Decision) (l : Prefix) (s : Ring) (k : RingReads D l s) where
 
   turns-below : {p q : ℕ} → p ≤ occurrences (D .right) → Plus (Turn (D .right) l) p q → Plus (Below (suc (occurrences (D .right))) turning) p q
   turns-below h (once {x = p} {y = q} t) = once (turn-below p q h t)
-  turns-below h (more {x = p} {y = o} t u) = more (turn-below p o h t) (turns-below (way-range D (D .right) p l o (k .longer) t) u)
+  turns-below h (more {x = p} {y = o} t u) = more (turn-below p o h t) (turns-below (way-range (D .right) p l o (k .longer) t .1) u)
 
   below-turns : {p q : ℕ} → Plus (Below (suc (occurrences (D .right))) turning) p q → Plus (Turn (D .right) l) p q
   below-turns (once {x = p} {y = q} t) = once (below-turn p q t)
   below-turns (more {x = p} {y = o} t u) = more (below-turn p o t) (below-turns u)
 
   turns-range : {p q : ℕ} → Plus (Turn (D .right) l) p q → q ≤ occurrences (D .right)
-  turns-range (once {x = p} {y = q} t) = way-range D (D .right) p l q (k .longer) t
+  turns-range (once {x = p} {y = q} t) = way-range (D .right) p l q (k .longer) t .1
   turns-range (more t u) = turns-range u
 
   abbrev turns : Table
@@ -81,7 +81,7 @@ module _ (D : Decision) (l : Prefix) (s : Ring) (k : RingReads D l s) where
   )
 
   pair-range : (q p : ℕ) → Pair (D .right) 0 l q p → q ≤ occurrences (D .right)
-  pair-range q p (u, v, e, i, j, x, y) = way-range D (D .right) 0 v q j x
+  pair-range q p (u, v, e, i, j, x, y) = way-range (D .right) 0 v q j x .1
 
   -- none or more turns from q to p
   abbrev around : ℕ → ℕ → Bool

@@ -1,6 +1,6 @@
 -- What the fields of a ring standing say of its prefix, as the text has it: the first atom; P by ways through the left side; M by ways
 -- through the right side from each of 0 and its occurrences; N by the pairs at the atoms strictly inside; Z by the atoms that are right
--- words. By the prefix, one letter at a time.
+-- words; and nothing in N but 0 and right occurrences. By the prefix, one letter at a time.
 -- Assumes nothing.
 use Prim.Native.Nat.{ℕ, suc, _≤_, _<_}
 use native.Mathlib.Omega.{arith}
@@ -10,16 +10,14 @@ use mathlib.Core.Logic._⊎_.{inl, inr}
 use mathlib.Core.Bool.{Bool, true, _&&_, _||_}
 use mathlib.Core.List.{List, [], _∷_, map}
 use lib.ListN.{length-map}
-use Rattle.kat.specs.Expr.{Expr}
 use Rattle.kat.specs.Lists.{In, here, upto, some, member}
 use Rattle.kat.specs.Ring.{Prefix, nothing, then}
 use Rattle.kat.specs.Tables.{occurrences, reads, next, null, after, ends}
 use Rattle.kat.specs.Way.{Way}
 use Rattle.kat.proofs.Bools.{le-or-lt, or-cases, or-left, or-right, and-left, and-right, and-both}
 use Rattle.kat.proofs.Sets.{some-in, in-some, filter-in, in-filter, in-upto, upto-in, member-in, in-member}
-use Rattle.kat.proofs.Ranges.{reads-range}
-use Rattle.kat.proofs.Runs.{after-in, ends-in}
-use Rattle.kat.specs.Turns.{NonEmpty, Pair}
+use Rattle.kat.proofs.Runs.{way-range, after-in, ends-in}
+use Rattle.kat.specs.Turns.{Pair}
 use Rattle.kat.proofs.Growing.{start-own, atom-grown, pair-grown, no-pair-at-first, atom-at-first}
 use Rattle.claims.specs.Sides.{Decision}
 use Rattle.claims.specs.Standings.{Letter, Ring, row, states, moves, ringSystem, ringBegin, ringStep, pairs}
@@ -65,7 +63,9 @@ module _ (D : Decision) where
         zeroFlag = (atom-at-first (D .right) 0 a r .1, atom-at-first (D .right) 0 a r .0);
         rowsM = rows-made (λ o. after (D .right) (o ∷ []) a r) (suc (occurrences (D .right)));
         tableM = begin-M a r;
+        rowsN = rows-made (λ (o : ℕ). []) (suc (occurrences (D .right)));
         tableN = λ q p h. ((λ i. absurd (begin-N q p i)), (λ k. absurd (no-pair-at-first (D .right) 0 a r q p k)));
+        withinN = λ q p i. absurd (begin-N q p i);
       }
 
   moves-both : (a r p q : ℕ) → moves D (record { atom = a; relation = r }) p q ≡ true
@@ -126,10 +126,6 @@ module _ (D : Decision) where
         (λ (o, w, n, m). subst (In q) (sym e) (after-in (D .right) (row (s .M) p) a r q .1 (o, k .tableM p o h .1 w, n, m))),
       )
 
-  -- where a way has read a letter it ends on an occurrence of the side
-  pub way-range : (E : Expr) (p : ℕ) (l : Prefix) (q : ℕ) → NonEmpty l → Way E p l q → q ≤ occurrences E
-  way-range E p (then l a r) q h (o, w, n, m) = let (lo, hi) = reads-range E 0 q r m in omega arith
-
   comes-is-pair : (l : Prefix) (s : Ring) (a r : ℕ) → RingReads D l s → (q p : ℕ) → p ≤ occurrences (D .right)
       → Comes s a r q p ↔ Pair (D .right) 0 (then l a r) q p
   comes-is-pair l s a r k q p h = (
@@ -144,7 +140,7 @@ module _ (D : Decision) where
     (λ g.
         ⊎-elim
         (λ (o, (u, v, e, i, j, x, y), n, m).
-        inl (o, way-range (D .right) 0 v o j x, n, m, k .tableN o p h .1 (u, v, e, i, j, x, y)))
+        inl (o, way-range (D .right) 0 v o j x .1, n, m, k .tableN o p h .1 (u, v, e, i, j, x, y)))
         (λ (g, n, m, (o, w, t)). inr (n, m, ends-in (D .right) (row (s .M) p) a .1 (o, k .tableM p o h .1 w, t)))
         (pair-grown (D .right) 0 l a r q p .0 g)),
   )
@@ -164,15 +160,41 @@ module _ (D : Decision) where
           → In p (row (map f (upto 0 (suc (occurrences (D .right))))) q) ↔ Pair (D .right) 0 (then l a r) q p
       go (inl b) = (
         (λ i. absurd (nothing-in-empty (row-past (map f (upto 0 n)) q (subst (λ x. x ≤ q) (sym (rows-made f n)) b)) i)),
-        (λ (u, v, e, i, j, x, y). absurd (let w = way-range (D .right) 0 v q j x in omega arith)),
+        (λ (u, v, e, i, j, x, y). absurd (let (lo, w) = way-range (D .right) 0 v q j x in omega arith)),
       )
       go (inr b) = (
         (λ i. comes-is-pair l s a r k q p h .0 (pairs-in s a r q p h .0 (subst (In p) (row-made f n q b) i))),
         (λ g. subst (In p) (sym (row-made f n q b)) (pairs-in s a r q p h .1 (comes-is-pair l s a r k q p h .1 g))),
       )
 
+  -- only 0 and the right occurrences are paired
+  pairs-within : (s : Ring) (a r q p : ℕ) → In p (pairs D s (record { atom = a; relation = r }) q) → p ≤ occurrences (D .right)
+  unfolding pairs states
+  pairs-within s a r q p i =
+      let L : Letter = record { atom = a; relation = r } in
+      let f : ℕ → Bool = λ p. some (λ o. moves D L o q && member p (row (s .N) o)) (states D) || (moves D L 0 q && ends (D .right) (row (s .M) p) a) in
+      let (j, t) = filter-in f (states D) i in
+      let (lo, hi) = upto-in p 0 (suc (occurrences (D .right))) j in
+      omega arith
+
+  onward-within : (s : Ring) (a r q p : ℕ) → In p (row (map (pairs D s (record { atom = a; relation = r })) (states D)) q)
+      → p ≤ occurrences (D .right)
+  unfolding states
+  onward-within s a r q p = go (le-or-lt (suc (occurrences (D .right))) q)
+    where
+      f : ℕ → List ℕ
+      f = pairs D s (record { atom = a; relation = r })
+
+      n : ℕ
+      n = suc (occurrences (D .right))
+
+      go : (suc (occurrences (D .right)) ≤ q) ⊎ (q < suc (occurrences (D .right)))
+          → In p (row (map f (upto 0 (suc (occurrences (D .right))))) q) → p ≤ occurrences (D .right)
+      go (inl b) i = absurd (nothing-in-empty (row-past (map f (upto 0 n)) q (subst (λ x. x ≤ q) (sym (rows-made f n)) b)) i)
+      go (inr b) i = pairs-within s a r q p (subst (In p) (row-made f n q b) i)
+
   ring-onward : (l : Prefix) (s : Ring) (a r : ℕ) → RingReads D l s → RingReads D (then l a r) (ringStep D s (record { atom = a; relation = r }))
-  unfolding ringStep
+  unfolding ringStep states
   ring-onward l s a r k =
       record {
         longer = tt;
@@ -185,7 +207,9 @@ module _ (D : Decision) where
         );
         rowsM = length-map (s .M) (λ o. after (D .right) o a r) ∙ k .rowsM;
         tableM = onward-M l s a r k;
+        rowsN = rows-made (pairs D s (record { atom = a; relation = r })) (suc (occurrences (D .right)));
         tableN = onward-N l s a r k;
+        withinN = onward-within s a r;
       }
 
   pub ring-reads : {l : Prefix} {s : Ring} → StandingOf (ringSystem D) l s → RingReads D l s

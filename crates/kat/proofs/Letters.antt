@@ -14,9 +14,10 @@ use Rattle.kat.specs.Graph.{Rel, once, more}
 use Rattle.kat.specs.Word.{Word, at, first}
 use Rattle.kat.specs.Language.{places}
 use Rattle.kat.specs.Tables.{occurrences, reads, null, firsts, lasts, follows}
+use Rattle.kat.specs.Rest.{Rest}
 use Rattle.kat.proofs.Bools.{or-cases, and-left, and-right}
 use Rattle.kat.proofs.Ranges.{Among, apart, reads-range, firsts-range, follows-range}
-use Rattle.kat.proofs.Residuals.{Rest, rest-range}
+use Rattle.kat.proofs.Residuals.{rest-range}
 
 -- a number of the left part is allowed by the left part's table, one of the right part by the right part's
 keep-left : (k m n q : ℕ) (a b : Bool) → Among k m q → (b ≡ true → Among (k + m) n q) → (a || b) ≡ true → a ≡ true

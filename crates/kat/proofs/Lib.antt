@@ -18,6 +18,8 @@ pub mod Growing
 pub mod Words
 pub mod Prefixes
 -- What can have been read of a prefix.
+pub mod Ways
 pub mod Read
+pub mod ReadFrom
 -- Tables of pairs.
 pub mod Closure

@@ -1,7 +1,7 @@
--- A word is in the language of an expression exactly when the occurrence tables read it. The idea is by residuals: `Rest e k p u v` is
--- what e can still read from u to v after its occurrence p. An expression either ends where it stands, if `null` allows it, or reads
--- one letter that `firsts` allows and goes on with a residual; a residual either ends, if `lasts` allows it, or reads one letter that
--- `follows` allows. Both are shown by the expression alone, and the theorem then by the word; no run is ever cut in two.
+-- A word is in the language of an expression exactly when the occurrence tables read it. The idea is by residuals: `Rest e k p u v` of
+-- `specs/Rest.antt` is what e can still read from u to v after its occurrence p. An expression either ends where it stands, if `null`
+-- allows it, or reads one letter that `firsts` allows and goes on with a residual; a residual either ends, if `lasts` allows it, or reads
+-- one letter that `follows` allows. Both are shown by the expression alone, and the theorem then by the word; no run is ever cut in two.
 -- Assumes nothing.
 use Prim.Native.Nat.{ℕ, suc, _+_}
 use native.Mathlib.Omega.{arith}
@@ -15,16 +15,9 @@ use Rattle.kat.specs.Graph.{Rel, Plus, once, more}
 use Rattle.kat.specs.Word.{Word, end, at, first}
 use Rattle.kat.specs.Language.{places}
 use Rattle.kat.specs.Tables.{occurrences, reads, null, firsts, lasts, follows}
+use Rattle.kat.specs.Rest.{Rest}
 use Rattle.kat.proofs.Bools.{or-left, or-right, and-both}
 use Rattle.kat.proofs.Ranges.{Among, among-left, among-right}
-
--- what e, whose occurrences come after k others, can still read from u to v after its occurrence p
-abbrev pub Rest : Expr → ℕ → ℕ → Word → Word → Type 0
-Rest (step s) k p u v = (p ≡ suc k) × (u ≡ v)
-Rest (test s) k p u v = ⊥
-Rest (alt e f) k p u v = Rest e k p u v ⊎ Rest f (k + occurrences e) p u v
-Rest (seq e f) k p u v = ((z : Word) × Rest e k p u z × Rel places f z v) ⊎ Rest f (k + occurrences e) p u v
-Rest (plus e) k p u v = (z : Word) × Rest e k p u z × ((z ≡ v) ⊎ Plus (Rel places e) z v)
 
 -- one letter is read, by an occurrence that N allows and that reads it, and A goes on
 pub data Goes (N R : ℕ → ℕ → Bool) (A : ℕ → Word → Type 0) : Word → Type 0 where

@@ -2,7 +2,7 @@
 -- end. By the word, letter by letter, from the two laws on residuals. Then the same for a word that begins with a prefix: some way
 -- reads the prefix, and the tables go on from where it ends.
 -- Assumes nothing.
-use Prim.Native.Nat.{ℕ, zero, suc, _<_}
+use Prim.Native.Nat.{ℕ, zero, suc, _≤_, _<_}
 use native.Mathlib.Omega.{arith}
 use mathlib.Core.Path.{_≡_, refl, sym, subst}
 use mathlib.Core.Logic.{_⊎_, _↔_}
@@ -15,26 +15,33 @@ use Rattle.kat.specs.Word.{Word, end, at, last}
 use Rattle.kat.specs.Language.{Lang}
 use Rattle.kat.specs.Ring.{Prefix, nothing, then, onto}
 use Rattle.kat.specs.Tables.{occurrences, reads, next, stop, firsts, follows, lasts, null, Reads, after, ends}
+use Rattle.kat.specs.Rest.{Rest}
 use Rattle.kat.specs.Way.{Way}
+use Rattle.kat.specs.Turns.{NonEmpty}
 use Rattle.kat.proofs.Bools.{and-left, and-right, and-both}
 use Rattle.kat.proofs.Sets.{some-in, in-some, filter-in, in-filter, in-upto}
 use Rattle.kat.proofs.Shapes.{longer-is-no-end}
 use Rattle.kat.proofs.Ranges.{reads-range}
-use Rattle.kat.proofs.Residuals.{Rest, Goes, letter, cut-rel, cut-rest}
+use Rattle.kat.proofs.Residuals.{Goes, letter, cut-rel, cut-rest}
 use Rattle.kat.proofs.Letters.{null-rel, letter-rel, last-rest, letter-rest}
 
 -- an occurrence that reads is not 0
 pub reads-positive : (E : Expr) (q r : ℕ) → reads E 0 q r ≡ true → 0 < q
 reads-positive E q r m = let (a, b) = reads-range E 0 q r m in a
 
-rest-of-reads : (E : Expr) (w : Word) (p : ℕ) → 0 < p → Reads E p w → Rest E 0 p w (end (last w))
+-- where a way has read a letter it ends on an occurrence of the expression
+pub way-range : (E : Expr) (p : ℕ) (l : Prefix) (q : ℕ) → NonEmpty l → Way E p l q → (1 ≤ q) × (q ≤ occurrences E)
+way-range E p (then l a r) q h (o, w, n, m) = let (lo, hi) = reads-range E 0 q r m in (omega arith, omega arith)
+
+-- after an occurrence, the tables read what the expression can still read to its end
+pub rest-of-reads : (E : Expr) (w : Word) (p : ℕ) → 0 < p → Reads E p w → Rest E 0 p w (end (last w))
 rest-of-reads E (end a) zero h m = absurd (omega arith)
 rest-of-reads E (end a) (suc p) h m = last-rest E 0 (suc p) (end a) m
 rest-of-reads E (at a r w) zero h m = absurd (omega arith)
 rest-of-reads E (at a r w) (suc p) h (q, n, m, t) =
     letter-rest E 0 (suc p) q a r w (end (last w)) n m (rest-of-reads E w q (reads-positive E q r m) t)
 
-reads-of-rest : (E : Expr) (w : Word) (p : ℕ) → 0 < p → Rest E 0 p w (end (last w)) → Reads E p w
+pub reads-of-rest : (E : Expr) (w : Word) (p : ℕ) → 0 < p → Rest E 0 p w (end (last w)) → Reads E p w
 reads-of-rest E (end a) zero h t = absurd (omega arith)
 reads-of-rest E (end a) (suc p) h t = go (cut-rest E 0 (suc p) (end a) (end a) t)
   where

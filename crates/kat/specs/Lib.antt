@@ -14,7 +14,8 @@ pub mod Way
 -- Rings: rotations and repetitions.
 pub mod Ring
 pub mod Turns
--- What can have been read of a prefix, by the expression alone.
+-- What can have been read of a prefix, and what can still be read after an occurrence, by the expression alone.
+pub mod Rest
 pub mod Read
 -- Tables of pairs, closed.
 pub mod Closure
