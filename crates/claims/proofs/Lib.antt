@@ -6,6 +6,8 @@ pub mod CasesOfBytes
 pub mod AtMostStandings
 -- Small laws.
 pub mod Results
+-- The notation of lines.
+pub mod Fuel
 -- The order of refusals.
 pub mod FirstFault
 pub mod LineOrder

@@ -10,7 +10,8 @@ use Rattle.claims.specs.Tokens.{Token, word, mark, bad, tokens}
 use Rattle.claims.specs.Tree.{Name, TestTree, Tree, includes, empty, irreflexive, Line, testLine, relLine, letLine, neverLine, withinLine, closedLine, assumeEmpty, assumeIrreflexive, claimLine}
 use Rattle.claims.specs.Grammar.{Found, got, wrong, andThen, goesOn, past, closes, saysNext, nameNext, testUnion, unionOf}
 
--- each token is met by at most 8 calls in a row that read none ("The query")
+-- each token is met by at most 8 calls in a row that read none, so more depth changes nothing: `union-depth` and `test-depth` of
+-- `proofs/Fuel.antt` ("The query")
 unfoldable pub enough : List Token → ℕ
 enough ts = 8 * suc (length ts)
 
