@@ -19,7 +19,8 @@ use Rattle.kat.proofs.Bools.{false-of-not, true-not-false}
 use Rattle.claims.specs.Standings.{System}
 use Rattle.claims.specs.Passing.{refuting}
 use Rattle.claims.specs.Search.{Entry}
-use Rattle.claims.specs.Verdicts.{relationsIn, NotAfter, GuardedWord, StandingOf, begun, grown, Within, NoneShorter, AtMost, ProvedBy, RefutedBy, SpentAt}
+use Rattle.claims.specs.Words.{Guarded}
+use Rattle.claims.specs.Verdicts.{relationsIn, NotAfter, StandingOf, begun, grown, Within, NoneShorter, AtMost, ProvedBy, RefutedBy, SpentAt}
 use Rattle.claims.specs.Lawful.{Lawful}
 use Rattle.claims.specs.Orders.{Rising, NotLater, letterOf}
 use Rattle.claims.proofs.Distinct.{distinct-no-longer}
@@ -78,7 +79,7 @@ module _ (S : System) (laws : Lawful S) (c k : ℕ) (seen new : List (Entry S)) 
         (lower-word (f .entry .prefix) (f .atom) b
         (first-lowest (f .atom) (f .others) b (subst Rising (f .finals) (laws .finals-rising (f .entry .standing))) j))
 
-    refuted-first : (v : Word) → GuardedWord S v → size v ≡ size w → refuting S v ≡ true → NotAfter (numbers w) (numbers v)
+    refuted-first : (v : Word) → Guarded (S .live) (S .relations) v → size v ≡ size w → refuting S v ≡ true → NotAfter (numbers w) (numbers v)
     refuted-first v g e h =
         let t : Found S laws k seen new r v = refuting-found S laws k seen new r v g (e ∙ refuted-size) h in
         let a : NotLater (f .entry .prefix) (t .entry .prefix) =
@@ -91,7 +92,7 @@ module _ (S : System) (laws : Lawful S) (c k : ℕ) (seen new : List (Entry S)) 
 
     pub refuted-here : length (seen ++ new) ≤ c → RefutedBy S c w
     refuted-here h = (
-      subst (GuardedWord S) (sym (f .word)) (Prefixes.finals-guarded S laws (f .atom) refuted-stands refuted-final),
+      subst (Guarded (S .live) (S .relations)) (sym (f .word)) (Prefixes.finals-guarded S laws (f .atom) refuted-stands refuted-final),
       ap (refuting S) (f .word) ∙ Prefixes.finals-refute S (f .atom) refuted-stands refuted-final,
       subst (NoneShorter S) (sym refuted-size) (r .behind .none-shorter),
       refuted-first,
@@ -113,7 +114,7 @@ module _ (S : System) (laws : Lawful S) (c k : ℕ) (seen : List (Entry S)) (r :
       nothing-new (S .onward t (letterOf a q))
       (suc m, omega arith, Prefixes.holds-onward S m t (letterOf a q) w (h, j) o)
 
-  refutes-none : (v : Word) → GuardedWord S v → refuting S v ≡ true → ⊥
+  refutes-none : (v : Word) → Guarded (S .live) (S .relations) v → refuting S v ≡ true → ⊥
   refutes-none v g e =
       by-cases (decLt (size v) (suc k)) (λ n. true-not-false e (r .behind .none-shorter v g n)) (λ n. longer (omega arith))
     where

@@ -20,8 +20,7 @@ use Rattle.claims.specs.Fields.{Field, whole, cut, nextField, afterField
 use Rattle.claims.specs.Refusals.{Refusal, sheetField, doesNotPass, Result, ok, refused, refuse, onward}
 use Rattle.claims.specs.SheetReading.{Said, saysProved, saysRefuted, wordOf, pathOf, ringOf, standingIn, standingsIn, wordIn, verdictIn, sheetIn}
 use Rattle.claims.specs.Passing.{passes, refuting, completes}
-use Rattle.claims.specs.Verdicts.{GuardedWord}
-use Rattle.claims.specs.Words.{Refutes}
+use Rattle.claims.specs.Words.{Guarded, Refutes}
 use Rattle.claims.specs.Calls.{Passed, passedProved, passedRefuted, passedOf, checked}
 use Rattle.claims.proofs.Results.{refused-not-ok, provided-some}
 use Rattle.claims.specs.Orders.{Rising}
@@ -151,7 +150,7 @@ word-in-range D (a ∷ r ∷ ns) w e = go (wordOf D ns) refl e (word-in-range D 
 
 -- a word that refutes, with declared relations, is a guarded one
 module _ (S : System) (laws : Lawful S) (D : Decision) (fits : D .relations ≡ S .relations) where
-  completing-is-guarded : (w : Word) (s : S .Standing) → InRange D w → completes S s w ≡ true → GuardedWord S w
+  completing-is-guarded : (w : Word) (s : S .Standing) → InRange D w → completes S s w ≡ true → Guarded (S .live) (S .relations) w
   unfolding completes
   completing-is-guarded (end a) s h e = in-member a (laws .finals-live s a (member-in a (S .finals s) e))
   completing-is-guarded (at a r w) s (h, k, i) e =
@@ -161,7 +160,7 @@ module _ (S : System) (laws : Lawful S) (D : Decision) (fits : D .relations ≡ 
         completing-is-guarded w (S .onward s L) i (and-right (member a (S .live)) (completes S (S .onward s L) w) e),
       )
 
-  refuting-is-guarded : (w : Word) → InRange D w → refuting S w ≡ true → GuardedWord S w
+  refuting-is-guarded : (w : Word) → InRange D w → refuting S w ≡ true → Guarded (S .live) (S .relations) w
   unfolding refuting
   refuting-is-guarded (end a) h e = in-member a (laws .alone-live a (member-in a (S .alone) e))
   refuting-is-guarded (at a r w) (h, k, i) e =
@@ -206,14 +205,14 @@ module _ (D : Decision) (rising : Rising (D .live)) where
       go false k f =
           let (w, r, p) = passed-refuted (pathSystem D) (sheetIn (pathSystem D) (pathOf D) (wordOf D) bs) f in
           let (ns, n) = word-was-read (pathSystem D) (pathOf D) (wordOf D) bs w r in
-          let g : GuardedWord (pathSystem D) w =
+          let g : Guarded (D .live) (D .relations) w =
           refuting-is-guarded (pathSystem D) (path-lawful D rising) D refl w (word-in-range D ns w n) p
           in
           (w, subst (λ b. SaysRefuted D b bs w) (sym k) r, refutes-path D k w .1 (g, p))
       go true k f =
           let (w, r, p) = passed-refuted (ringSystem D) (sheetIn (ringSystem D) (ringOf D) (wordOf D) bs) f in
           let (ns, n) = word-was-read (ringSystem D) (ringOf D) (wordOf D) bs w r in
-          let g : GuardedWord (ringSystem D) w =
+          let g : Guarded (D .live) (D .relations) w =
           refuting-is-guarded (ringSystem D) (ring-lawful D rising) D refl w (word-in-range D ns w n) p
           in
           (w, subst (λ b. SaysRefuted D b bs w) (sym k) r, refutes-ring D k w .1 (g, p))

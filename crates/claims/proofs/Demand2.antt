@@ -21,8 +21,8 @@ use Rattle.claims.specs.Search.{proved, refuted, spent, verdict}
 use Rattle.claims.specs.SheetBytes.{pathBytes, ringBytes}
 use Rattle.claims.specs.Passing.{refuting}
 use Rattle.claims.specs.Refusals.{spentAllowance, Refusal, Result, ok, refused, refuse}
-use Rattle.claims.specs.Words.{Refutes}
-use Rattle.claims.specs.Verdicts.{GuardedWord, ProvedBy, RefutedBy, SpentAt, Answered, ExactlyOne}
+use Rattle.claims.specs.Words.{Guarded, Refutes}
+use Rattle.claims.specs.Verdicts.{ProvedBy, RefutedBy, SpentAt, Answered, ExactlyOne}
 use Rattle.claims.specs.Orders.{Rising}
 use Rattle.claims.specs.Lawful.{Lawful}
 use Rattle.claims.specs.Calls.{Answer, provedWith, refutedBy, Given, answerOf, searched, Asked, asked, Lent, Done, search-call}
@@ -48,8 +48,8 @@ record Settled (D : Decision) (S : System) (allowance : ℕ) (r : Result Answer)
 
 -- for any lawful kind of standing whose refuting words are those of the languages
 module _ (D : Decision) (S : System) (laws : Lawful S) (allowance : ℕ)
-    (by-words : (w : Word) → Refutes D w ↔ (GuardedWord S w × (refuting S w ≡ true))) where
-  none-refuting : (v : Word) → GuardedWord S v → (Refutes D v → ⊥) → refuting S v ≡ false
+    (by-words : (w : Word) → Refutes D w ↔ (Guarded (S .live) (S .relations) w × (refuting S w ≡ true))) where
+  none-refuting : (v : Word) → Guarded (S .live) (S .relations) v → (Refutes D v → ⊥) → refuting S v ≡ false
   none-refuting v g none = ⊎-elim (λ t. absurd (none (by-words v .1 (g, t)))) (λ f. f) (bool-cases (refuting S v))
 
   -- what the languages say, as a plain statement

@@ -94,18 +94,18 @@ module _ (q : Query) where
   kept-rest (suc j) (end a) k = tt
   kept-rest (suc j) (at a r w) (f, k) = kept-rest j w k
 
-guarded-rest : (D : Decision) (j : ℕ) (w : Word) → Guarded D w → Guarded D (rest j w)
+guarded-rest : (D : Decision) (j : ℕ) (w : Word) → Guarded (D .live) (D .relations) w → Guarded (D .live) (D .relations) (rest j w)
 guarded-rest D zero w g = g
 guarded-rest D (suc j) (end a) g = g
 guarded-rest D (suc j) (at a r w) (h, k, g) = guarded-rest D j w g
 
-guarded-first : (D : Decision) (w : Word) → Guarded D w → member (first w) (D .live) ≡ true
+guarded-first : (D : Decision) (w : Word) → Guarded (D .live) (D .relations) w → member (first w) (D .live) ≡ true
 guarded-first D (end a) g = g
 guarded-first D (at a r w) (h, k, g) = h
 
 -- the plain graph of a guarded word of a side
 pub laid-plain : (q : Query) (D : Decision) → D .live ≡ live q → D .relations ≡ length (relations q) → (e : Tree) (w : Word)
-    → Guarded D w → Lang (side q e) w → (G : Finite) (place : ℕ → ℕ) → Laid G w place → Plain q G
+    → Guarded (D .live) (D .relations) w → Lang (side q e) w → (G : Finite) (place : ℕ → ℕ) → Laid G w place → Plain q G
 laid-plain q D live-is relations-are e w g m G place p =
     record { live-atoms = live-atom; declared = declared-letter; limited = limited-letter }
   where
@@ -119,7 +119,7 @@ laid-plain q D live-is relations-are e w g m G place p =
     declared-letter : (r : ℕ) (x y : graph G .Event) → graph G .edge r x y → r < length (relations q)
     declared-letter r x y h =
         let (j, b, i, k, l) = p .letter-of r (x .0) (y .0) h in
-        let (s, t, u) = subst (Guarded D) l (guarded-rest D j w g) in
+        let (s, t, u) = subst (Guarded (D .live) (D .relations)) l (guarded-rest D j w g) in
         subst (λ n. r < n) relations-are t
 
     limited-letter : (n : Name) (x y : graph G .Event) → graph G .edge (indexOf n (relations q)) x y

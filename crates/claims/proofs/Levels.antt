@@ -20,7 +20,8 @@ use Rattle.kat.proofs.Bools.{true-not-false, false-of-not}
 use Rattle.claims.specs.Standings.{System, Letter, letters}
 use Rattle.claims.specs.Passing.{refuting}
 use Rattle.claims.specs.Search.{Entry, firstLevel, nextLevel, fresh, completed}
-use Rattle.claims.specs.Verdicts.{relationsIn, Distinct, GuardedWord, StandingOf, begun, grown, Holds, Within, NoneShorter, FreshAt}
+use Rattle.claims.specs.Words.{Guarded}
+use Rattle.claims.specs.Verdicts.{relationsIn, Distinct, StandingOf, begun, grown, Holds, Within, NoneShorter, FreshAt}
 use Rattle.claims.specs.Lawful.{Lawful}
 use Rattle.claims.specs.Orders.{Pairwise, letterOf, NotLater}
 use Rattle.claims.proofs.Distinct.{distinct-append, distinct-apart, distinct-second, in-long}
@@ -169,7 +170,7 @@ module _ (S : System) (laws : Lawful S) where
       pub not-later : NotLater (entry .prefix) (cut .l)
       pub final : In (cut .b) (S .finals (cut .s))
 
-    pub refuting-found : (v : Word) → GuardedWord S v → size v ≡ suc k → refuting S v ≡ true → Found v
+    pub refuting-found : (v : Word) → Guarded (S .live) (S .relations) v → size v ≡ suc k → refuting S v ≡ true → Found v
     refuting-found v g e h =
         go (r .least (record { standing = c .s; prefix = c .l }) (c .standing, Prefixes.cut-size S v c ∙ e)
         (Prefixes.completing-possible S laws (c .s) (c .b) f))

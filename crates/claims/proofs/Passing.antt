@@ -14,7 +14,7 @@ use Rattle.kat.proofs.Bools.{or-cases, or-left, or-right, and-left, and-right, 
 use Rattle.claims.specs.Standings.{System, Letter, letters}
 use Rattle.claims.specs.SheetReading.{saysProved}
 use Rattle.claims.specs.Passing.{completes, refuting, listed, passes}
-use Rattle.claims.specs.Verdicts.{GuardedWord}
+use Rattle.claims.specs.Words.{Guarded}
 use Rattle.claims.specs.Lawful.{Lawful}
 use Rattle.claims.proofs.Letters.{Fits, in-letters, letters-in}
 use Rattle.claims.specs.Orders.{letterOf}
@@ -90,18 +90,18 @@ module _ (S : System) (laws : Lawful S) (ss : List (S .Standing)) where
     listed-onward s l (inl d) h = inl (laws .dead-stays s l d)
     listed-onward s l (inr i) h = c .goes-on s l i h
 
-    completed-none : (s : S .Standing) (w : Word) → Listed S laws ss s → GuardedWord S w → completes S s w ≡ false
+    completed-none : (s : S .Standing) (w : Word) → Listed S laws ss s → Guarded (S .live) (S .relations) w → completes S s w ≡ false
     unfolding completes
     completed-none s (end a) h g = rw (listed-finals s h) refl
     completed-none s (at a r w) h (k, q, g) =
         rw k (completed-none (S .onward s (letterOf a r)) w (listed-onward s (letterOf a r) h (k, q)) g)
 
-    closed-refutes-none : (v : Word) → GuardedWord S v → refuting S v ≡ false
+    closed-refutes-none : (v : Word) → Guarded (S .live) (S .relations) v → refuting S v ≡ false
     unfolding refuting
     closed-refutes-none (end a) g = rw (c .none-alone) refl
     closed-refutes-none (at a r w) (k, q, g) =
         rw k (completed-none (S .begin (letterOf a r)) w (c .begins (letterOf a r) (k, q)) g)
 
   -- a proved sheet that passes: no word refutes
-  pub passing-proved-refutes-none : passes S (saysProved ss) ≡ true → (v : Word) → GuardedWord S v → refuting S v ≡ false
+  pub passing-proved-refutes-none : passes S (saysProved ss) ≡ true → (v : Word) → Guarded (S .live) (S .relations) v → refuting S v ≡ false
   passing-proved-refutes-none e v g = closed-refutes-none (passes-closed e) v g

@@ -14,7 +14,8 @@ use Rattle.kat.proofs.Sets.{member-in, in-member}
 use Rattle.kat.proofs.Bools.{bool-cases, true-not-false}
 use Rattle.claims.specs.Standings.{System, Letter}
 use Rattle.claims.specs.Passing.{completes, refuting}
-use Rattle.claims.specs.Verdicts.{relationsIn, GuardedWord, StandingOf, begun, grown, Holds}
+use Rattle.claims.specs.Words.{Guarded}
+use Rattle.claims.specs.Verdicts.{relationsIn, StandingOf, begun, grown, Holds}
 use Rattle.claims.specs.Lawful.{Lawful}
 use Rattle.claims.proofs.Letters.{Fits}
 use Rattle.claims.specs.Orders.{letterOf}
@@ -34,7 +35,8 @@ module _ (S : System) where
   standing-one (grown p h k) (begun h′ k′) = elim p [ ]
   standing-one (grown {a = a} {r = r} p h k) (grown q h′ k′) = ap (λ s. S .onward s (letterOf a r)) (standing-one p q)
 
-  pub guarded-onto : {l : Prefix} {s : S .Standing} (w : Word) → StandingOf S l s → GuardedWord S w → GuardedWord S (onto l w)
+  pub guarded-onto : {l : Prefix} {s : S .Standing} (w : Word) → StandingOf S l s → Guarded (S .live) (S .relations) w
+      → Guarded (S .live) (S .relations) (onto l w)
   guarded-onto w (begun h k) g = (h, k, g)
   guarded-onto w (grown {a = a} {r = r} p h k) g = guarded-onto (at a r w) p (h, k, g)
 
@@ -52,12 +54,12 @@ pub record Cut (S : System) (v : Word) : Type 0 where
   pub standing : StandingOf S l s
 
 module _ (S : System) where
-  cut-after : (l : Prefix) (s : S .Standing) (w : Word) → StandingOf S l s → GuardedWord S w → Cut S (onto l w)
+  cut-after : (l : Prefix) (s : S .Standing) (w : Word) → StandingOf S l s → Guarded (S .live) (S .relations) w → Cut S (onto l w)
   cut-after l s (end b) p g = record { l = l; s = s; b = b; word = refl; standing = p }
   cut-after l s (at a r w) p (h, k, g) =
       cut-after (then l a r) (S .onward s (letterOf a r)) w (grown p h k) g
 
-  pub cut-word : (v : Word) → GuardedWord S v → 1 ≤ size v → Cut S v
+  pub cut-word : (v : Word) → Guarded (S .live) (S .relations) v → 1 ≤ size v → Cut S v
   cut-word (end a) g n = absurd (omega arith)
   cut-word (at a r w) (h, k, g) n = cut-after (then nothing a r) (S .begin (letterOf a r)) w (begun h k) g
 
@@ -76,7 +78,8 @@ module _ (S : System) where
   finals-refute b p i = refuting-onto S (end b) p ∙ in-member b i
 
 module _ (S : System) (laws : Lawful S) where
-  pub finals-guarded : {l : Prefix} {s : S .Standing} (b : ℕ) → StandingOf S l s → In b (S .finals s) → GuardedWord S (onto l (end b))
+  pub finals-guarded : {l : Prefix} {s : S .Standing} (b : ℕ) → StandingOf S l s → In b (S .finals s)
+      → Guarded (S .live) (S .relations) (onto l (end b))
   finals-guarded {s = s} b p i = guarded-onto S (end b) p (in-member b (laws .finals-live s b i))
 
   -- a standing that completes a word, or from which another is possible, is possible

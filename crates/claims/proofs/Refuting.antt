@@ -19,7 +19,7 @@ use Rattle.kat.proofs.Words.{first-onto, last-onto, body-onto, atom-is-word, co
 use Rattle.claims.specs.Sides.{Decision}
 use Rattle.claims.specs.Standings.{System, Letter, Path, Ring, alone, covered, pathSystem, pathFinals, ringSystem, ringFinals}
 use Rattle.claims.specs.Passing.{refuting, completes}
-use Rattle.claims.specs.Verdicts.{GuardedWord, StandingOf, begun, grown}
+use Rattle.claims.specs.Verdicts.{StandingOf, begun, grown}
 use Rattle.claims.specs.Words.{Guarded, Uncovered, Refutes}
 use Rattle.claims.proofs.PathStandings.{ends-is-language, path-completes}
 use Rattle.claims.proofs.RingStandings.{ring-reads}
@@ -30,7 +30,7 @@ use Rattle.claims.proofs.RingCovered.{covered-is-said}
 module _ (S : System) (Bad : Word → Type 0)
     (complete : (l : Prefix) (s : S .Standing) (a : ℕ) → StandingOf S l s → In a (S .finals s) ↔ (In a (S .live) × Bad (onto l (end a))))
     (single : (a : ℕ) → In a (S .alone) ↔ (In a (S .live) × Bad (end a))) where
-  completes-is-bad : (w : Word) (l : Prefix) (s : S .Standing) → StandingOf S l s → GuardedWord S w
+  completes-is-bad : (w : Word) (l : Prefix) (s : S .Standing) → StandingOf S l s → Guarded (S .live) (S .relations) w
       → (completes S s w ≡ true) ↔ Bad (onto l w)
   unfolding completes
   completes-is-bad (end a) l s t g = (
@@ -44,7 +44,7 @@ module _ (S : System) (Bad : Word → Type 0)
       in
       ((λ e. ih .0 (and-right (member a (S .live)) (completes S (S .onward s L) w) e)), (λ b. and-both g (ih .1 b)))
 
-  pub refuting-is-bad : (w : Word) → GuardedWord S w → (refuting S w ≡ true) ↔ Bad w
+  pub refuting-is-bad : (w : Word) → Guarded (S .live) (S .relations) w → (refuting S w ≡ true) ↔ Bad w
   unfolding refuting
   refuting-is-bad (end a) g = (
     (λ e. let (i, b) = single a .0 (member-in a (S .alone) e) in b),
@@ -90,7 +90,7 @@ module _ (D : Decision) where
       ((λ i. let (j, w, n) = path-completes D a t .0 i in (j, (w, n))), (λ (j, (w, n)). path-completes D a t .1 (j, w, n)))
 
   -- path claims
-  pub path-refuting : (w : Word) → GuardedWord (pathSystem D) w
+  pub path-refuting : (w : Word) → Guarded (D .live) (D .relations) w
       → (refuting (pathSystem D) w ≡ true) ↔ (Lang (D .left) w × Uncovered false (D .right) w)
   path-refuting w g = refuting-is-bad (pathSystem D) PathBad path-complete path-single w g
 
@@ -164,34 +164,23 @@ module _ (D : Decision) where
       )
 
   -- ring claims
-  pub ring-refuting : (w : Word) → GuardedWord (ringSystem D) w
+  pub ring-refuting : (w : Word) → Guarded (D .live) (D .relations) w
       → (refuting (ringSystem D) w ≡ true) ↔ (Lang (D .left) w × Uncovered true (D .right) w)
   ring-refuting w g = refuting-is-bad (ringSystem D) RingBad ring-complete ring-single w g
 
-  -- a guarded word of the decision is one of its system
-  pub guarded-path : (w : Word) → Guarded D w ↔ GuardedWord (pathSystem D) w
-  guarded-path (end a) = ((λ h. h), (λ h. h))
-  guarded-path (at a r w) = ((λ (h, k, g). (h, k, guarded-path w .0 g)), (λ (h, k, g). (h, k, guarded-path w .1 g)))
-
-  pub guarded-ring : (w : Word) → Guarded D w ↔ GuardedWord (ringSystem D) w
-  guarded-ring (end a) = ((λ h. h), (λ h. h))
-  guarded-ring (at a r w) = ((λ (h, k, g). (h, k, guarded-ring w .0 g)), (λ (h, k, g). (h, k, guarded-ring w .1 g)))
-
   -- what refutes by the languages is what the search and the check call refuting
-  pub refutes-path : D .ring ≡ false → (w : Word) → Refutes D w ↔ (GuardedWord (pathSystem D) w × (refuting (pathSystem D) w ≡ true))
+  pub refutes-path : D .ring ≡ false → (w : Word) → Refutes D w ↔ (Guarded (D .live) (D .relations) w × (refuting (pathSystem D) w ≡ true))
   refutes-path k w = (
     (λ (g, l, u).
-        let h : GuardedWord (pathSystem D) w = guarded-path w .0 g in
-        (h, path-refuting w h .1 (l, subst (λ b. Uncovered b (D .right) w) k u))),
-    (λ (h, e).
-        let (l, u) = path-refuting w h .0 e in (guarded-path w .1 h, l, subst (λ b. Uncovered b (D .right) w) (sym k) u)),
+        (g, path-refuting w g .1 (l, subst (λ b. Uncovered b (D .right) w) k u))),
+    (λ (g, e).
+        let (l, u) = path-refuting w g .0 e in (g, l, subst (λ b. Uncovered b (D .right) w) (sym k) u)),
   )
 
-  pub refutes-ring : D .ring ≡ true → (w : Word) → Refutes D w ↔ (GuardedWord (ringSystem D) w × (refuting (ringSystem D) w ≡ true))
+  pub refutes-ring : D .ring ≡ true → (w : Word) → Refutes D w ↔ (Guarded (D .live) (D .relations) w × (refuting (ringSystem D) w ≡ true))
   refutes-ring k w = (
     (λ (g, l, u).
-        let h : GuardedWord (ringSystem D) w = guarded-ring w .0 g in
-        (h, ring-refuting w h .1 (l, subst (λ b. Uncovered b (D .right) w) k u))),
-    (λ (h, e).
-        let (l, u) = ring-refuting w h .0 e in (guarded-ring w .1 h, l, subst (λ b. Uncovered b (D .right) w) (sym k) u)),
+        (g, ring-refuting w g .1 (l, subst (λ b. Uncovered b (D .right) w) k u))),
+    (λ (g, e).
+        let (l, u) = ring-refuting w g .0 e in (g, l, subst (λ b. Uncovered b (D .right) w) (sym k) u)),
   )

@@ -13,7 +13,8 @@ use Rattle.claims.specs.Search.{proved, refuted, verdict}
 use Rattle.claims.specs.SheetBytes.{pathBytes, ringBytes, sheetBytes}
 use Rattle.claims.specs.SheetReading.{saysProved, saysRefuted, pathOf, ringOf, wordOf, sheetIn}
 use Rattle.claims.specs.Refusals.{ok}
-use Rattle.claims.specs.Verdicts.{GuardedWord, ProvedBy}
+use Rattle.claims.specs.Words.{Guarded}
+use Rattle.claims.specs.Verdicts.{ProvedBy}
 use Rattle.claims.proofs.StandingBytes.{pathBytes-length, path-read-back, ringBytes-length, ring-read-back}
 use Rattle.claims.proofs.StandingShapes.{path-standings-shaped, ring-standings-shaped}
 use Rattle.claims.specs.Orders.{Rising}
@@ -35,7 +36,7 @@ module _ (D : Decision) (rising : Rising (D .live)) (allowance : ℕ) (within : 
       proved-read-back (pathSystem D) pathBytes (pathOf D) (wordOf D) ss (omega (arith, p .3)) (path-contents ss p)
       (distinct-none-repeated (pathSystem D) (path-lawful D rising .equal-sound) ss (p .1))
 
-  pub path-refuted-returns : (w : Word) → GuardedWord (pathSystem D) w → verdict (pathSystem D) allowance ≡ refuted w
+  pub path-refuted-returns : (w : Word) → Guarded (D .live) (D .relations) w → verdict (pathSystem D) allowance ≡ refuted w
       → sheetIn (pathSystem D) (pathOf D) (wordOf D) (sheetBytes (pathSystem D) pathBytes (refuted w)) ≡ ok (saysRefuted w)
   path-refuted-returns w g v =
       refuted-read-back (pathSystem D) pathBytes (pathOf D) (wordOf D) w
@@ -54,7 +55,7 @@ module _ (D : Decision) (rising : Rising (D .live)) (allowance : ℕ) (within : 
       proved-read-back (ringSystem D) ringBytes (ringOf D) (wordOf D) ss (omega (arith, p .3)) (ring-contents ss p)
       (distinct-none-repeated (ringSystem D) (ring-lawful D rising .equal-sound) ss (p .1))
 
-  pub ring-refuted-returns : (w : Word) → GuardedWord (ringSystem D) w → verdict (ringSystem D) allowance ≡ refuted w
+  pub ring-refuted-returns : (w : Word) → Guarded (D .live) (D .relations) w → verdict (ringSystem D) allowance ≡ refuted w
       → sheetIn (ringSystem D) (ringOf D) (wordOf D) (sheetBytes (ringSystem D) ringBytes (refuted w)) ≡ ok (saysRefuted w)
   ring-refuted-returns w g v =
       refuted-read-back (ringSystem D) ringBytes (ringOf D) (wordOf D) w

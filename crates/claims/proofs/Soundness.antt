@@ -9,6 +9,7 @@ use mathlib.Core.Logic.{⊎-elim, _↔_}
 use mathlib.Core.Logic._⊎_.{inl, inr}
 use mathlib.Core.Bool.{Bool, true, false, not as flip}
 use mathlib.Core.List.{List, [], _∷_}
+use lib.ListN.{length}
 use Rattle.kat.specs.Expr.{Expr, alt, none as nowhere}
 use Rattle.kat.specs.Lists.{In, here, there, member, some}
 use Rattle.kat.specs.Graph.{Graph, Rel}
@@ -25,7 +26,7 @@ use Rattle.kat.proofs.Decided.{language-decided}
 use Rattle.kat.proofs.Turns.{join-nothing, start-join}
 use Rattle.kat.proofs.Traces.{Trace, trace-join, trace-of-walk, walk-of-trace, trace-start, trace-times}
 use Rattle.claims.specs.Tree.{TestTree, Tree, Claim, includes, empty, irreflexive, Line, neverLine, withinLine, closedLine, assumeEmpty, assumeIrreflexive}
-use Rattle.claims.specs.Query.{Query, each, tests, holds, atoms, removed, live, nevers, assumedEmpty, assumedIrreflexive}
+use Rattle.claims.specs.Query.{Query, each, tests, relations, holds, atoms, removed, live, nevers, assumedEmpty, assumedIrreflexive}
 use Rattle.claims.specs.Sides.{side, unionAll, a0, a1, zero, somewhere, decision, decisionOf}
 use Rattle.claims.specs.Words.{Guarded, Refutes}
 use Rattle.claims.specs.Meaning.{Execution, Related, MeetsAll, ClaimHolds}
@@ -103,9 +104,9 @@ module _ (G : Graph) where
           meets (neverLine t) (subst (λ z. In z q) (never-line t l m) j) x h))))
 
       -- the word of a walk is a guarded word
-      walk-is-guarded : (k : Bool) (L R : Expr) {x y : G .Event} (p : Walk G x y) → Guarded (decisionOf q k L R) (wordOf G p)
-      walk-is-guarded k L R (stay x) = event-is-live x
-      walk-is-guarded k L R (go {x = x} {y = y} r e p) = (event-is-live x, execution .1 r x y e, walk-is-guarded k L R p)
+      walk-is-guarded : {x y : G .Event} (p : Walk G x y) → Guarded (live q) (length (relations q)) (wordOf G p)
+      walk-is-guarded (stay x) = event-is-live x
+      walk-is-guarded (go {x = x} {y = y} r e p) = (event-is-live x, execution .1 r x y e, walk-is-guarded p)
 
       -- where no word refutes, related events are related by y
       path-holds : (L Y : Expr) → ((w : Word) → Refutes (decisionOf q false L (alt Y (somewhere (alt (a0 q) (zero q))))) w → ⊥)
@@ -115,7 +116,7 @@ module _ (G : Graph) where
           let (p, l) = related-by-words G L x y .0 h in
           ⊎-elim
           (λ k. right-of-path Y x y (related-by-words G R x y .1 (p, k)))
-          (λ k. absurd (none (wordOf G p) (walk-is-guarded false L R p, l, k)))
+          (λ k. absurd (none (wordOf G p) (walk-is-guarded p, l, k)))
           (language-decided R (wordOf G p))
 
       -- a covered ring of a walk that comes back is impossible
@@ -140,10 +141,9 @@ module _ (G : Graph) where
       ring-holds : (L : Expr) → ((w : Word) → Refutes (decisionOf q true L (alt (a1 q) (somewhere (a0 q)))) w → ⊥)
           → (x : G .Event) → Rel G L x x → ⊥
       ring-holds L none x h =
-          let R : Expr = alt (a1 q) (somewhere (a0 q)) in
           let (p, l) = related-by-words G L x x .0 h in
           none (wordOf G p)
-          (walk-is-guarded true L R p, l, (first-of-walk G p ∙ sym (last-of-walk G p), ring-not-covered x p))
+          (walk-is-guarded p, l, (first-of-walk G p ∙ sym (last-of-walk G p), ring-not-covered x p))
 
 -- where no word refutes, the claim holds in every graph that meets the query's lines
 pub holds-in-every-graph : (q : Query) (c : Claim) → ((w : Word) → Refutes (decision q c) w → ⊥)

@@ -16,8 +16,8 @@ use Rattle.claims.specs.Search.{Verdict, proved, refuted, spent, verdict
 use Rattle.claims.specs.SheetBytes.{sheetBytes, pathBytes, ringBytes}
 use Rattle.claims.specs.Passing.{refuting}
 use Rattle.claims.specs.Refusals.{Refusal, Result, ok, refused}
-use Rattle.claims.specs.Words.{Refutes}
-use Rattle.claims.specs.Verdicts.{GuardedWord, ProvedBy, RefutedBy, SpentAt}
+use Rattle.claims.specs.Words.{Guarded, Refutes}
+use Rattle.claims.specs.Verdicts.{ProvedBy, RefutedBy, SpentAt}
 use Rattle.claims.specs.Calls.{provedWith, refutedBy, Given, answerOf, searched}
 use Rattle.claims.proofs.Results.{refused-not-ok}
 use Rattle.claims.specs.Orders.{Rising}
@@ -29,7 +29,7 @@ use Rattle.claims.specs.Demands.{systemOf, MeansProved, MeansRefuted, Me
 
 -- for any lawful kind of standing whose refuting words are those of the languages
 module _ (D : Decision) (S : System) (laws : Lawful S) (allowance : ℕ)
-    (by-words : (w : Word) → Refutes D w ↔ (GuardedWord S w × (refuting S w ≡ true))) where
+    (by-words : (w : Word) → Refutes D w ↔ (Guarded (S .live) (S .relations) w × (refuting S w ≡ true))) where
   -- each plain statement, said by the languages
   pub proved-by-words : (ss : List (S .Standing)) → ProvedBy S allowance ss → MeansProved D S allowance (length ss)
   proved-by-words ss p =

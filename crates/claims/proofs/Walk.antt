@@ -19,7 +19,8 @@ use Rattle.kat.proofs.Sets.{member-in, in-member}
 use Rattle.claims.specs.Standings.{System, letters}
 use Rattle.claims.specs.Passing.{refuting}
 use Rattle.claims.specs.Search.{Entry, Verdict, proved, refuted, spent, firstLevel, nextLevel, fresh, completed, levels, verdictWithin, verdict}
-use Rattle.claims.specs.Verdicts.{NotAfter, GuardedWord, Within, ProvedBy, RefutedBy, SpentAt}
+use Rattle.claims.specs.Words.{Guarded}
+use Rattle.claims.specs.Verdicts.{NotAfter, Within, ProvedBy, RefutedBy, SpentAt}
 use Rattle.claims.specs.Lawful.{Lawful}
 use Rattle.claims.specs.Orders.{Rising, InOrder}
 use Rattle.claims.proofs.Fresh.{standings}
@@ -135,7 +136,7 @@ module _ (S : System) (laws : Lawful S) (c : ℕ) where
         (λ ss d w. none-within ss w),
       )
     where
-      alone-first : (v : Word) → GuardedWord S v → size v ≡ 0 → refuting S v ≡ true → NotAfter (a ∷ []) (numbers v)
+      alone-first : (v : Word) → Guarded (S .live) (S .relations) v → size v ≡ 0 → refuting S v ≡ true → NotAfter (a ∷ []) (numbers v)
       alone-first (end b) g n h =
           ⊎-elim (λ q. inr (q, tt)) (λ q. inl q)
           (eq-or-lt-of-le (first-lowest a as′ b (subst Rising e (laws .alone-rising)) (subst (In b) e (member-in b (S .alone) h))))

@@ -12,7 +12,7 @@ use Rattle.kat.specs.Word.{Word, end, at, size, numbers}
 use Rattle.claims.specs.Sides.{Decision}
 use Rattle.claims.specs.Standings.{System}
 use Rattle.claims.specs.SheetReading.{wordOf}
-use Rattle.claims.specs.Verdicts.{GuardedWord}
+use Rattle.claims.specs.Words.{Guarded}
 
 -- each atom and each relation is in its range
 abbrev pub InRange : Decision → Word → Type 0
@@ -31,6 +31,6 @@ word-read-back D (at a r w) (h, k, i) =
 
 -- a guarded word is in range where live atoms are
 pub guarded-in-range : (S : System) (D : Decision) → ((a : ℕ) → member a (S .live) ≡ true → a < D .atoms) → S .relations ≤ D .relations
-    → (w : Word) → GuardedWord S w → InRange D w
+    → (w : Word) → Guarded (S .live) (S .relations) w → InRange D w
 guarded-in-range S D live rel (end a) h = live a h
 guarded-in-range S D live rel (at a r w) (h, k, i) = (live a h, omega arith, guarded-in-range S D live rel w i)

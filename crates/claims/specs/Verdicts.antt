@@ -8,8 +8,9 @@ use mathlib.Core.List.{List, [], _∷_}
 use mathlib.Core.Logic.{_⊎_, _↔_}
 use lib.ListN.{length}
 use Rattle.kat.specs.Lists.{member, In}
-use Rattle.kat.specs.Word.{Word, end, at, size, numbers}
+use Rattle.kat.specs.Word.{Word, size, numbers}
 use Rattle.kat.specs.Ring.{Prefix, nothing, then}
+use Rattle.claims.specs.Words.{Guarded}
 use Rattle.claims.specs.Standings.{System}
 use Rattle.claims.specs.Passing.{refuting}
 
@@ -30,11 +31,6 @@ NotAfter (x ∷ xs) [] = ⊥
 NotAfter (x ∷ xs) (y ∷ ys) = (x < y) ⊎ ((x ≡ y) × NotAfter xs ys)
 
 module _ (S : System) where
-  -- a word of the query: no removed atom, and declared relations ("Standings")
-  abbrev pub GuardedWord : Word → Type 0
-  GuardedWord (end a) = member a (S .live) ≡ true
-  GuardedWord (at a r w) = (member a (S .live) ≡ true) × (r < S .relations) × GuardedWord w
-
   -- s is the standing of the prefix l: each of its atoms is live and each of its relations declared ("Standings")
   pub data StandingOf : Prefix → S .Standing → Type 0 where
     begun : {a r : ℕ} → member a (S .live) ≡ true → r < S .relations
@@ -52,7 +48,7 @@ module _ (S : System) where
 
   -- no word shorter than n refutes ("Standings")
   abbrev pub NoneShorter : ℕ → Type 0
-  NoneShorter n = (v : Word) → GuardedWord v → size v < n → refuting S v ≡ false
+  NoneShorter n = (v : Word) → Guarded (S .live) (S .relations) v → size v < n → refuting S v ≡ false
 
   -- levels 1 to n hold at most, or more than, so many distinct standings ("Standings")
   abbrev pub AtMost : ℕ → ℕ → Type 0
@@ -69,7 +65,7 @@ module _ (S : System) where
   -- proved: no word of any length refutes, and the list has each standing of a prefix once, within the allowance ("Standings")
   abbrev pub ProvedBy : ℕ → List (S .Standing) → Type 0
   ProvedBy allowance ss =
-      ((v : Word) → GuardedWord v → refuting S v ≡ false)
+      ((v : Word) → Guarded (S .live) (S .relations) v → refuting S v ≡ false)
       × Distinct ss
       × ((s : S .Standing) → In s ss ↔ ((n : ℕ) × Holds n s))
       × (length ss ≤ allowance)
@@ -78,10 +74,10 @@ module _ (S : System) where
   -- allowance ("Standings")
   abbrev pub RefutedBy : ℕ → Word → Type 0
   RefutedBy allowance w =
-      GuardedWord w
+      Guarded (S .live) (S .relations) w
       × (refuting S w ≡ true)
       × NoneShorter (size w)
-      × ((v : Word) → GuardedWord v → size v ≡ size w → refuting S v ≡ true → NotAfter (numbers w) (numbers v))
+      × ((v : Word) → Guarded (S .live) (S .relations) v → size v ≡ size w → refuting S v ≡ true → NotAfter (numbers w) (numbers v))
       × AtMost (size w) allowance
 
   -- spent: at some n levels 1 to n hold more than the allowance, no word shorter than n refutes, and every level from 1 to n - 1 has
