@@ -1,0 +1,3 @@
+-- Laws of bytes put into memory, and of digits.
+pub mod Putting
+pub mod Decimals

@@ -1,0 +1,24 @@
+-- `print_line::put_byte` meets its contract: one byte where there is room, and else nothing.
+-- Assumes nothing.
+use borrow.Author.Needs.{needs}
+use Rattle.print_line.proofs.Putting.{puts-one, puts-none}
+use Rattle.print_line.proofs.put_byte.Statement.{statement}
+use Rattle.print_line.proofs.put_byte.Tie as tie
+
+slice-write-out : tie.Need-slice-write-out
+slice-write-out c = search needs
+
+add-result : tie.Need-add-result
+add-result c = search needs
+
+same-length : tie.Need-same-length
+same-length c = search needs
+
+returns : tie.Need-returns
+returns c = puts-one _ _ _ (c .if1 .taken)
+
+returns-2 : tie.Need-returns-2
+returns-2 c = puts-none _ _ _ (c .before .pre) (c .if1 .left)
+
+pub put-byte-spec : {M : Type 1} → statement M
+put-byte-spec = tie.close (tie.spec slice-write-out add-result same-length returns returns-2)

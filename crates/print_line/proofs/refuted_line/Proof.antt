@@ -1,0 +1,36 @@
+-- `print_line::refuted_line` meets its contract. One piece after the other.
+-- Assumes nothing.
+use Rattle.print_line.proofs.Putting.{puts-append}
+use borrow.Author.Needs.{needs}
+use Rattle.print_line.proofs.refuted_line.Statement.{statement}
+use Rattle.print_line.proofs.refuted_line.Tie as tie
+
+slice-aggregate-put-text : tie.Need-slice-aggregate-put-text
+slice-aggregate-put-text c = search needs
+
+put-text-requires : tie.Need-put-text-requires
+put-text-requires c κs = search needs
+
+put-numbers-requires : tie.Need-put-numbers-requires
+put-numbers-requires c κs = search needs
+
+put-byte-requires : tie.Need-put-byte-requires
+put-byte-requires c κs = search needs
+
+same-length : tie.Need-same-length
+same-length c = search needs
+
+returns : tie.Need-returns
+returns c =
+    puts-append (c .before .before .before .before .before .before .before .before .before .before .put-text .ensures) (puts-append (c .before .before .before .before .before .before .put-numbers .ensures) (c .before .before .put-byte .ensures))
+
+pub refuted-line-spec : {M : Type 1} → statement M
+refuted-line-spec =
+    tie.close
+    (tie.spec
+    slice-aggregate-put-text
+    put-text-requires
+    put-numbers-requires
+    put-byte-requires
+    same-length
+    returns)

@@ -1,0 +1,2 @@
+-- Bytes put into memory, one after the other.
+pub mod Puts
