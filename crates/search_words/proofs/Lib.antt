@@ -1,8 +1,13 @@
 -- The verdict over chosen letters, and of standings that show others.
 pub mod Over
 pub mod Shows
--- The table of a side shows its expression.
+pub mod GoodStandings
+-- The table of a side shows its expression, and a shape a decision.
 pub mod Tables
+pub mod ShapeOf
+-- Words show the standings of the definition.
+pub mod OccurrenceWords
+pub mod PathShown
 -- Ring standings on words.
 pub mod RingLayout
 pub mod RingColumns

@@ -48,10 +48,10 @@ module _ (S W : System) (show : W .Standing → S .Standing) (Good : W .Standing
   abbrev pub AllGood : List (Entry W) → Type 0
   AllGood es = (e : Entry W) → In e es → Good (e .standing)
 
-  good-none : AllGood []
+  pub good-none : AllGood []
   good-none e i = elim i [ ]
 
-  good-append : (es fs : List (Entry W)) → AllGood es → AllGood fs → AllGood (es ++ fs)
+  pub good-append : (es fs : List (Entry W)) → AllGood es → AllGood fs → AllGood (es ++ fs)
   good-append es fs p q e i = ⊎-elim (p e) (q e) (in-append es i)
 
   good-more : (e : Entry W) (es : List (Entry W)) → Good (e .standing) → AllGood es → AllGood (e ∷ es)
@@ -70,11 +70,11 @@ module _ {S W : System} {show : W .Standing → S .Standing} {Good : W .Standing
   abbrev entries : List (Entry W) → List (Entry S)
   entries es = map (shownEntry S W show Good) es
 
-  abbrev Goods : List (Entry W) → Type 0
+  abbrev pub Goods : List (Entry W) → Type 0
   Goods es = AllGood S W show Good es
 
   -- level 1
-  first-good : (ls : List Letter) → AllFit W ls → Goods (firstLevel W ls)
+  pub first-good : (ls : List Letter) → AllFit W ls → Goods (firstLevel W ls)
   unfolding firstLevel
   first-good [] h = good-none S W show Good
   first-good (l ∷ ls) h =
@@ -100,7 +100,7 @@ module _ {S W : System} {show : W .Standing → S .Standing} {Good : W .Standing
       rw (k .goes-on-shown (e .standing) l g (h l (here refl)), grown-shown e ls g (λ m i. h m (there i)))
 
   -- the next level
-  next-good : (ls : List Letter) (es : List (Entry W)) → AllFit W ls → Goods es → Goods (nextLevelOver W ls es)
+  pub next-good : (ls : List Letter) (es : List (Entry W)) → AllFit W ls → Goods es → Goods (nextLevelOver W ls es)
   unfolding nextLevelOver
   next-good ls [] h g = good-none S W show Good
   next-good ls (e ∷ es) h g =
@@ -142,7 +142,7 @@ module _ {S W : System} {show : W .Standing → S .Standing} {Good : W .Standing
   keeps-shown seen e g h =
       ap₂ (λ a b. a && not b) (k .same-possible (e .standing) h) (seen-shown seen (e .standing) g h)
 
-  fresh-good : (seen es : List (Entry W)) → Goods es → Goods (fresh W seen es)
+  pub fresh-good : (seen es : List (Entry W)) → Goods es → Goods (fresh W seen es)
   unfolding fresh
   fresh-good seen [] g = g
   fresh-good seen (e ∷ es) g =
@@ -188,7 +188,7 @@ module _ {S W : System} {show : W .Standing → S .Standing} {Good : W .Standing
   -- the cases of a level
   module _ (ls : List Letter) (f allowance : ℕ) (seen : List (Entry W)) where
     -- the next fresh standings
-    abbrev nexts : Entry W → List (Entry W) → List (Entry W)
+    abbrev pub nexts : Entry W → List (Entry W) → List (Entry W)
     nexts e es = fresh W seen (nextLevelOver W ls (e ∷ es))
 
     counted : {b : Bool} → ltb allowance (length seen) ≡ b → ltb allowance (length (entries seen)) ≡ b
@@ -211,7 +211,7 @@ module _ {S W : System} {show : W .Standing → S .Standing} {Good : W .Standing
         over-proved S ls f allowance (entries seen) (counted h) ∙ ap proved (shown-standings S W show Good seen)
         ∙ sym (ap (shown show) (over-proved W ls f allowance seen h))
 
-    nexts-good : (e : Entry W) (es : List (Entry W)) → AllFit W ls → Goods (e ∷ es) → Goods (nexts e es)
+    pub nexts-good : (e : Entry W) (es : List (Entry W)) → AllFit W ls → Goods (e ∷ es) → Goods (nexts e es)
     nexts-good e es i n = fresh-good seen (nextLevelOver W ls (e ∷ es)) (next-good ls (e ∷ es) i n)
 
     nexts-shown : (e : Entry W) (es : List (Entry W)) → AllFit W ls → Goods seen → Goods (e ∷ es)
