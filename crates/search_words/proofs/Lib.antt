@@ -2,9 +2,10 @@
 pub mod Over
 pub mod Shows
 pub mod GoodStandings
--- The table of a side shows its expression, and a shape a decision.
+-- The table of a side shows its expression, and a shape a decision; the lowest atom.
 pub mod Tables
 pub mod ShapeOf
+pub mod First
 -- Words show the standings of the definition.
 pub mod OccurrenceWords
 pub mod PathShown

@@ -6,3 +6,5 @@ pub mod RingWords
 pub mod Systems
 -- The verdict over chosen letters.
 pub mod Over
+-- The lowest atom.
+pub mod First
