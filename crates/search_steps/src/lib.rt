@@ -5,7 +5,7 @@ use words::word;
 ghost use Prim.Native.Nat.{_+_, _*_, _≤_, min};
 ghost use mathlib.Core.Path.{_≡_};
 ghost use lib.ListN.{length, getD};
-ghost use Rattle.search_words.specs.Steps.{stepFrom, stepSet, endsSet};
+ghost use Rattle.search_words.specs.Steps.{stepFrom, stepSet, enders, endsSet, nullAt};
 
 // The word at place base + k of the table.
 fn word_behind(table: &[u64], base: usize, k: usize) -> u64
@@ -44,10 +44,24 @@ pub fn step_set(table: &[u64; 4241], s: u64, a: usize, r: usize) -> u64
     reached & readers
 }
 
+// The occurrences at which a word may end at atom a.
+pub fn enders_at(table: &[u64; 4241], a: usize) -> u64
+    ensures { λ s. ⌜ s ≡ enders (now (table .entry)) a ⌝ }
+{
+    word_behind(table, 4160, a)
+}
+
 // Whether one of the set s may be read last at atom a.
 pub fn ends_set(table: &[u64; 4241], s: u64, a: usize) -> bool
     ensures { λ b. ⌜ b ≡ endsSet (now (table .entry)) s a ⌝ }
 {
-    let enders = word_behind(table, 4160, a);
+    let enders = enders_at(table, a);
     (s & enders) != 0
+}
+
+// Whether the single atom a is a word.
+pub fn null_at(table: &[u64; 4241], a: usize) -> bool
+    ensures { λ b. ⌜ b ≡ nullAt (now (table .entry)) a ⌝ }
+{
+    bits::member(word(table, 4240), a)
 }

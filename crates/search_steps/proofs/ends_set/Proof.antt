@@ -5,17 +5,17 @@ use mathlib.Core.Bool.{not}
 use lib.Bits.{bitAnd}
 use lib.Dec.{eqb}
 use Rattle.bits.specs.Sets.{meets}
-use Rattle.search_words.specs.Steps.{enders, endsSet}
+use Rattle.search_words.specs.Steps.{endsSet}
 use borrow.Author.Needs.{needs}
 use Rattle.search_steps.proofs.ends_set.Statement.{statement}
 use Rattle.search_steps.proofs.ends_set.Tie as tie
 
-word-behind-requires : tie.Need-word-behind-requires
-word-behind-requires c κs = search needs
+enders-at-requires : tie.Need-enders-at-requires
+enders-at-requires c κs = search needs
 
 returns : tie.Need-returns
-unfolding endsSet meets enders
-returns c = ap (λ w. not (eqb (bitAnd (c .before .before .args .s) w) 0)) (c .word-behind .ensures)
+unfolding endsSet meets
+returns c = ap (λ w. not (eqb (bitAnd (c .before .args .s) w) 0)) (c .enders-at .ensures)
 
 pub ends-set-spec : {M : Type 1} → statement M
-ends-set-spec = tie.close (tie.spec word-behind-requires returns)
+ends-set-spec = tie.close (tie.spec enders-at-requires returns)
