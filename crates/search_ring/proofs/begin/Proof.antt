@@ -1,0 +1,55 @@
+-- `search_ring::begin` meets its contract.
+-- Assumes nothing.
+use native.Mathlib.Omega.{arith}
+use mathlib.Core.Path.{_≡_, _∙_, ap}
+use lib.ListN.{length}
+use Rattle.words.specs.Memory.{zeros}
+use Rattle.search_words.specs.RingWords.{flag}
+use Rattle.search_ring.proofs.Standing.{begin-laid}
+use borrow.Author.Needs.{needs}
+use Rattle.search_ring.proofs.begin.Statement.{statement}
+use Rattle.search_ring.proofs.begin.Tie as tie
+
+step-from-requires : tie.Need-step-from-requires
+step-from-requires c κs = search needs
+
+null-at-requires : tie.Need-null-at-requires
+null-at-requires c κs = search needs
+
+flagged-requires : tie.Need-flagged-requires
+flagged-requires c κs = search needs
+
+least-requires : tie.Need-least-requires
+least-requires c κs = search needs
+
+clear-requires : tie.Need-clear-requires
+clear-requires c κs = search needs
+
+spread-single-requires : tie.Need-spread-single-requires
+spread-single-requires c κs = search needs
+
+lay-out-requires : tie.Need-lay-out-requires
+lay-out-requires c κs = search needs
+
+returns : tie.Need-returns
+returns c =
+    let b = c .before .before .before .before in
+    let d = b .before .before .before in
+    let a = d .before .before .before .args in
+    let len : length (a .to .now) ≡ 40 = omega arith in
+    begin-laid (a .left .now) (a .right .now) (record { atom = a .a; relation = a .r }) (a .n) (b .before .before .least .result) _ _ _ _ _
+    (b .before .before .least .ensures) (b .clear .ensures ∙ ap zeros len) (c .before .before .spread-single .ensures)
+    (d .before .before .step-from .ensures) (d .flagged .ensures ∙ ap flag (d .before .null-at .ensures)) (c .lay-out .ensures)
+
+pub begin-spec : {M : Type 1} → statement M
+begin-spec =
+    tie.close
+    (tie.spec
+    step-from-requires
+    null-at-requires
+    flagged-requires
+    least-requires
+    clear-requires
+    spread-single-requires
+    lay-out-requires
+    returns)
