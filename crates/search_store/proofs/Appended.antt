@@ -1,26 +1,22 @@
 -- A standing put at place n: it stands there with its parent and its letter, the ones below stay, and nothing past it changes.
 -- Assumes nothing.
-use Prim.Native.Nat.{ℕ, suc, _+_, _*_, _-_, _≤_, _<_}
+use Prim.Native.Nat.{ℕ, _+_, _*_, _-_, _≤_, _<_}
 use native.Mathlib.Omega.{arith}
 use mathlib.Core.Path.{_≡_, refl, sym, _∙_, ap}
 use mathlib.Core.Logic.{⊎-elim}
-use mathlib.Core.Bool.{Bool, true, false, true≢false}
+use mathlib.Core.Bool.{Bool, true, false}
 use mathlib.Core.List.{List, [], _∷_}
 use lib.ListN.{length, getD, set, drop, length-set, length-drop, List·getD-eq-default}
 use lib.Seq.{ext-getD, getD-drop, getD-set-same, getD-set-other, drop-set-lt}
 use Rattle.kat.proofs.Bools.{lt-or-le}
 use Rattle.words.specs.Memory.{words}
-use Rattle.words.proofs.Words.{words-same, changed-length, changed-out, below, above}
+use Rattle.words.proofs.Words.{words-same, changed-out, below, above}
 use Rattle.search_words.specs.Systems.{width}
 use Rattle.search_store.specs.Store.{fieldAt, standingAt, parentAt, letterAt, standingIn, Room, copied, recordsAfter, wordsAfter}
-use Rattle.search_store.proofs.Standing.{copy-at}
+use Rattle.search_store.proofs.Standing.{copy-at, copied-length}
 
 -- 34 words put at a place change nothing else
 module _ (to : List ℕ) (at : ℕ) (from : List ℕ) (base : ℕ) where
-  pub copy-length : length (copied to at from base 0) ≡ length to
-  unfolding copied
-  copy-length = changed-length (λ k w. getD from (base + (k - at)) 0) to (at + 34) (at + 0)
-
   pub copy-below : (k : ℕ) → k < at → at + 34 ≤ length to → getD (copied to at from base 0) k 0 ≡ getD to k 0
   unfolding copied
   copy-below k h l =
@@ -34,7 +30,7 @@ module _ (to : List ℕ) (at : ℕ) (from : List ℕ) (base : ℕ) where
       (λ l.
       changed-out (λ i w. getD from (base + (i - at)) 0) to (at + 34) (at + 0) k l (above (at + 0) (at + 34) k h))
       (λ l.
-      List·getD-eq-default (copied to at from base 0) 0 (omega (arith, copy-length)) ∙ sym (List·getD-eq-default to 0 l))
+      List·getD-eq-default (copied to at from base 0) 0 (omega (arith, copied-length to at from base 0)) ∙ sym (List·getD-eq-default to 0 l))
       (lt-or-le k (length to))
 
 module _ (r : List (List ℕ)) (w : List ℕ) (n : ℕ) (s : List ℕ) (parent letter : ℕ) where
@@ -51,13 +47,13 @@ module _ (r : List (List ℕ)) (w : List ℕ) (n : ℕ) (s : List ℕ) (parent l
     unfolding wordsAfter
     ring-parent =
         getD-set-other (set (copied w (40 * n) s 0 0) (40 * n + 34) parent) (40 * n + 35) (40 * n + 34) letter 0 (λ e. omega arith)
-        ∙ getD-set-same (copied w (40 * n) s 0 0) (40 * n + 34) parent 0 (omega (arith, copy-length w (40 * n) s 0))
+        ∙ getD-set-same (copied w (40 * n) s 0 0) (40 * n + 34) parent 0 (omega (arith, copied-length w (40 * n) s 0 0))
 
     ring-letter : getD (wordsAfter true w n s parent letter) (40 * n + 35) 0 ≡ letter
     unfolding wordsAfter
     ring-letter =
         getD-set-same (set (copied w (40 * n) s 0 0) (40 * n + 34) parent) (40 * n + 35) letter 0
-        (omega (arith, length-set (copied w (40 * n) s 0 0) (40 * n + 34) parent, copy-length w (40 * n) s 0))
+        (omega (arith, length-set (copied w (40 * n) s 0 0) (40 * n + 34) parent, copied-length w (40 * n) s 0 0))
 
   pub records-length : (ring : Bool) → length (recordsAfter ring r n s parent letter) ≡ length r
   unfolding recordsAfter
@@ -69,7 +65,7 @@ module _ (r : List (List ℕ)) (w : List ℕ) (n : ℕ) (s : List ℕ) (parent l
   words-length false = refl
   words-length true =
       length-set (set (copied w (40 * n) s 0 0) (40 * n + 34) parent) (40 * n + 35) letter
-      ∙ length-set (copied w (40 * n) s 0 0) (40 * n + 34) parent ∙ copy-length w (40 * n) s 0
+      ∙ length-set (copied w (40 * n) s 0 0) (40 * n + 34) parent ∙ copied-length w (40 * n) s 0 0
 
   -- nothing past the place changes
   pub records-past : (ring : Bool) (c : ℕ) → n < c → drop c (recordsAfter ring r n s parent letter) ≡ drop c r

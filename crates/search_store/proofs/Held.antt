@@ -1,9 +1,8 @@
 -- The entries that the memory keeps: none at first; one more where a standing is appended; and what a search for a standing says of them.
 -- Assumes nothing.
-use Prim.Native.Nat.{ℕ, zero, suc, _+_, _*_, _-_, _/_, _%_, _≤_, _<_}
+use Prim.Native.Nat.{ℕ, zero, suc, _+_, _/_, _%_, _≤_, _<_}
 use native.Mathlib.Omega.{arith}
 use mathlib.Core.Path.{_≡_, refl, sym, _∙_, ap, subst}
-use mathlib.Core.Logic.{⊎-elim}
 use mathlib.Core.Bool.{Bool, true, false, _||_}
 use mathlib.Core.List.{List, [], _∷_, _++_}
 use lib.ListN.{length, getD, length-append, List·getD-append}
@@ -14,7 +13,6 @@ use Rattle.kat.specs.Ring.{Prefix, nothing, then}
 use Rattle.kat.proofs.Bools.{or-left, or-right, false-of-not}
 use Rattle.claims.specs.Bytes.{same}
 use Rattle.claims.proofs.Results.{same-is-equal, same-self}
-use Rattle.words.specs.Memory.{words}
 use Rattle.words.proofs.Words.{words-same}
 use Rattle.search_words.specs.Systems.{width}
 use Rattle.search_store.specs.Store.{fieldAt, standingAt, parentAt, letterAt, standingIn, Room, Place, recordsAfter, wordsAfter, prefixAt, Holds}

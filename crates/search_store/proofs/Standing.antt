@@ -1,15 +1,16 @@
 -- One standing in the memory, word by word: two standings are equal where their words are; what a search for a place has found.
 -- Assumes nothing.
-use Prim.Native.Nat.{ℕ, suc, _+_, _*_, _-_, _≤_, _<_}
+use Prim.Native.Nat.{ℕ, _+_, _*_, _-_, _≤_, _<_}
 use native.Mathlib.Omega.{arith}
 use mathlib.Core.Path.{_≡_, refl, sym, _∙_, ap}
 use mathlib.Core.Bool.{Bool, true, false}
 use mathlib.Core.List.{List, [], _∷_}
-use lib.ListN.{length, getD, set}
+use lib.ListN.{length, getD, set, take}
 use Rattle.words.specs.Memory.{words, changed}
-use Rattle.words.proofs.Words.{words-same, words-at, fill-more, changed-in, changed-end}
+use lib.Seq.{length-take-le, getD-take}
+use Rattle.words.proofs.Words.{words-same, words-at, words-ext, fill-more, changed-length, changed-in, changed-end}
 use Rattle.search_words.specs.Systems.{width}
-use Rattle.search_store.specs.Store.{fieldAt, standingAt, parentAt, letterAt, standingIn, Room, Place, Agree, copied, recordsAfter, wordsAfter}
+use Rattle.search_store.specs.Store.{fieldAt, standingAt, parentAt, letterAt, standingIn, Place, Agree, copied, recordsAfter, wordsAfter}
 
 -- the place of an equal standing, and none
 module _ (at : ℕ → List ℕ) (n : ℕ) (s : List ℕ) where
@@ -41,6 +42,10 @@ module _ (r : List (List ℕ)) (w : List ℕ) (i : ℕ) (s : List ℕ) where
   pub ring-agree : standingAt true r w i ≡ standingIn true s → Agree w (40 * i) s
   unfolding standingAt standingIn fieldAt width
   ring-agree e j h = sym (words-at 34 (λ k. getD w (40 * i + k) 0) j h) ∙ ap (λ l. getD l j 0) e ∙ words-at 34 (λ k. getD s k 0) j h
+
+pub copied-length : (to : List ℕ) (at : ℕ) (from : List ℕ) (base j : ℕ) → length (copied to at from base j) ≡ length to
+unfolding copied
+copied-length to at from base j = changed-length (λ k w. getD from (base + (k - at)) 0) to (at + 34) (at + j)
 
 -- 34 words copied from one memory to another, one a turn
 module _ (at : ℕ) (from : List ℕ) (base : ℕ) where
@@ -100,15 +105,34 @@ module _ (ring : Bool) (w : List ℕ) (n : ℕ) (s : List ℕ) (parent letter : 
   unfolding wordsAfter
   words-ring e v h = rw (e, h) refl
 
+-- the first words of a list
+pub first-words : (n : ℕ) (xs : List ℕ) → n ≤ length xs → take n xs ≡ words n (λ j. getD xs j 0)
+first-words n xs h =
+    words-ext (take n xs) n (λ j. getD xs j 0) (length-take-le n xs h) (λ j l. getD-take n xs j 0 l)
+
+-- two words stored at the start
+pub two-words : (to : List ℕ) (a b : ℕ) → 2 ≤ length to → take 2 (set (set to 0 a) 1 b) ≡ a ∷ b ∷ []
+two-words [] a b h = absurd (omega arith)
+two-words (x ∷ []) a b h = absurd (omega arith)
+two-words (x ∷ y ∷ xs) a b h = refl
+
 -- what `load` leaves, by the kind of the claim
 module _ (ring : Bool) (r : List (List ℕ)) (w : List ℕ) (i : ℕ) (to : List ℕ) where
-  pub load-path : ring ≡ false → getD to 0 0 ≡ getD (getD r i []) 0 0 → getD to 1 0 ≡ getD (getD r i []) 1 0
-      → standingIn ring to ≡ standingAt ring r w i
-  load-path e a b = rw e (sym (path-equal r w i to (sym a) (sym b)))
+  pub load-path : ring ≡ false → take 2 to ≡ getD (getD r i []) 0 0 ∷ getD (getD r i []) 1 0 ∷ []
+      → take (width ring) to ≡ standingAt ring r w i
+  unfolding standingAt fieldAt width words
+  load-path e h = rw e h
+
+  ring-loaded : (from : List ℕ) → 34 ≤ length from → to ≡ copied from 0 w (40 * i) 0
+      → take 34 to ≡ words 34 (λ j. getD w (40 * i + j) 0)
+  ring-loaded from l h =
+      first-words 34 to (omega (arith, ap length h, copied-length from 0 w (40 * i) 0))
+      ∙ words-same 34 34 (λ j. getD to j 0) (λ j. getD w (40 * i + j) 0) refl
+      (λ j k.
+      let z : j ≡ 0 + j = omega arith in
+      ap (λ t. getD t j 0) h ∙ ap (λ m. getD (copied from 0 w (40 * i) 0) m 0) z ∙ copy-at 0 w (40 * i) from j k (omega arith))
 
   pub load-ring : ring ≡ true → (from : List ℕ) → 34 ≤ length from → to ≡ copied from 0 w (40 * i) 0
-      → standingIn ring to ≡ standingAt ring r w i
-  load-ring e from l h = rw e (sym (ring-equal r w i to (λ j k. sym (at j k))))
-    where
-      at : (j : ℕ) → j < 34 → getD to j 0 ≡ getD w (40 * i + j) 0
-      at j k = ap (λ t. getD t j 0) h ∙ ap (λ m. getD (copied from 0 w (40 * i) 0) m 0) (omega arith) ∙ copy-at 0 w (40 * i) from j k (omega arith)
+      → take (width ring) to ≡ standingAt ring r w i
+  unfolding standingAt fieldAt width
+  load-ring e from l h = rw e (ring-loaded from l h)

@@ -5,7 +5,9 @@
 ghost use Prim.Native.Nat.{_+_, _*_, _≤_};
 ghost use mathlib.Core.Path.{_≡_};
 ghost use mathlib.Core.Bool.{Bool, true, false};
-ghost use lib.ListN.{length, getD};
+ghost use mathlib.Core.List.{[], _∷_};
+ghost use lib.ListN.{length, take};
+ghost use Rattle.search_words.specs.Systems.{width};
 ghost use Rattle.search_store.specs.Store.{standingAt, parentAt, letterAt, standingIn, Room, Place, Agree, copied, recordsAfter, wordsAfter};
 
 // The words of a ring standing.
@@ -93,7 +95,7 @@ fn copy(to: &mut [u64], at: usize, from: &[u64], base: usize)
 // Two words, at the start.
 fn pair(to: &mut [u64], a: u64, b: u64)
     requires { ⌜ 2 ≤ length (now to) ⌝ }
-    ensures { λ r. ⌜ (getD (now (to .exit)) 0 0 ≡ a) × (getD (now (to .exit)) 1 0 ≡ b) ⌝ }
+    ensures { λ r. ⌜ take 2 (now (to .exit)) ≡ a ∷ b ∷ [] ⌝ }
 {
     to[0] = a;
     to[1] = b;
@@ -127,7 +129,7 @@ pub fn append(
 pub fn load(ring: bool, records: &[[u64; 4]], words: &[u64], i: usize, to: &mut [u64; 40])
     requires { ⌜ Room ring (now records) (now words) (i + 1) ⌝ }
     ensures { λ r.
-        ⌜ standingIn ring (now (to .exit)) ≡ standingAt ring (now (records .entry)) (now (words .entry)) i ⌝ }
+        ⌜ take (width ring) (now (to .exit)) ≡ standingAt ring (now (records .entry)) (now (words .entry)) i ⌝ }
 {
     if ring {
         copy(to, 0, words, STRIDE * i);

@@ -1,17 +1,11 @@
 -- `search_store::append` meets its contract, by the kind of the claim.
 -- Assumes nothing.
-use Prim.Native.Nat.{ℕ, _+_, _*_, _-_, _≤_, _<_}
 use native.Mathlib.Omega.{arith}
-use mathlib.Core.Path.{_≡_, refl, sym, _∙_, ap}
-use mathlib.Core.Bool.{true, false}
-use lib.ListN.{length, getD, length-set}
+use lib.ListN.{length-set}
 use Rattle.search_store.proofs.Standing.{records-ring, records-path, words-ring, words-path}
 use borrow.Author.Needs.{needs}
 use Rattle.search_store.proofs.append.Statement.{statement}
 use Rattle.search_store.proofs.append.Tie as tie
-use Rattle.search_store.proofs.append.Reads as reads
-use Rattle.search_store.proofs.append.Lts as lts
-use Rattle.search_store.proofs.copy.Reads as copy-reads
 
 mul-base : tie.Need-mul-base
 mul-base c = omega (arith, c .before .before .pre .turn (c .if1 .taken))

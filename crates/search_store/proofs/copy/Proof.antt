@@ -1,17 +1,14 @@
 -- `search_store::copy` meets its contract. The invariant: what is left to copy, copied now, is the whole copied at the start.
 -- Assumes nothing.
-use Prim.Native.Nat.{ℕ, _+_, _*_, _-_, _≤_, _<_}
+use Prim.Native.Nat.{_-_, _≤_}
 use native.Mathlib.Omega.{arith}
-use mathlib.Core.Path.{_≡_, refl, sym, _∙_, ap}
-use mathlib.Core.Bool.{true, false}
-use lib.ListN.{length, getD, length-set}
+use mathlib.Core.Path.{_≡_, refl, sym, _∙_}
+use lib.ListN.{length, length-set}
 use Rattle.search_store.specs.Store.{copied}
 use Rattle.search_store.proofs.Standing.{copy-more, copy-end}
 use borrow.Author.Needs.{needs}
 use Rattle.search_store.proofs.copy.Statement.{statement}
 use Rattle.search_store.proofs.copy.Tie as tie
-use Rattle.search_store.proofs.copy.Reads as reads
-use Rattle.search_store.proofs.copy.Lts as lts
 
 abbrev Inv-loop : tie.InvT-loop
 Inv-loop to₀ at from base j₀ to j =

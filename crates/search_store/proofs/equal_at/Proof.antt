@@ -1,17 +1,14 @@
 -- `search_store::equal_at` meets its contract. The invariant: the words so far are equal.
 -- Assumes nothing.
-use Prim.Native.Nat.{ℕ, _+_, _*_, _-_, _≤_, _<_}
+use Prim.Native.Nat.{ℕ, _+_, _-_, _≤_, _<_}
 use native.Mathlib.Omega.{arith}
-use mathlib.Core.Path.{_≡_, refl, sym, _∙_, ap}
-use mathlib.Core.Bool.{true, false}
-use lib.ListN.{length, getD, length-set}
+use mathlib.Core.Path.{_≡_, refl}
+use lib.ListN.{getD}
 use Rattle.kat.proofs.Bools.{true-not-false}
 use borrow.Author.Count.{below-more}
 use borrow.Author.Needs.{needs}
 use Rattle.search_store.proofs.equal_at.Statement.{statement}
 use Rattle.search_store.proofs.equal_at.Tie as tie
-use Rattle.search_store.proofs.equal_at.Reads as reads
-use Rattle.search_store.proofs.equal_at.Lts as lts
 
 abbrev Inv-loop : tie.InvT-loop
 Inv-loop words base s j₀ j = (j ≤ 34) × ((k : ℕ) → k < j → getD words (base + k) 0 ≡ getD s k 0)

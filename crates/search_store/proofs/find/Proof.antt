@@ -2,10 +2,6 @@
 -- Assumes nothing.
 use Rattle.search_store.proofs.find.Statement.{statement}
 use Rattle.search_store.proofs.find.Tie as tie
-use Rattle.search_store.proofs.find.Reads as reads
-use Rattle.search_store.proofs.find.Lts as lts
-use Rattle.search_store.proofs.find_path.Reads as find-path-reads
-use Rattle.search_store.proofs.find_ring.Reads as find-ring-reads
 
 find-ring-requires : tie.Need-find-ring-requires
 find-ring-requires c κs = c .before .before .pre .turn (c .if1 .taken)

@@ -1,18 +1,15 @@
 -- `search_store::find_path` meets its contract. The invariant: no standing so far is equal.
 -- Assumes nothing.
-use Prim.Native.Nat.{ℕ, _+_, _*_, _-_, _≤_, _<_}
+use Prim.Native.Nat.{ℕ, _-_, _≤_, _<_}
 use native.Mathlib.Omega.{arith}
-use mathlib.Core.Path.{_≡_, refl, sym, _∙_, ap}
-use mathlib.Core.Bool.{true, false}
-use lib.ListN.{length, getD, length-set}
+use mathlib.Core.Path.{_≡_}
+use mathlib.Core.Bool.{false}
 use mathlib.Core.Logic.{⊎-elim}
 use borrow.Author.Count.{below-more}
 use Rattle.search_store.specs.Store.{standingAt, standingIn}
 use Rattle.search_store.proofs.Standing.{found-here, found-none, path-equal, path-first, path-second}
 use Rattle.search_store.proofs.find_path.Statement.{statement}
 use Rattle.search_store.proofs.find_path.Tie as tie
-use Rattle.search_store.proofs.find_path.Reads as reads
-use Rattle.search_store.proofs.find_path.Lts as lts
 
 abbrev Inv-loop : tie.InvT-loop
 Inv-loop records words n s p q i₀ i =

@@ -1,18 +1,14 @@
 -- `search_store::find_ring` meets its contract. The invariant: no standing so far is equal.
 -- Assumes nothing.
-use Prim.Native.Nat.{ℕ, _+_, _*_, _-_, _≤_, _<_}
+use Prim.Native.Nat.{ℕ, _-_, _≤_, _<_}
 use native.Mathlib.Omega.{arith}
-use mathlib.Core.Path.{_≡_, refl, sym, _∙_, ap}
-use mathlib.Core.Bool.{true, false}
-use lib.ListN.{length, getD, length-set}
+use mathlib.Core.Path.{_≡_}
+use mathlib.Core.Bool.{true}
 use borrow.Author.Count.{below-more}
 use Rattle.search_store.specs.Store.{standingAt, standingIn}
 use Rattle.search_store.proofs.Standing.{found-here, found-none, ring-equal, ring-agree}
 use Rattle.search_store.proofs.find_ring.Statement.{statement}
 use Rattle.search_store.proofs.find_ring.Tie as tie
-use Rattle.search_store.proofs.find_ring.Reads as reads
-use Rattle.search_store.proofs.find_ring.Lts as lts
-use Rattle.search_store.proofs.equal_at.Reads as equal-at-reads
 
 abbrev Inv-loop : tie.InvT-loop
 Inv-loop records words n s i₀ i =

@@ -1,16 +1,10 @@
 -- `search_store::letter` meets its contract, by the kind of the claim.
 -- Assumes nothing.
-use Prim.Native.Nat.{ℕ, _+_, _*_, _-_, _≤_, _<_}
 use native.Mathlib.Omega.{arith}
-use mathlib.Core.Path.{_≡_, refl, sym, _∙_, ap}
-use mathlib.Core.Bool.{true, false}
-use lib.ListN.{length, getD, length-set}
 use borrow.Author.Needs.{needs}
 use Rattle.search_store.proofs.Standing.{letter-ring, letter-path}
 use Rattle.search_store.proofs.letter.Statement.{statement}
 use Rattle.search_store.proofs.letter.Tie as tie
-use Rattle.search_store.proofs.letter.Reads as reads
-use Rattle.search_store.proofs.letter.Lts as lts
 
 mul-result : tie.Need-mul-result
 mul-result c = omega (arith, c .before .pre .turn (c .if1 .taken))

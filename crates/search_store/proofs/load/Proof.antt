@@ -1,18 +1,10 @@
 -- `search_store::load` meets its contract, by the kind of the claim.
 -- Assumes nothing.
-use Prim.Native.Nat.{ℕ, _+_, _*_, _-_, _≤_, _<_}
 use native.Mathlib.Omega.{arith}
-use mathlib.Core.Path.{_≡_, refl, sym, _∙_, ap}
-use mathlib.Core.Bool.{true, false}
-use lib.ListN.{length, getD, length-set}
 use Rattle.search_store.proofs.Standing.{load-ring, load-path}
 use borrow.Author.Needs.{needs}
 use Rattle.search_store.proofs.load.Statement.{statement}
 use Rattle.search_store.proofs.load.Tie as tie
-use Rattle.search_store.proofs.load.Reads as reads
-use Rattle.search_store.proofs.load.Lts as lts
-use Rattle.search_store.proofs.copy.Reads as copy-reads
-use Rattle.search_store.proofs.pair.Reads as pair-reads
 
 mul-copy : tie.Need-mul-copy
 mul-copy c = omega (arith, c .before .before .before .pre .turn (c .before .if1 .taken))
@@ -45,7 +37,7 @@ pair-requires : tie.Need-pair-requires
 pair-requires c κs = search needs
 
 returns-2 : tie.Need-returns-2
-returns-2 c = load-path _ _ _ _ _ (c .before .before .before .before .if1 .left) (c .pair .ensures .0) (c .pair .ensures .1)
+returns-2 c = load-path _ _ _ _ _ (c .before .before .before .before .if1 .left) (c .pair .ensures)
 
 pub load-spec : {M : Type 1} → statement M
 load-spec =
