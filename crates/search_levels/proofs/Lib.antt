@@ -3,3 +3,5 @@ pub mod Grow
 pub mod Adding
 -- One candidate: dropped, kept, or past the allowance.
 pub mod Noting
+-- The candidates in their order.
+pub mod Candidates
