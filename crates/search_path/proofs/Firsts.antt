@@ -11,12 +11,12 @@ use lib.Bits.{bitAnd}
 use lib.Count.{trailingZeros}
 use lib.ListN.{getD, take}
 use Rattle.kat.specs.Lists.{filter}
+use Rattle.kat.proofs.Sets.{filter-same}
 use Rattle.claims.specs.Query.{bit}
 use Rattle.claims.specs.Fields.{numberSet}
 use Rattle.words.proofs.Words.{same-or-not}
 use Rattle.bits.specs.Sets.{members}
 use Rattle.bits.proofs.Bit.{bit-and}
-use Rattle.bits.proofs.Lists.{filter-same}
 use Rattle.bits.proofs.Members.{number-in, number-and, number-none}
 use Rattle.bits.proofs.Lowest.{Lowest, lowest}
 use Rattle.side_atoms.proofs.Atoms.{bit-not}

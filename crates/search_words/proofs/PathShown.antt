@@ -10,13 +10,13 @@ use lib.Dec.{eqb}
 use lib.ListN.{getD}
 use Rattle.kat.specs.Lists.{filter}
 use Rattle.kat.specs.Tables.{occurrences, ends}
+use Rattle.kat.proofs.Sets.{filter-same}
 use Rattle.claims.specs.Bytes.{same}
 use Rattle.claims.specs.Sides.{Decision}
 use Rattle.claims.specs.Standings.{Letter, Path, pathStep, pathSystem, pathFinals as pathFinalsOf}
 use Rattle.claims.specs.Search.{verdict}
 use Rattle.claims.specs.Fields.{bigEndian}
 use Rattle.claims.specs.SheetBytes.{pathBytes}
-use Rattle.bits.proofs.Lists.{filter-same}
 use Rattle.side_turned.specs.SideTable.{sideTable}
 use Rattle.search_words.specs.declared.Shape.{Shape}
 use Rattle.search_words.specs.Steps.{stepFrom, stepSet}

@@ -8,14 +8,13 @@ use mathlib.Core.Bool.{not, _&&_}
 use mathlib.Core.List.{List}
 use Rattle.kat.specs.Lists.{In, filter}
 use Rattle.kat.specs.Tables.{null}
-use Rattle.kat.proofs.Sets.{member-in}
+use Rattle.kat.proofs.Sets.{member-in, filter-same}
 use Rattle.claims.specs.Sides.{Decision}
 use Rattle.claims.specs.Standings.{Letter, alone}
 use Rattle.claims.specs.Fields.{setNumber}
 use Rattle.claims.proofs.SetBytes.{RisingWithin, set-read-back}
 use Rattle.claims.proofs.Letters.{Fits}
 use Rattle.bits.specs.Sets.{members}
-use Rattle.bits.proofs.Lists.{filter-same}
 use Rattle.bits.proofs.Members.{number-in}
 use Rattle.side_turned.specs.SideTable.{sideTable}
 use Rattle.search_words.specs.declared.Shape.{Shape}
