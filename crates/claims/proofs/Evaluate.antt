@@ -10,6 +10,7 @@ use Rattle.claims.specs.Lines
 use Rattle.claims.specs.Refusals
 use Rattle.claims.specs.Names
 use Rattle.claims.specs.Query
+use Rattle.claims.specs.Expanded
 use Rattle.claims.specs.Counting
 use Rattle.claims.specs.Reading
 use Rattle.claims.specs.Sides
@@ -61,6 +62,10 @@ unfoldable pub open-Query : Unit {0}
 unfolding Query.testNames Query.relationNames Query.lets Query.nevers Query.limits Query.closings Query.assumedEmpty Query.assumedIrreflexive Query.claimsOf Query.tests Query.relations Query.closed Query.names Query.bit Query.holds Query.atoms Query.removed Query.live
 open-Query = tt
 
+unfoldable pub open-Expanded : Unit {0}
+unfolding Expanded.bounded Expanded.standsFor Expanded.expandedIn Expanded.expanded Expanded.countExpanded
+open-Expanded = tt
+
 unfoldable pub open-Counting : Unit {0}
 unfolding Counting.count Counting.occurrencesOf Counting.leavesOf Counting.sizeOf Counting.withAnys Counting.leftSize Counting.rightSize Counting.rightLimit Counting.withinLimits
 open-Counting = tt
@@ -70,7 +75,7 @@ unfolding Reading.badLine Reading.crowded Reading.claimOf Reading.readLine Readi
 open-Reading = tt
 
 unfoldable pub open-Sides : Unit {0}
-unfolding Sides.expand Sides.meant Sides.single Sides.bounded Sides.replaced Sides.side Sides.a0 Sides.a1 Sides.zero Sides.somewhere Sides.decision
+unfolding Sides.expand Sides.meant Sides.single Sides.exprOf Sides.replaced Sides.side Sides.a0 Sides.a1 Sides.zero Sides.somewhere Sides.decision
 open-Sides = tt
 
 unfoldable pub open-Standings : Unit {0}
@@ -118,5 +123,5 @@ unfolding Printed.digitsBefore Printed.decimal Printed.spaced Printed.answerLine
 open-Printed = tt
 
 unfoldable pub everything : Unit {0}
-unfolding open-Tables open-Closure open-Bytes open-Tokens open-Grammar open-Lines open-Refusals open-Names open-Query open-Counting open-Reading open-Sides open-Standings open-Search open-Fields open-SheetBytes open-SheetReading open-Passing open-GraphBytes open-Judgement open-Drawn open-Calls open-Printed
+unfolding open-Tables open-Closure open-Bytes open-Tokens open-Grammar open-Lines open-Refusals open-Names open-Query open-Expanded open-Counting open-Reading open-Sides open-Standings open-Search open-Fields open-SheetBytes open-SheetReading open-Passing open-GraphBytes open-Judgement open-Drawn open-Calls open-Printed
 everything = tt

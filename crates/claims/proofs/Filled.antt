@@ -22,7 +22,8 @@ use Rattle.kat.proofs.Closure.{plus-join, closure-is-plus-of}
 use Rattle.claims.specs.Bytes.{same}
 use Rattle.claims.specs.Tree.{Name, TestTree, Tree, Line, neverLine, withinLine, closedLine}
 use Rattle.claims.specs.Query.{Query, Limit, each, indexOf, tests, relations, nevers, limits, closings, closed, holds, atoms, live, removed}
-use Rattle.claims.specs.Sides.{single, bounded, replaced, side}
+use Rattle.claims.specs.Expanded.{Expanded, stepOf, plusOf, bounded, standsFor}
+use Rattle.claims.specs.Sides.{exprOf, replaced, side}
 use Rattle.claims.specs.Meaning.{Execution, Meets, Related}
 use Rattle.claims.specs.Drawn.{filled}
 use Rattle.claims.proofs.Limits.{live-below}
@@ -170,24 +171,24 @@ module _ (q : Query) (G : Finite) (p : Plain q G) where
       (plus-join (edge-in-a-row q G r x y h) (edge-in-a-row q G r y z k))
 
   shut-replaced : (n : Name) (x y : graph G .Event) → Rel (shut q G) (replaced q n) x y → Rel (graph G) (replaced q n) x y
-  unfolding replaced
+  unfolding replaced standsFor exprOf
   shut-replaced n = go (closed q n) refl
     where
       r : ℕ
       r = indexOf n (relations q)
 
-      b : Expr
-      b = bounded (tests q) (each (limits n) q) (single q n)
+      b : Expanded
+      b = bounded (each (limits n) q) (stepOf n)
 
-      edge-of : (x y : graph G .Event) → Rel (shut q G) b x y → shut q G .edge r x y
-      edge-of x y h = single-edge (shut q G) q n x y .0 (bounded-means (shut q G) (tests q) (each (limits n) q) (single q n) x y .0 h .0)
+      edge-of : (x y : graph G .Event) → Rel (shut q G) (exprOf q b) x y → shut q G .edge r x y
+      edge-of x y h = single-edge (shut q G) q n x y .0 (bounded-means (shut q G) q (each (limits n) q) (stepOf n) x y .0 h .0)
 
-      step-of : (x y : graph G .Event) → graph G .edge r x y → Rel (graph G) b x y
+      step-of : (x y : graph G .Event) → graph G .edge r x y → Rel (graph G) (exprOf q b) x y
       step-of x y h =
-          bounded-means (graph G) (tests q) (each (limits n) q) (single q n) x y .1 (single-edge (graph G) q n x y .1 h, p .limited n x y h)
+          bounded-means (graph G) q (each (limits n) q) (stepOf n) x y .1 (single-edge (graph G) q n x y .1 h, p .limited n x y h)
 
-      go : (c : Bool) → closed q n ≡ c → (x y : graph G .Event) → Rel (shut q G) (elim c [ true ↦ repeated b | false ↦ b ]) x y
-          → Rel (graph G) (elim c [ true ↦ repeated b | false ↦ b ]) x y
+      go : (c : Bool) → closed q n ≡ c → (x y : graph G .Event) → Rel (shut q G) (exprOf q (elim c [ true ↦ plusOf b | false ↦ b ])) x y
+          → Rel (graph G) (exprOf q (elim c [ true ↦ plusOf b | false ↦ b ])) x y
       go true e x y h = plus-flat (λ x y k. plus-map (graph G) step-of (edge-in-a-row q G r x y (edge-of x y k))) h
       go false e x y h = let k = edge-of x y h in step-of x y (open-edge q G r x y (closed-there n x y k ∙ e) .0 k)
 

@@ -10,14 +10,15 @@ use mathlib.Core.Bool.{Bool, true, false}
 use mathlib.Core.List.{List, []}
 use lib.Dec.{ltb→lt}
 use lib.ListN.{length, getD}
-use Rattle.kat.specs.Expr.{Expr, plus as repeated}
+use Rattle.kat.specs.Expr.{Expr}
 use Rattle.kat.specs.Lists.{In, member}
 use Rattle.kat.specs.Graph.{Finite, Rel, Plus, once, more, graph}
 use Rattle.kat.specs.Word.{Word, end, at, first, last}
 use Rattle.kat.specs.Language.{Leads, places, Lang}
 use Rattle.claims.specs.Tree.{Name, Tree}
 use Rattle.claims.specs.Query.{Query, Limit, each, indexOf, tests, relations, limits, closed, holds, live}
-use Rattle.claims.specs.Sides.{Decision, single, bounded, replaced, side}
+use Rattle.claims.specs.Expanded.{Expanded, stepOf, plusOf, bounded, standsFor}
+use Rattle.claims.specs.Sides.{Decision, exprOf, replaced, side}
 use Rattle.claims.specs.Words.{Guarded}
 use Rattle.claims.proofs.Lifting.{Passes, meant-lifted}
 use Rattle.claims.proofs.Replacement.{Between, bounded-means, single-edge}
@@ -69,18 +70,18 @@ module _ (q : Query) where
       }
 
   careful-replaced : (n : Name) → Careful (replaced q n) (replaced q n)
-  unfolding Careful replaced
+  unfolding Careful replaced standsFor exprOf
   careful-replaced n = go (closed q n)
     where
-      b : Expr
-      b = bounded (tests q) (each (limits n) q) (single q n)
+      b : Expanded
+      b = bounded (each (limits n) q) (stepOf n)
 
-      one : (u v : Word) → Rel places b u v → Kept q v → Kept q u
+      one : (u v : Word) → Rel places (exprOf q b) u v → Kept q v → Kept q u
       one u v h k =
-          let (s, i) = bounded-means places (tests q) (each (limits n) q) (single q n) u v .0 h in
+          let (s, i) = bounded-means places q (each (limits n) q) (stepOf n) u v .0 h in
           step-kept n u v (single-edge places q n u v .0 s) i k
 
-      go : (c : Bool) (u v : Word) → Rel places (elim c [ true ↦ repeated b | false ↦ b ]) u v → Kept q v → Kept q u
+      go : (c : Bool) (u v : Word) → Rel places (exprOf q (elim c [ true ↦ plusOf b | false ↦ b ])) u v → Kept q v → Kept q u
       go true u v h k = careful-plus one h k
       go false u v h k = one u v h k
 

@@ -9,14 +9,15 @@ use mathlib.Core.Logic._⊎_.{inl, inr}
 use mathlib.Core.Bool.{Bool, true, false}
 use mathlib.Core.List.{List, [], _∷_}
 use borrow.Author.Tests.{eqb-true, eq-eqb}
-use Rattle.kat.specs.Expr.{Expr, test, seq, plus as repeated}
+use Rattle.kat.specs.Expr.{Expr, test, seq}
 use Rattle.kat.specs.Lists.{In, here, there}
 use Rattle.kat.specs.Graph.{Graph, Rel, Plus, once, more}
 use Rattle.kat.proofs.Sets.{some-in}
 use Rattle.claims.specs.Bytes.{same}
 use Rattle.claims.specs.Tree.{Name, TestTree, Tree, Line, withinLine, closedLine}
 use Rattle.claims.specs.Query.{Query, Limit, each, indexOf, tests, relations, limits, closings, closed, holds}
-use Rattle.claims.specs.Sides.{meant, single, bounded, replaced, side}
+use Rattle.claims.specs.Expanded.{Expanded, stepOf, testOf, sequenceOf, plusOf, bounded, standsFor}
+use Rattle.claims.specs.Sides.{meant, single, exprOf, replaced, side}
 use Rattle.claims.specs.Meaning.{Related, Meets}
 use Rattle.claims.proofs.Results.{same-is-equal, each-in}
 use Rattle.claims.proofs.Lifting.{Passes, meant-lifted}
@@ -79,23 +80,26 @@ module _ (G : Graph) where
   between-more ts l ls x y a c b m (there i) = b m i
 
   -- a pair of an expression between limits is a pair of the expression at whose ends the tests hold
-  pub bounded-means : (ts : List Name) (ls : List Limit) (e : Expr) (x y : G .Event)
-      → Rel G (bounded ts ls e) x y ↔ (Rel G e x y × Between ts ls x y)
-  unfolding bounded
-  bounded-means ts [] e x y = ((λ k. (k, (λ l i. elim i [ ]))), (λ (k, b). k))
-  bounded-means ts (l ∷ ls) e x y =
-      let ih = bounded-means ts ls (seq (seq (test (holds ts (l .from))) e) (test (holds ts (l .to)))) x y in (
+  pub bounded-means : (q : Query) (ls : List Limit) (e : Expanded) (x y : G .Event)
+      → Rel G (exprOf q (bounded ls e)) x y ↔ (Rel G (exprOf q e) x y × Between (tests q) ls x y)
+  unfolding bounded exprOf
+  bounded-means q [] e x y = ((λ k. (k, (λ l i. elim i [ ]))), (λ (k, b). k))
+  bounded-means q (l ∷ ls) e x y =
+      let ih = bounded-means q ls (sequenceOf (sequenceOf (testOf (l .from)) e) (testOf (l .to))) x y in (
         (λ k.
             let (j, b) = ih .0 k in
             let (m, a, c) = out j in
-            (m, between-more ts l ls x y a c b)),
+            (m, between-more (tests q) l ls x y a c b)),
         (λ (k, b). let (a, c) = b l (here refl) in ih .1 ((y, (x, (refl, a), k), (refl, c)), λ m i. b m (there i))),
       )
     where
-      out : Rel G (seq (seq (test (holds ts (l .from))) e) (test (holds ts (l .to)))) x y
-          → Rel G e x y × (holds ts (l .from) (G .atom x) ≡ true) × (holds ts (l .to) (G .atom y) ≡ true)
-      out (z, (w, (p, a), k), (r, b)) =
-          (subst (Rel G e x) r (subst (λ t. Rel G e t z) (sym p) k), a, subst (λ t. holds ts (l .to) (G .atom t) ≡ true) r b)
+      out : Rel G (seq (seq (test (holds (tests q) (l .from))) (exprOf q e)) (test (holds (tests q) (l .to)))) x y
+          → Rel G (exprOf q e) x y × (holds (tests q) (l .from) (G .atom x) ≡ true) × (holds (tests q) (l .to) (G .atom y) ≡ true)
+      out (z, (w, (p, a), k), (r, b)) = (
+        subst (Rel G (exprOf q e) x) r (subst (λ t. Rel G (exprOf q e) t z) (sym p) k),
+        a,
+        subst (λ t. holds (tests q) (l .to) (G .atom t) ≡ true) r b,
+      )
 
   pub single-edge : (q : Query) (n : Name) (x y : G .Event) → Rel G (single q n) x y ↔ G .edge (indexOf n (relations q)) x y
   unfolding single
@@ -106,9 +110,10 @@ module _ (G : Graph) where
   module _ (q : Query)
       (kept : (n : Name) (t u : TestTree) → In (withinLine n t u) q → Meets G q (withinLine n t u))
       (shut : (n : Name) → In (closedLine n) q → Meets G q (closedLine n)) where
-    limited-alike : (n : Name) → Alike (single q n) (bounded (tests q) (each (limits n) q) (single q n))
+    limited-alike : (n : Name) → Alike (single q n) (exprOf q (bounded (each (limits n) q) (stepOf n)))
+    unfolding exprOf
     limited-alike n x y =
-        let means = bounded-means (tests q) (each (limits n) q) (single q n) x y in (
+        let means = bounded-means q (each (limits n) q) (stepOf n) x y in (
           (λ h.
               means .1 (
                 h,
@@ -121,13 +126,13 @@ module _ (G : Graph) where
 
     -- each relation and what it stands for mean the same
     pub replacement-is-right : (n : Name) → Alike (single q n) (replaced q n)
-    unfolding replaced
+    unfolding replaced standsFor exprOf
     replacement-is-right n = go (closed q n) refl
       where
-        e : Expr
-        e = bounded (tests q) (each (limits n) q) (single q n)
+        e : Expanded
+        e = bounded (each (limits n) q) (stepOf n)
 
-        go : (b : Bool) → closed q n ≡ b → Alike (single q n) (elim b [ true ↦ repeated e | false ↦ e ])
+        go : (b : Bool) → closed q n ≡ b → Alike (single q n) (exprOf q (elim b [ true ↦ plusOf e | false ↦ e ]))
         go false h x y = limited-alike n x y
         go true h x y = (
           (λ k. once (limited-alike n x y .0 k)),

@@ -1,13 +1,13 @@
 -- Occurrences and leaves of the two sides after expanding, and their limits. (Document 01, "Standings", Limits.) They are counted
 -- name by name, each let once, so that lets which stand for enormous expressions are counted and not written out.
 -- Assumes nothing.
-use Prim.Native.Nat.{ℕ, suc, _+_, _*_}
+use Prim.Native.Nat.{ℕ, _+_}
 use mathlib.Core.Bool.{Bool, _&&_}
 use mathlib.Core.List.{List, [], _∷_, _++_}
 use lib.Dec.{leb}
-use lib.ListN.{length}
 use Rattle.claims.specs.Tree.{Tree, name, tested, union, sequence, star, plus, opt, Claim, includes, empty, irreflexive}
-use Rattle.claims.specs.Query.{Query, Bound, lookup, each, names, limits, assumedEmpty, assumedIrreflexive}
+use Rattle.claims.specs.Query.{Query, Bound, lookup, each, names, assumedEmpty, assumedIrreflexive}
+use Rattle.claims.specs.Expanded.{standsFor, countExpanded}
 
 -- what an expression counts, where each bracketed test counts t and each name what it is bound to ("Standings")
 unfoldable pub count : ℕ → List (Bound ℕ) → Tree → ℕ
@@ -19,13 +19,13 @@ count t env (star e) = count t env e
 count t env (plus e) = count t env e
 count t env (opt e) = count t env e
 
--- a relation is one occurrence, and one leaf with two more for each of its `within` lines ("Standings")
+-- the occurrences of an expression after expanding: a relation has those of what it stands for, and a test none ("Standings")
 unfoldable pub occurrencesOf : Query → Tree → ℕ
-occurrencesOf q e = count 0 (names q (λ n. 1) (count 0)) e
+occurrencesOf q e = count 0 (names q (λ n. countExpanded 0 (standsFor q n)) (count 0)) e
 
--- the leaves of an expression after expanding ("Standings")
+-- the leaves of an expression after expanding: a relation has those of what it stands for, and a test is one ("Standings")
 unfoldable pub leavesOf : Query → Tree → ℕ
-leavesOf q e = count 1 (names q (λ n. suc (2 * length (each (limits n) q))) (count 1)) e
+leavesOf q e = count 1 (names q (λ n. countExpanded 1 (standsFor q n)) (count 1)) e
 
 -- the sum over several expressions ("Standings")
 abbrev pub total : (Tree → ℕ) → List Tree → ℕ

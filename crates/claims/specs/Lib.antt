@@ -4,13 +4,14 @@ pub mod Tokens
 pub mod Tree
 pub mod Grammar
 pub mod Lines
--- "Refusals with an example each": causes and numbers; then names, the query, the limits, and the reading with 1 to 8.
+-- "Refusals with an example each": causes and numbers; then names, the query, what a relation stands for, the limits, and the reading with 1 to 8.
 pub mod Refusals
 pub mod Names
 pub mod Query
+pub mod Expanded
 pub mod Counting
 pub mod Reading
--- "Words": what a relation stands for, the two sides, refuting words.
+-- "Words": the two sides, refuting words.
 pub mod Sides
 pub mod Words
 -- "Standings": path and ring as they are computed, and what their fields say; levels, the verdict.

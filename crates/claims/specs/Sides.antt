@@ -1,5 +1,5 @@
--- The two sides of a claim. (Document 01, "Words".) Before anything else each relation stands for its step between its limits, and a
--- closed one for the `+` of that; lets are expanded. `replaced` is the only place that knows what a relation stands for.
+-- The two sides of a claim. (Document 01, "Words".) Before anything else each relation is replaced by what it stands for
+-- (`Expanded.antt`), and lets are expanded.
 -- Assumes nothing.
 use Prim.Native.Nat.{ℕ}
 use mathlib.Core.Bool.{Bool, true, false}
@@ -8,7 +8,8 @@ use lib.ListN.{length}
 use Rattle.kat.specs.Expr.{Expr, test, alt, seq, rel, any, none as nowhere, opt as optional, star as starred, plus as repeated}
 use Rattle.kat.specs.Tables.{null}
 use Rattle.claims.specs.Tree.{Name, Tree, name, tested, union, sequence, star, plus, opt, Claim, includes, empty, irreflexive}
-use Rattle.claims.specs.Query.{Query, Bound, Limit, lookup, each, names, indexOf, tests, relations, limits, closed, holds, atoms, live, assumedEmpty, assumedIrreflexive}
+use Rattle.claims.specs.Query.{Query, Bound, lookup, each, names, indexOf, tests, relations, holds, atoms, live, assumedEmpty, assumedIrreflexive}
+use Rattle.claims.specs.Expanded.{Expanded, stepOf, testOf, nothing, unionOf, sequenceOf, starOf, plusOf, optOf, standsFor}
 
 -- an expression as written, where each name stands for what it is bound to ("Words")
 unfoldable pub expand : List Name → List (Bound Expr) → Tree → Expr
@@ -28,16 +29,20 @@ meant q w e = expand (tests q) (names q w (expand (tests q))) e
 unfoldable pub single : Query → Name → Expr
 single q n = rel (indexOf n (relations q))
 
--- e from T to U, for each limit ("Words")
-unfoldable pub bounded : List Name → List Limit → Expr → Expr
-bounded ts [] e = e
-bounded ts (l ∷ ls) e = bounded ts ls (seq (seq (test (holds ts (l .from))) e) (test (holds ts (l .to))))
+-- an expanded expression over numbered tests and relations ("Words")
+unfoldable pub exprOf : Query → Expanded → Expr
+exprOf q (stepOf n) = single q n
+exprOf q (testOf t) = test (holds (tests q) t)
+exprOf q nothing = nowhere
+exprOf q (unionOf e f) = alt (exprOf q e) (exprOf q f)
+exprOf q (sequenceOf e f) = seq (exprOf q e) (exprOf q f)
+exprOf q (starOf e) = starred (exprOf q e)
+exprOf q (plusOf e) = repeated (exprOf q e)
+exprOf q (optOf e) = optional (exprOf q e)
 
--- what a relation stands for ("Words")
+-- the expression that a relation stands for ("Words")
 unfoldable pub replaced : Query → Name → Expr
-replaced q n =
-    let e : Expr = bounded (tests q) (each (limits n) q) (single q n) in
-    elim (closed q n) [ true ↦ repeated e | false ↦ e ]
+replaced q n = exprOf q (standsFor q n)
 
 -- an expression of a side: relations replaced, lets expanded ("Words")
 unfoldable pub side : Query → Tree → Expr

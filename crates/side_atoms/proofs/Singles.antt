@@ -8,11 +8,12 @@ use mathlib.Core.Bool.{Bool, true, false, _&&_, _||_}
 use mathlib.Core.List.{List, [], _∷_}
 use lib.Dec.{eqb}
 use borrow.Author.Tests.{eq-eqb}
-use Rattle.kat.specs.Expr.{Expr, step, test, seq, plus, rel, any}
+use Rattle.kat.specs.Expr.{Expr, step, test, seq, plus, any}
 use Rattle.kat.specs.Tables.{reads, null, firsts, lasts, follows}
 use Rattle.claims.specs.Tree.{Name}
 use Rattle.claims.specs.Query.{Query, Limit, each, indexOf, tests, relations, limits, closed, holds}
-use Rattle.claims.specs.Sides.{single, bounded, replaced}
+use Rattle.claims.specs.Expanded.{Expanded, stepOf, testOf, sequenceOf, plusOf, bounded, standsFor}
+use Rattle.claims.specs.Sides.{single, exprOf, replaced}
 use Rattle.side_atoms.specs.Single.{Single, starts, stops}
 
 or-false : (b : Bool) → (b || false) ≡ b
@@ -101,39 +102,41 @@ and-regroup true y z = refl
 and-regroup false y z = refl
 
 -- between all limits
-pub bounded-single : (ts : List Name) (ls : List Limit) (E : Expr) (F L G S : ℕ → Bool) → Single E F L G S
-    → Single (bounded ts ls E) (λ a. starts ts ls a && F a) (λ a. L a && stops ts ls a) G S
-unfolding bounded starts stops
-bounded-single ts [] E F L G S x =
-    single-same E F L G S F (λ a. L a && true) G x (λ a. refl) (λ a. sym (and-true (L a))) (λ a. refl)
-bounded-single ts (l ∷ ls) E F L G S x =
-    single-same (bounded ts ls (seq (seq (test (holds ts (l .from))) E) (test (holds ts (l .to)))))
+pub bounded-single : (q : Query) (ls : List Limit) (e : Expanded) (F L G S : ℕ → Bool) → Single (exprOf q e) F L G S
+    → Single (exprOf q (bounded ls e)) (λ a. starts (tests q) ls a && F a) (λ a. L a && stops (tests q) ls a) G S
+unfolding bounded exprOf starts stops
+bounded-single q [] e F L G S x =
+    single-same (exprOf q e) F L G S F (λ a. L a && true) G x (λ a. refl) (λ a. sym (and-true (L a))) (λ a. refl)
+bounded-single q (l ∷ ls) e F L G S x =
+    let ts = tests q in
+    let inside : Expanded = sequenceOf (sequenceOf (testOf (l .from)) e) (testOf (l .to)) in
+    single-same (exprOf q (bounded ls inside))
     (λ a. starts ts ls a && (holds ts (l .from) a && F a)) (λ a. (L a && holds ts (l .to) a) && stops ts ls a) G S
     (λ a. (holds ts (l .from) a && starts ts ls a) && F a) (λ a. L a && (holds ts (l .to) a && stops ts ls a)) G
-    (bounded-single ts ls (seq (seq (test (holds ts (l .from))) E) (test (holds ts (l .to))))
-    (λ a. holds ts (l .from) a && F a) (λ a. L a && holds ts (l .to) a) G S
-    (between-single E F L G S (holds ts (l .from)) (holds ts (l .to)) x))
+    (bounded-single q ls inside (λ a. holds ts (l .from) a && F a) (λ a. L a && holds ts (l .to) a) G S
+    (between-single (exprOf q e) F L G S (holds ts (l .from)) (holds ts (l .to)) x))
     (λ a. and-move (holds ts (l .from) a) (starts ts ls a) (F a)) (λ a. and-regroup (L a) (holds ts (l .to) a) (stops ts ls a)) (λ a. refl)
 
 -- closed or not
-closed-single : (b : Bool) (E : Expr) (F L S : ℕ → Bool) → Single E F L (λ a. false) S
-    → Single (elim b [ true ↦ plus E | false ↦ E ]) F L (λ a. b && (L a && F a)) S
-closed-single true E F L S x = plus-single E F L (λ a. false) S x
-closed-single false E F L S x = x
+closed-single : (q : Query) (b : Bool) (e : Expanded) (F L S : ℕ → Bool) → Single (exprOf q e) F L (λ a. false) S
+    → Single (exprOf q (elim b [ true ↦ plusOf e | false ↦ e ])) F L (λ a. b && (L a && F a)) S
+unfolding exprOf
+closed-single q true e F L S x = plus-single (exprOf q e) F L (λ a. false) S x
+closed-single q false e F L S x = x
 
 -- what a relation of the query stands for ("Words")
 pub replaced-single : (q : Query) (n : Name)
     → Single (replaced q n) (starts (tests q) (each (limits n) q)) (stops (tests q) (each (limits n) q))
     (λ a. closed q n && (stops (tests q) (each (limits n) q) a && starts (tests q) (each (limits n) q) a)) (eqb (indexOf n (relations q)))
-unfolding replaced single
+unfolding replaced standsFor exprOf single
 replaced-single q n =
     let ts = tests q in
     let ls = each (limits n) q in
-    let E = rel (indexOf n (relations q)) in
-    closed-single (closed q n) (bounded ts ls E) (starts ts ls) (stops ts ls) (eqb (indexOf n (relations q)))
-    (single-same (bounded ts ls E) (λ a. starts ts ls a && true) (stops ts ls) (λ a. false) (eqb (indexOf n (relations q)))
+    let S = eqb (indexOf n (relations q)) in
+    closed-single q (closed q n) (bounded ls (stepOf n)) (starts ts ls) (stops ts ls) S
+    (single-same (exprOf q (bounded ls (stepOf n))) (λ a. starts ts ls a && true) (stops ts ls) (λ a. false) S
     (starts ts ls) (stops ts ls) (λ a. false)
-    (bounded-single ts ls E (λ a. true) (λ a. true) (λ a. false) (eqb (indexOf n (relations q))) (step-single (eqb (indexOf n (relations q)))))
+    (bounded-single q ls (stepOf n) (λ a. true) (λ a. true) (λ a. false) S (step-single S))
     (λ a. and-true (starts ts ls a)) (λ a. refl) (λ a. refl))
 
 -- one step of whichever relation

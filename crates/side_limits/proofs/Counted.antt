@@ -1,21 +1,22 @@
 -- What the codes of a query that was read count is what document 01 counts of its two sides, and the test of refusal 8 on the numbers up
 -- to 1,000 is the test of the limits. Where it holds, no number was cut off.
 -- Assumes nothing.
-use Prim.Native.Nat.{ℕ, suc, _+_, _*_, _≤_}
+use Prim.Native.Nat.{ℕ, _+_, _≤_}
 use native.Mathlib.Nat.{add-zero}
 use native.Mathlib.Omega.{arith}
 use mathlib.Core.Path.{_≡_, refl, sym, _∙_, ap, ap₂}
 use mathlib.Core.Bool.{Bool, true, false, cond, _&&_}
 use mathlib.Core.List.{List, [], _∷_, _++_}
 use lib.Dec.{leb}
-use lib.ListN.{length}
 use borrow.Author.Tests.{leb-true, le-leb}
 use Rattle.kat.proofs.Bools.{bool-ext}
 use Rattle.claims.specs.Tree.{Tree, Claim, includes, empty, irreflexive, claimLine}
-use Rattle.claims.specs.Query.{Query, each, limits, assumedEmpty, assumedIrreflexive, claimsOf}
+use Rattle.claims.specs.Query.{Query, each, assumedEmpty, assumedIrreflexive, claimsOf}
+use Rattle.claims.specs.Expanded.{standsFor, countExpanded}
 use Rattle.claims.specs.Counting.{total, occurrencesOf, leavesOf, sizeOf, withAnys, leftSize, rightSize, rightLimit, withinLimits}
 use Rattle.claims.specs.Sides.{decision}
 use Rattle.claims.proofs.Results.{each-append}
+use Rattle.claims.proofs.Counts.{relation-occurs-once, relation-has-leaves}
 use Rattle.codes.specs.Codes.{queryCodes}
 use Rattle.side_limits.specs.declared.Sizes.{Sizes}
 use Rattle.side_limits.specs.Tally.{capped, tally, relationLeaves, rightSide}
@@ -36,10 +37,10 @@ total-sum f g h (e ∷ es) = ap₂ _+_ (h e) (total-sum f g h es)
 module _ (q : Query) where
   -- an expression's occurrences and leaves, name by name
   abbrev occ : Tree → ℕ
-  occ = over q 0 (λ n. 1)
+  occ = over q 0 (λ n. countExpanded 0 (standsFor q n))
 
   abbrev leaf : Tree → ℕ
-  leaf = over q 1 (λ n. suc (2 * length (each (limits n) q)))
+  leaf = over q 1 (λ n. countExpanded 1 (standsFor q n))
 
   occ-same : (e : Tree) → occurrencesOf q e ≡ occ e
   unfolding occurrencesOf over
@@ -51,10 +52,11 @@ module _ (q : Query) where
 
   module _ (o : Orderly [] q) where
     occurrences-counted : tally 0 (λ r. 1) (queryCodes q) ≡ counted 0 occ q
-    occurrences-counted = query-tally q 0 (λ n. 1) (λ r. 1) (λ n h. refl) o
+    occurrences-counted = query-tally q 0 _ (λ r. 1) (λ n h. sym (relation-occurs-once q n)) o
 
     leaves-counted : tally 1 (relationLeaves (queryCodes q)) (queryCodes q) ≡ counted 1 leaf q
-    leaves-counted = query-tally q 1 _ (relationLeaves (queryCodes q)) (relation-leaves q o) o
+    leaves-counted =
+        query-tally q 1 _ (relationLeaves (queryCodes q)) (λ n h. relation-leaves q o n h ∙ sym (relation-has-leaves q n)) o
 
 -- the numbers of a query's sides
 pub record Exactly (q : Query) (c : Claim) (s : Sizes) : Type 0 where

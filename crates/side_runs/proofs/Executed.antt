@@ -1,7 +1,7 @@
 -- Executing the items from a place on builds the expression that stands there: its names stand for what the lines before declare, and a
 -- let for what its own line, which starts at a place before, builds.
 -- Assumes nothing.
-use Prim.Native.Nat.{ℕ, zero, suc, _+_, _*_, _^_, _≤_, _<_}
+use Prim.Native.Nat.{ℕ, zero, suc, _+_, _^_, _≤_, _<_}
 use native.Mathlib.Omega.{arith}
 use mathlib.Core.Path.{_≡_, sym, _∙_, ap}
 use mathlib.Core.Logic.{⊎-elim}
@@ -16,8 +16,10 @@ use Rattle.kat.proofs.Bools.{bool-ext}
 use Rattle.claims.specs.Tree.{Name, Tree}
 use Rattle.claims.specs.Names.{aRelation, aLet, usesEither, kindOf, slip}
 use Rattle.claims.specs.Query.{Query, Bound, lookup, each, names, indexOf, tests, relations, limits, closed}
+use Rattle.claims.specs.Expanded.{standsFor, countExpanded}
 use Rattle.claims.specs.Counting.{count, leavesOf}
 use Rattle.claims.specs.Sides.{expand, meant, replaced, side}
+use Rattle.claims.proofs.Counts.{relation-has-leaves}
 use Rattle.codes.specs.Codes.{letNames, codeOf, treeCodes, linesCodes, queryCodes}
 use Rattle.codes.proofs.Orderly.{Orderly, Settled}
 use Rattle.codes.proofs.Bindings.{relation-or-let, relation-place, relation-in, LetLine, let-line, relation-bound, let-bound, count-grows, expand-grows}
@@ -46,7 +48,7 @@ equal-turned a b =
 module _ (q : Query) (rels : List ℕ) (o : Orderly [] q) (few : length (queryCodes q) ≤ 4096) (lim : Limited q rels) where
   -- the leaves of each name, and what it stands for
   abbrev leaves : Name → ℕ
-  leaves n = suc (2 * length (each (limits n) q))
+  leaves n = countExpanded 1 (standsFor q n)
 
   abbrev counts : List (Bound ℕ)
   counts = names q leaves (count 1)
@@ -79,7 +81,7 @@ module _ (q : Query) (rels : List ℕ) (o : Orderly [] q) (few : length (queryCo
         relation-bound 0 (count 1) (count-grows 1) q leaves o p r z s n k,
         relation-bound nowhere (expand (tests q)) (expand-grows (tests q)) q (replaced q) o p r z s n k,
       )
-      (builds-more 1 (leaves n) (omega arith) (relation-fresh p r z s ss call n k))
+      (builds-more 1 (leaves n) (omega (arith, relation-has-leaves q n)) (relation-fresh p r z s ss call n k))
 
   -- an expression at its place, where the lets before it are built to a depth of d
   module _ (d : ℕ) (built : (e : Tree) (s : ℕ) → Placed q e s → s < d
