@@ -1,23 +1,19 @@
 -- "Exactly one claim, the last line" (document 01, "The query"): lines that are taken one after another have no claim, or one and at
 -- the end. The idea: a line is taken only where none before it is a claim, so only the last one can be.
 -- Assumes nothing.
-use Prim.Native.Nat.{ℕ, suc}
+use Prim.Native.Nat.{ℕ}
 use native.Mathlib.Omega.{arith}
 use mathlib.Core.Path.{_≡_, refl, sym, _∙_, ap, subst}
 use mathlib.Core.Logic.{_⊎_}
 use mathlib.Core.Logic._⊎_.{inl, inr}
 use mathlib.Core.List.{List, [], _∷_, _++_}
 use mathlib.Core.Option.{Option, some, none}
-use lib.ListN.{length, length-append}
-use Rattle.claims.specs.Bytes.{RawLine, rawLines}
+use Rattle.claims.specs.Bytes.{RawLine}
 use Rattle.claims.specs.Tree.{Claim, Line, testLine, relLine, letLine, neverLine, withinLine, closedLine, assumeEmpty, assumeIrreflexive, claimLine}
 use Rattle.claims.specs.Query.{Query, each, claimsOf}
-use Rattle.claims.specs.Refusals.{overLimit, ok, refuse}
-use Rattle.claims.specs.Reading.{claimOf, read}
+use Rattle.claims.specs.Reading.{claimOf}
 use Rattle.claims.proofs.Results.{each-append}
-use Rattle.claims.proofs.LineOrder.{taken-count}
-use Rattle.claims.specs.RefusalOrder.{Taken, Accepted, EndsWith}
-use Rattle.claims.proofs.Precedence.{read-accepts, limits-last}
+use Rattle.claims.specs.RefusalOrder.{Taken, EndsWith}
 
 -- claimOf says whether there is a claim, and the first one
 pub no-claims : (q : Query) → claimOf q ≡ none → each claimsOf q ≡ []
@@ -72,25 +68,3 @@ claim-is-last ls q c ts e = go (taken-claims [] ls q (inl refl) ts)
     go : Claims q → EndsWith q c
     go (inl f) = let s : some c ≡ none = sym e ∙ claims-none q f in absurd (let z : _≡_ {A = ℕ} 0 1 = cc in omega arith)
     go (inr (d, w)) = let s : some d ≡ some c = sym (the-claim q d w) ∙ e in subst (EndsWith q) (cc) w
-
--- an accepted query has exactly one claim, the last line
-pub exactly-one-claim : (bs : List ℕ) (q : Query) → read bs ≡ ok q
-    → (before : Query) × (c : Claim) × (q ≡ before ++ (claimLine c ∷ [])) × (each claimsOf before ≡ []) × (claimOf q ≡ some c)
-exactly-one-claim bs q e =
-    let a : Accepted bs q = read-accepts bs q .0 e in
-    let (before, f, g) = claim-is-last (rawLines bs) q (a .claim) (a .every-line-taken) (a .claimed) in
-    (before, a .claim, f, g, a .claimed)
-
--- "8 is placed at the claim line": the lines before it and the claim itself are taken, and the place is the claim's line
-pub eight-at-the-claim-line : (bs : List ℕ) (p : ℕ) → read bs ≡ refuse overLimit p
-    → (before : Query) × (c : Claim) × Taken [] (rawLines bs) (before ++ (claimLine c ∷ []))
-    × (each claimsOf before ≡ []) × (p ≡ suc (length before))
-eight-at-the-claim-line bs p e =
-    let (o, (q, c, ts, f, g), z) = limits-last bs p .0 e in
-    let (before, h, k) = claim-is-last (rawLines bs) q c ts f in (
-      before,
-      c,
-      subst (Taken [] (rawLines bs)) h ts,
-      k,
-      omega (arith, taken-count [] (rawLines bs) q ts, ap length h, length-append before (claimLine c ∷ [])),
-    )

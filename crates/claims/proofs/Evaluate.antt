@@ -12,6 +12,7 @@ use Rattle.claims.specs.Names
 use Rattle.claims.specs.Query
 use Rattle.claims.specs.Expanded
 use Rattle.claims.specs.Counting
+use Rattle.claims.specs.Decisions
 use Rattle.claims.specs.Reading
 use Rattle.claims.specs.Sides
 use Rattle.claims.specs.Standings
@@ -70,6 +71,10 @@ unfoldable pub open-Counting : Unit {0}
 unfolding Counting.count Counting.occurrencesOf Counting.leavesOf Counting.sizeOf Counting.withAnys Counting.leftSize Counting.rightSize Counting.rightLimit Counting.withinLimits
 open-Counting = tt
 
+unfoldable pub open-Decisions : Unit {0}
+unfolding Decisions.decisionsFrom Decisions.decisions Decisions.firstOver Decisions.lastOf
+open-Decisions = tt
+
 unfoldable pub open-Reading : Unit {0}
 unfolding Reading.badLine Reading.crowded Reading.claimOf Reading.readLine Reading.readLines Reading.limited Reading.read
 open-Reading = tt
@@ -123,5 +128,5 @@ unfolding Printed.digitsBefore Printed.decimal Printed.spaced Printed.answerLine
 open-Printed = tt
 
 unfoldable pub everything : Unit {0}
-unfolding open-Tables open-Closure open-Bytes open-Tokens open-Grammar open-Lines open-Refusals open-Names open-Query open-Expanded open-Counting open-Reading open-Sides open-Standings open-Search open-Fields open-SheetBytes open-SheetReading open-Passing open-GraphBytes open-Judgement open-Drawn open-Calls open-Printed
+unfolding open-Tables open-Closure open-Bytes open-Tokens open-Grammar open-Lines open-Refusals open-Names open-Query open-Expanded open-Counting open-Decisions open-Reading open-Sides open-Standings open-Search open-Fields open-SheetBytes open-SheetReading open-Passing open-GraphBytes open-Judgement open-Drawn open-Calls open-Printed
 everything = tt

@@ -3,20 +3,20 @@
 -- call's answer comes from its parts' answers, which are taken apart one by one.
 -- Assumes nothing.
 use Prim.Native.Nat.{ℕ}
-use native.Mathlib.Omega.{arith}
 use mathlib.Core.Path.{_≡_, refl, sym, _∙_, ap, subst}
 use mathlib.Core.List.{List}
-use mathlib.Core.Option.{Option, some, none}
+use mathlib.Core.Option.{some}
 use Rattle.kat.specs.Graph.{graph}
 use Rattle.claims.specs.Tree.{Claim, includes, empty, irreflexive}
 use Rattle.claims.specs.Query.{Query, atoms, relations}
 use Rattle.claims.specs.Sides.{Decision, decision}
 use Rattle.claims.specs.Reading.{read, claimOf}
-use Rattle.claims.specs.Refusals.{noClaim, Result, ok, refuse, onward}
+use Rattle.claims.specs.Refusals.{Result, ok, onward}
 use Rattle.claims.specs.Meaning.{Execution}
 use Rattle.claims.specs.GraphBytes.{Listed, Ranges, graphIn, finite}
 use Rattle.claims.specs.Judgement.{Judgement, judgement}
 use Rattle.claims.specs.Calls.{Asked, asked, judge-call}
+use Rattle.claims.proofs.Limits.{asked-read}
 use Rattle.claims.proofs.Results.{onward-ok}
 use Rattle.claims.proofs.Judging.{judgement-is-meaning}
 use Rattle.claims.specs.Judgements.{JudgementIsMeaning}
@@ -30,19 +30,7 @@ pub record IsAsked (bs : List ℕ) (a : Asked) : Type 0 where
   pub decides : a .decided ≡ decision (a .query) (a .claim)
 
 pub asked-is : (bs : List ℕ) (a : Asked) → asked bs ≡ ok a → IsAsked bs a
-unfolding asked
-asked-is bs a e =
-    let (q, r, d) = onward-ok (read bs) _ e in
-    go q r (claimOf q) refl d
-  where
-    go : (q : Query) → read bs ≡ ok q → (o : Option Claim) → claimOf q ≡ o
-        → elim o [ some c ↦ ok (record { query = q; claim = c; decided = decision q c }) | none ↦ refuse noClaim 0 ] ≡ ok a
-        → IsAsked bs a
-    go q r (some c) m d =
-        let b : Asked = record { query = q; claim = c; decided = decision q c } in
-        let p : b ≡ a = cc in
-        subst (IsAsked bs) p (record { reads = r; claims = m; decides = refl })
-    go q r none m d = let z : _≡_ {A = ℕ} 0 1 = cc in absurd (omega arith)
+asked-is bs a e = let (r, c, d) = asked-read bs e in record { reads = r; claims = c; decides = d }
 
 -- the ranges of a decision are the query's
 abbrev pub decidedRanges : Decision → Ranges

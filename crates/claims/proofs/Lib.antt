@@ -11,8 +11,9 @@ pub mod Fuel
 -- The order of refusals.
 pub mod FirstFault
 pub mod LineOrder
-pub mod Precedence
 pub mod ClaimLast
+pub mod Decisions
+pub mod Precedence
 pub mod SearchOrder
 pub mod SearchMemory
 pub mod CheckOrder

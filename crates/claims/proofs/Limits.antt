@@ -1,13 +1,13 @@
 -- What an accepted query keeps to: the numbers of tests, relations, lets and occurrences that every later step may count on. Each
 -- line was tested for one declaration too many, and the claim's two sides were counted (`Counts.antt`).
 -- Assumes nothing.
-use Prim.Native.Nat.{ℕ, suc, _+_, _^_, _≤_, _<_}
+use Prim.Native.Nat.{ℕ, _+_, _^_, _≤_, _<_}
 use native.Mathlib.Nat.{pow-le-pow-right}
 use native.Mathlib.Omega.{arith}
 use mathlib.Core.Path.{_≡_, refl, sym, _∙_, ap, subst}
 use mathlib.Core.Bool.{Bool, true, false, _&&_, true≢false}
 use mathlib.Core.List.{List, [], _∷_, _++_, append-nil}
-use mathlib.Core.Option.{Option, some, none}
+use mathlib.Core.Option.{some}
 use lib.Dec.{leb}
 use lib.ListN.{length, length-append}
 use borrow.Author.Tests.{leb-true, leb-false}
@@ -16,40 +16,18 @@ use Rattle.kat.specs.Tables.{occurrences}
 use Rattle.kat.proofs.Sets.{member-in, filter-in, upto-in}
 use Rattle.claims.specs.Bytes.{RawLine, rawLines}
 use Rattle.claims.specs.Tree.{Claim, includes, empty, irreflexive, Line, testLine, relLine, letLine, neverLine, withinLine, closedLine, assumeEmpty, assumeIrreflexive, claimLine}
-use Rattle.claims.specs.Grammar.{Found, got, wrong, deep}
-use Rattle.claims.specs.Lines.{line}
-use Rattle.claims.specs.Names.{uses, firstSlip}
 use Rattle.claims.specs.Query.{Query, each, testNames, relationNames, lets, tests, relations, atoms, live}
 use Rattle.claims.specs.Counting.{leftSize, rightSize, rightLimit, withinLimits}
-use Rattle.claims.specs.Reading.{badLine, crowded, claimOf, readLine, readLines, limited, read}
-use Rattle.claims.specs.Refusals.{Refusal, Result, ok, refused}
+use Rattle.claims.specs.Reading.{crowded, claimOf, read}
+use Rattle.claims.specs.Refusals.{ok}
 use Rattle.claims.specs.Sides.{Decision, decision}
+use Rattle.claims.specs.SheetBytes.{width}
 use Rattle.claims.specs.Calls.{Asked, asked}
-use Rattle.claims.proofs.Results.{refused-not-ok, onward-ok, each-append}
+use Rattle.claims.specs.RefusalOrder.{Taken, Accepted}
+use Rattle.claims.proofs.Results.{each-append}
+use Rattle.claims.proofs.Precedence.{read-accepts}
+use Rattle.claims.proofs.SearchOrder.{asked-only-accepted}
 use Rattle.claims.proofs.Counts.{counted-left, counted-right}
-
-module _ {A : Type 0} where
-  -- a test that a value has passed
-  passed-false : (b : Bool) (r : Refusal) (x : Result A) {a : A} → _≡_ {A = Result A} (elim b [ true ↦ refused r | false ↦ x ]) (ok a)
-      → (b ≡ false) × (x ≡ ok a)
-  passed-false true r x e = refused-not-ok e
-  passed-false false r x e = (refl, e)
-
-  passed-true : (b : Bool) (r : Refusal) (x : Result A) {a : A} → _≡_ {A = Result A} (elim b [ true ↦ x | false ↦ refused r ]) (ok a)
-      → (b ≡ true) × (x ≡ ok a)
-  passed-true true r x e = (refl, e)
-  passed-true false r x e = refused-not-ok e
-
-module _ {A B : Type 0} where
-  passed-none : (o : Option B) (f : B → Refusal) (x : Result A) {a : A}
-      → _≡_ {A = Result A} (elim o [ some c ↦ refused (f c) | none ↦ x ]) (ok a) → (o ≡ none) × (x ≡ ok a)
-  passed-none (some c) f x e = refused-not-ok e
-  passed-none none f x e = (refl, e)
-
-  passed-some : (o : Option B) (r : Refusal) (k : B → Result A) {a : A}
-      → _≡_ {A = Result A} (elim o [ some c ↦ k c | none ↦ refused r ]) (ok a) → (c : B) × (o ≡ some c) × (k c ≡ ok a)
-  passed-some (some c) r k e = (c, refl, e)
-  passed-some none r k e = refused-not-ok e
 
 -- declarations: 6 tests, 16 relations and 32 lets
 pub record Declared (q : Query) : Type 0 where
@@ -87,53 +65,23 @@ declared-more q x e d =
     let (h, k, l) = line-fits q x e d in
     record { tests = rw each-more h; relations = rw each-more k; lets = rw each-more l }
 
-read-line-fits : (q : Query) (n : ℕ) (f : Found Line) {x : Line} → readLine q n f ≡ ok x → crowded q x ≡ false
-unfolding readLine
-read-line-fits q n (got l us) {x} e =
-    let (s, h) = passed-none (firstSlip q (uses l)) (λ c. record { cause = c; place = n }) _ e in
-    let (b, k) = passed-false (crowded q l) _ (ok l) h in
-    let z : l ≡ x = cc in
-    subst (λ y. crowded q y ≡ false) z b
-read-line-fits q n wrong e = refused-not-ok e
-read-line-fits q n deep e = refused-not-ok e
-
--- from declarations within the limits on, the lines keep to them
-read-lines-declared : (ls : List RawLine) (q : Query) (n : ℕ) {p : Query} → readLines q n ls ≡ ok p → Declared q → Declared p
-unfolding readLines
-read-lines-declared [] q n {p} e d = let z : q ≡ p = cc in subst Declared z d
-read-lines-declared (l ∷ ls) q n e d =
-    let (s, h) = passed-none (claimOf q) _ _ e in
-    let (x, i, j) = onward-ok (readLine q n (line l)) (λ x. readLines (q ++ (x ∷ [])) (suc n) ls) h in
-    read-lines-declared ls (q ++ (x ∷ [])) (suc n) j (declared-more q x (read-line-fits q n (line l) i) d)
-
-limited-within : (q : Query) {p : Query} → limited q ≡ ok p → (q ≡ p) × (c : Claim) × (claimOf q ≡ some c) × (withinLimits q c ≡ true)
-unfolding limited
-limited-within q {p} e =
-    let (c, h, i) = passed-some (claimOf q) _ _ e in
-    let (b, j) = passed-true (withinLimits q c) _ (ok q) i in
-    let z : q ≡ p = cc in
-    (z, c, h, b)
+-- from declarations within the limits on, the lines that are taken keep to them
+taken-declared : (ls : List RawLine) (q p : Query) → Taken q ls p → Declared q → Declared p
+taken-declared [] q p e d = subst Declared e d
+taken-declared (l ∷ ls) q p (x, t, ts) d = taken-declared ls (q ++ (x ∷ [])) p ts (declared-more q x (t .room-for-it) d)
 
 pub read-within : (bs : List ℕ) {q : Query} → read bs ≡ ok q → Declared q × (c : Claim) × (claimOf q ≡ some c) × (withinLimits q c ≡ true)
-unfolding read
 read-within bs {q} e =
-    let (t, h) = passed-true (leb (length bs) 4096) _ _ e in
-    let (s, i) = passed-none (badLine 1 bs) _ _ h in
-    let (p, j, k) = onward-ok (readLines [] 1 (rawLines bs)) limited i in
-    let (z, c, l, w) = limited-within p k in
-    subst (λ x. Declared x × (c : Claim) × (claimOf x ≡ some c) × (withinLimits x c ≡ true)) z
-    (read-lines-declared (rawLines bs) [] 1 j nothing-declared, c, l, w)
+    let a : Accepted bs q = read-accepts bs q .0 e in
+    (taken-declared (rawLines bs) [] q (a .every-line-taken) nothing-declared, a .claim, a .claimed, a .within-the-limits)
 
 -- what is asked is what was read, with its claim
 pub asked-read : (bs : List ℕ) {a : Asked} → asked bs ≡ ok a
     → (read bs ≡ ok (a .query)) × (claimOf (a .query) ≡ some (a .claim)) × (a .decided ≡ decision (a .query) (a .claim))
-unfolding asked
 asked-read bs {a} e =
-    let (q, h, i) = onward-ok (read bs) _ e in
-    let (c, j, k) = passed-some (claimOf q) _ (λ c. ok (record { query = q; claim = c; decided = decision q c })) i in
-    let z : record { query = q; claim = c; decided = decision q c } ≡ a = cc in
-    subst (λ x. (read bs ≡ ok (x .query)) × (claimOf (x .query) ≡ some (x .claim)) × (x .decided ≡ decision (x .query) (x .claim))) z
-    (h, j, refl)
+    let (q, b, z) = asked-only-accepted bs a e in
+    subst (λ x. (read bs ≡ ok (x .query)) × (claimOf (x .query) ≡ some (x .claim)) × (x .decided ≡ decision (x .query) (x .claim)))
+    (sym z) (read-accepts bs q .1 b, b .claimed, refl)
 
 -- what the decision of an accepted query keeps to
 pub record WithinLimits (D : Decision) : Type 0 where
@@ -160,7 +108,7 @@ within-sides q c e =
     (omega (arith, counted-left q c), omega (arith, counted-right q c))
 
 limit-of-right : (q : Query) (c : Claim) → (rightLimit c ≤ 64) × (decision q c .ring ≡ true → rightLimit c ≤ 31)
-unfolding rightLimit decision
+unfolding rightLimit decision width
 limit-of-right q (includes e f) = (omega arith, λ h. absurd (true≢false (sym h)))
 limit-of-right q (empty e) = (omega arith, λ h. absurd (true≢false (sym h)))
 limit-of-right q (irreflexive e) = (omega arith, λ h. omega arith)

@@ -3,26 +3,29 @@
 -- opened once, by the rules, into `ReadRefused`, which lists all that refuses a query; each "only then" is read off there, the causes
 -- being told apart by their numbers.
 -- Assumes nothing.
-use Prim.Native.Nat.{ℕ, _≤_, _<_}
+use Prim.Native.Nat.{ℕ, suc, _≤_, _<_}
 use native.Mathlib.Nat.{zero-add}
 use native.Mathlib.Omega.{arith}
 use mathlib.Core.Path.{_≡_, refl, sym, _∙_, ap, subst}
 use mathlib.Core.Logic.{_⊎_, _↔_}
 use mathlib.Core.Logic._⊎_.{inl, inr}
 use mathlib.Core.Bool.{Bool, true, false}
-use mathlib.Core.List.{List, []}
+use mathlib.Core.List.{List, [], _∷_, _++_}
 use mathlib.Core.Option.{Option, some, none}
-use lib.ListN.{length}
+use lib.ListN.{length, length-append}
 use borrow.Author.Tests.{le-leb, lt-leb}
 use Rattle.kat.proofs.Bools.{le-or-lt}
 use Rattle.claims.specs.Bytes.{rawLines}
-use Rattle.claims.specs.Tree.{Claim}
-use Rattle.claims.specs.Query.{Query}
+use Rattle.claims.specs.Tree.{Claim, claimLine}
+use Rattle.claims.specs.Query.{Query, each, claimsOf}
 use Rattle.claims.specs.Counting.{withinLimits}
+use Rattle.claims.specs.Decisions.{claimAt, decisions}
 use Rattle.claims.specs.Refusals.{Cause, number, tooLong, badByte, noClaim, afterClaim, overLimit, Refusal, Result, ok, refused, refuse, onward}
 use Rattle.claims.specs.Reading.{badLine, claimOf, readLines, limited, read}
 use Rattle.claims.proofs.FirstFault.{bad-line, no-bad-line}
 use Rattle.claims.specs.RefusalOrder.{FirstBad, Taken, RefusedAmong, CleanBytes, ReadRefused, Accepted, OfALine, long, unclean, at-a-line, unclaimed, large}
+use Rattle.claims.proofs.ClaimLast.{claim-is-last}
+use Rattle.claims.proofs.Decisions.{claim-decided, limited-by-the-claim}
 use Rattle.claims.proofs.LineOrder.{ok-not-refused, same-value, same-refusal, line-refusal-number, lines-from-the-top, lines-taken, taken-count}
 
 -- refusals exclude each other: one cause and one place for each query, and none where it is accepted
@@ -52,13 +55,12 @@ limited-unclaimed : (q : Query) → claimOf q ≡ none → limited q ≡ refuse 
 unfolding limited
 limited-unclaimed q e = rw (e, limited)
 
-limited-large : (q : Query) (c : Claim) → claimOf q ≡ some c → withinLimits q c ≡ false → limited q ≡ refuse overLimit (length q)
-unfolding limited
-limited-large q c e f = rw (e, limited, f)
+module _ (bs : List ℕ) (q : Query) (ts : Taken [] (rawLines bs) q) (c : Claim) (e : claimOf q ≡ some c) where
+  limited-large : withinLimits q c ≡ false → limited q ≡ refuse overLimit (length q)
+  limited-large f = limited-by-the-claim q c (claim-is-last (rawLines bs) q c ts e) false f
 
-limited-ok : (q : Query) (c : Claim) → claimOf q ≡ some c → withinLimits q c ≡ true → limited q ≡ ok q
-unfolding limited
-limited-ok q c e f = rw (e, limited, f)
+  limited-ok : withinLimits q c ≡ true → limited q ≡ ok q
+  limited-ok f = limited-by-the-claim q c (claim-is-last (rawLines bs) q c ts e) true f
 
 refused-read : (bs : List ℕ) {c : Cause} {p : ℕ} → ReadRefused bs c p → read bs ≡ refuse c p
 refused-read bs (long h) = read-long bs h
@@ -66,11 +68,11 @@ refused-read bs (unclean {n = n} h f) = read-unclean bs n h (bad-line 1 bs n .1 
 refused-read bs (at-a-line {c = c} {p = p} o r) =
     read-lines bs o ∙ ap (λ s. onward s limited) (lines-from-the-top [] 1 (rawLines bs) c p .1 r)
 refused-read bs (unclaimed q o ts e) = read-taken bs q o ts ∙ limited-unclaimed q e
-refused-read bs (large q c o ts e f) = read-taken bs q o ts ∙ limited-large q c e f
+refused-read bs (large q c o ts e f) = read-taken bs q o ts ∙ limited-large bs q ts c e f
 
 accepted-read : (bs : List ℕ) (q : Query) → Accepted bs q → read bs ≡ ok q
 accepted-read bs q a =
-    read-taken bs q (a .in-order) (a .every-line-taken) ∙ limited-ok q (a .claim) (a .claimed) (a .within-the-limits)
+    read-taken bs q (a .in-order) (a .every-line-taken) ∙ limited-ok bs q (a .every-line-taken) (a .claim) (a .claimed) (a .within-the-limits)
 
 -- one of the two holds of every query
 pub read-fate : (bs : List ℕ) → ((c : Cause) × (p : ℕ) × ReadRefused bs c p) ⊎ ((q : Query) × Accepted bs q)
@@ -216,7 +218,7 @@ pub claim-missing-then-limits : (bs : List ℕ) (q : Query) → CleanBytes bs �
     × ((c : Claim) → claimOf q ≡ some c → withinLimits q c ≡ true → read bs ≡ ok q)
 claim-missing-then-limits bs q o ts =
     let e : read bs ≡ limited q = read-taken bs q o ts in
-    ((λ f. e ∙ limited-unclaimed q f), (λ c f g. e ∙ limited-large q c f g), (λ c f g. e ∙ limited-ok q c f g))
+    ((λ f. e ∙ limited-unclaimed q f), (λ c f g. e ∙ limited-large bs q ts c f g), (λ c f g. e ∙ limited-ok bs q ts c f g))
 
 -- reading gives the refusals 1 to 8 only
 pub reading-refusals : (bs : List ℕ) (c : Cause) (p : ℕ) → read bs ≡ refuse c p → number c ≤ 8
@@ -229,3 +231,37 @@ reading-refusals bs c p e = go (read-refuses bs c p .0 e)
     go (at-a-line o (before, l, rest, q, eq, ts, f, at)) = let (low, high, seven) = line-refusal-number f in omega arith
     go (unclaimed q o ts f) = omega arith
     go (large q c o ts f g) = omega arith
+
+-- an accepted query has exactly one claim, the last line
+pub exactly-one-claim : (bs : List ℕ) (q : Query) → read bs ≡ ok q
+    → (before : Query) × (c : Claim) × (q ≡ before ++ (claimLine c ∷ [])) × (each claimsOf before ≡ []) × (claimOf q ≡ some c)
+exactly-one-claim bs q e =
+    let a : Accepted bs q = read-accepts bs q .0 e in
+    let (before, f, g) = claim-is-last (rawLines bs) q (a .claim) (a .every-line-taken) (a .claimed) in
+    (before, a .claim, f, g, a .claimed)
+
+-- "8 is placed at the claim line": the lines before it and the claim itself are taken, and the place is the claim's line
+pub eight-at-the-claim-line : (bs : List ℕ) (p : ℕ) → read bs ≡ refuse overLimit p
+    → (before : Query) × (c : Claim) × Taken [] (rawLines bs) (before ++ (claimLine c ∷ []))
+    × (each claimsOf before ≡ []) × (p ≡ suc (length before))
+eight-at-the-claim-line bs p e =
+    let (o, (q, c, ts, f, g), z) = limits-last bs p .0 e in
+    let (before, h, k) = claim-is-last (rawLines bs) q c ts f in (
+      before,
+      c,
+      subst (Taken [] (rawLines bs)) h ts,
+      k,
+      omega (arith, taken-count [] (rawLines bs) q ts, ap length h, length-append before (claimLine c ∷ [])),
+    )
+
+-- an accepted query gives exactly one thing to be decided: its claim, at the claim's line, which is the last
+pub one-decision : (bs : List ℕ) (q : Query) → read bs ≡ ok q
+    → (before : Query) × (c : Claim) × (q ≡ before ++ (claimLine c ∷ [])) × (decisions q ≡ claimAt q (suc (length before)) c ∷ [])
+one-decision bs q e =
+    let (before, c, f, g, h) = exactly-one-claim bs q e in (
+      before,
+      c,
+      f,
+      claim-decided q c (before, f, g)
+          ∙ ap (λ n. claimAt q n c ∷ []) (omega (arith, ap length f, length-append before (claimLine c ∷ []))),
+    )

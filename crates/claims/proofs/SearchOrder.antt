@@ -8,23 +8,27 @@ use mathlib.Core.Logic.{_⊎_}
 use mathlib.Core.Logic._⊎_.{inl, inr}
 use mathlib.Core.Bool.{Bool, true, false, _&&_}
 use mathlib.Core.List.{List, []}
-use mathlib.Core.Option.{some, none}
+use mathlib.Core.Option.{Option, some, none}
 use lib.Dec.{leb}
 use lib.ListN.{length}
 use borrow.Author.Tests.{le-leb, lt-leb}
 use Rattle.kat.proofs.Bools.{and-both}
+use Rattle.claims.specs.Bytes.{rawLines}
 use Rattle.claims.specs.Tree.{Claim}
 use Rattle.claims.specs.Query.{Query}
 use Rattle.claims.specs.Refusals.{noClaim, badAllowance, shortMemory, spentAllowance, shortBuffer, Refusal, Result, ok, refused, refuse}
-use Rattle.claims.specs.Reading.{claimOf, read}
-use Rattle.claims.specs.Sides.{Decision}
+use Rattle.claims.specs.Decisions.{ToDecide, claimAt, lastOf}
+use Rattle.claims.specs.Reading.{read}
+use Rattle.claims.specs.Sides.{Decision, decision}
 use Rattle.claims.specs.Standings.{System, pathSystem, ringSystem}
 use Rattle.claims.specs.Search.{Verdict, proved, refuted, spent, verdict}
 use Rattle.claims.specs.SheetBytes.{pathBytes, ringBytes}
 use Rattle.claims.specs.Calls.{Given, answerOf, searched, Asked, asked, Lent, neededRecords, neededWords, leftBehind, enoughMemory, finish, searchAsked, search-call}
 use Rattle.claims.proofs.LineOrder.{ok-not-refused, same-value}
+use Rattle.claims.proofs.ClaimLast.{claim-is-last}
+use Rattle.claims.proofs.Decisions.{claim-decided}
 use Rattle.claims.proofs.Precedence.{read-accepts}
-use Rattle.claims.specs.RefusalOrder.{Accepted}
+use Rattle.claims.specs.RefusalOrder.{Accepted, EndsWith}
 use Rattle.claims.specs.CallOrder.{askedAs, sought, Ready, Short}
 
 -- what the reader refuses is refused so, and what it accepts is asked
@@ -32,13 +36,18 @@ pub asked-refused : (bs : List ℕ) (r : Refusal) → read bs ≡ refused r → 
 unfolding asked
 asked-refused bs r e = rw e
 
-asked-claim : (q : Query) (c : Claim) → claimOf q ≡ some c
-    → _≡_ {A = Result Asked} (elim (claimOf q) [ some d ↦ ok (askedAs q d) | none ↦ refuse noClaim 0 ]) (ok (askedAs q c))
-asked-claim q c e = rw e
+asked-last : (q : Query) {o : Option ToDecide} {n : ℕ} {c : Claim} → o ≡ some (claimAt q n c)
+    → _≡_ {A = Result Asked} (elim o [
+      | some d ↦ ok (record { query = q; claim = d .claim; decided = decision (d .over) (d .claim) })
+      | none ↦ refuse noClaim 0
+    ]) (ok (askedAs q c))
+asked-last q e = rw e
 
 pub asked-accepted : (bs : List ℕ) (q : Query) (a : Accepted bs q) → asked bs ≡ ok (askedAs q (a .claim))
-unfolding asked
-asked-accepted bs q a = rw (read-accepts bs q .1 a) (asked-claim q (a .claim) (a .claimed))
+unfolding asked lastOf
+asked-accepted bs q a =
+    let w : EndsWith q (a .claim) = claim-is-last (rawLines bs) q (a .claim) (a .every-line-taken) (a .claimed) in
+    rw (read-accepts bs q .1 a) (asked-last q (ap lastOf (claim-decided q (a .claim) w)))
 
 -- one of the two holds of every query
 pub asked-fate : (bs : List ℕ) → ((r : Refusal) × (read bs ≡ refused r)) ⊎ ((q : Query) × Accepted bs q)

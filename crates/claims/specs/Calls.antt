@@ -11,7 +11,8 @@ use lib.ListN.{length, drop, replicate}
 use Rattle.kat.specs.Word.{Word}
 use Rattle.claims.specs.Query.{Query, atoms, relations}
 use Rattle.claims.specs.Tree.{Claim}
-use Rattle.claims.specs.Reading.{read, claimOf}
+use Rattle.claims.specs.Decisions.{decisions, lastOf}
+use Rattle.claims.specs.Reading.{read}
 use Rattle.claims.specs.Sides.{Decision, decision}
 use Rattle.claims.specs.Standings.{System, pathSystem, ringSystem}
 use Rattle.claims.specs.Search.{Verdict, proved, refuted, spent, verdict}
@@ -57,7 +58,10 @@ pub record Asked : Type 0 where
 unfoldable pub asked : List ℕ → Result Asked
 asked bs =
     onward (read bs) (λ q.
-    elim (claimOf q) [ some c ↦ ok (record { query = q; claim = c; decided = decision q c }) | none ↦ refuse noClaim 0 ])
+    elim (lastOf (decisions q)) [
+      | some d ↦ ok (record { query = q; claim = d .claim; decided = decision (d .over) (d .claim) })
+      | none ↦ refuse noClaim 0
+    ])
 
 -- a record of a path claim's working memory ("Refusals with an example each")
 pub record Slot : Type 0 where

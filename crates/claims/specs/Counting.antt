@@ -1,13 +1,14 @@
 -- Occurrences and leaves of the two sides after expanding, and their limits. (Document 01, "Standings", Limits.) They are counted
 -- name by name, each let once, so that lets which stand for enormous expressions are counted and not written out.
 -- Assumes nothing.
-use Prim.Native.Nat.{ℕ, _+_}
+use Prim.Native.Nat.{ℕ, _+_, _-_}
 use mathlib.Core.Bool.{Bool, _&&_}
 use mathlib.Core.List.{List, [], _∷_, _++_}
 use lib.Dec.{leb}
 use Rattle.claims.specs.Tree.{Tree, name, tested, union, sequence, star, plus, opt, Claim, includes, empty, irreflexive}
 use Rattle.claims.specs.Query.{Query, Bound, lookup, each, names, assumedEmpty, assumedIrreflexive}
 use Rattle.claims.specs.Expanded.{standsFor, countExpanded}
+use Rattle.claims.specs.SheetBytes.{width}
 
 -- what an expression counts, where each bracketed test counts t and each name what it is bound to ("Standings")
 unfoldable pub count : ℕ → List (Bound ℕ) → Tree → ℕ
@@ -57,11 +58,11 @@ rightSize q (includes e f) = withAnys 1 (sizeOf q (f ∷ each assumedEmpty q))
 rightSize q (empty e) = withAnys 2 (sizeOf q (each assumedEmpty q))
 rightSize q (irreflexive e) = withAnys 0 (sizeOf q (each assumedIrreflexive q ++ each assumedEmpty q))
 
--- 64 occurrences left; right 64 for path claims and 31 for ring claims ("Standings")
+-- 64 occurrences left; right 64 for path claims and 31 for ring claims: a row of a ring standing has their numbers and 0 ("Standings")
 unfoldable pub rightLimit : Claim → ℕ
 rightLimit (includes e f) = 64
 rightLimit (empty e) = 64
-rightLimit (irreflexive e) = 31
+rightLimit (irreflexive e) = width - 1
 
 -- 512 leaves a side; in a path claim a1 has 512 of its own, and in a ring claim it is part of the right side ("Standings")
 unfoldable pub withinLimits : Query → Claim → Bool

@@ -4,12 +4,13 @@ pub mod Tokens
 pub mod Tree
 pub mod Grammar
 pub mod Lines
--- "Refusals with an example each": causes and numbers; then names, the query, what a relation stands for, the limits, and the reading with 1 to 8.
+-- "Refusals with an example each": causes and numbers; then names, the query, what a relation stands for, the limits, what is to be decided, and the reading with 1 to 8.
 pub mod Refusals
 pub mod Names
 pub mod Query
 pub mod Expanded
 pub mod Counting
+pub mod Decisions
 pub mod Reading
 -- "Words": the two sides, refuting words.
 pub mod Sides

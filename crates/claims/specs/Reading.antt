@@ -14,7 +14,7 @@ use Rattle.claims.specs.Grammar.{Found, got, wrong, deep}
 use Rattle.claims.specs.Lines.{line}
 use Rattle.claims.specs.Names.{uses, firstSlip}
 use Rattle.claims.specs.Query.{Query, each, tests, relations, lets, claimsOf}
-use Rattle.claims.specs.Counting.{withinLimits}
+use Rattle.claims.specs.Decisions.{decisions, firstOver}
 use Rattle.claims.specs.Refusals.{tooLong, badByte, notation, tooDeep, tooMany, noClaim, afterClaim, overLimit, Result, ok, refuse, onward}
 
 -- the line of the first byte that is neither printable nor byte 10; n is the line of the first byte ("Refusals with an example each")
@@ -58,12 +58,12 @@ readLines q n (l ∷ ls) =
       | none ↦ onward (readLine q n (line l)) (λ x. readLines (q ++ (x ∷ [])) (suc n) ls)
     ]
 
--- a claim there must be, and its sides within the limits; 8 is placed at the claim line, which is the last ("Refusals with an example each")
+-- a claim there must be, and then all that is to be decided within the limits; 8 is placed at the first line over them ("Refusals with an example each")
 unfoldable pub limited : Query → Result Query
 limited q =
     elim (claimOf q) [
       | none ↦ refuse noClaim 0
-      | some c ↦ elim (withinLimits q c) [ true ↦ ok q | false ↦ refuse overLimit (length q) ]
+      | some c ↦ elim (firstOver (decisions q)) [ none ↦ ok q | some n ↦ refuse overLimit n ]
     ]
 
 -- the query that the bytes are, or the first refusal: 1, then 2, then the lines, a missing claim, and 8 ("Refusals with an example each")

@@ -19,6 +19,7 @@ use Rattle.claims.specs.Grammar.{got, wrong, deep}
 use Rattle.claims.specs.Lines.{line}
 use Rattle.claims.specs.Query.{Query, each, claimsOf}
 use Rattle.claims.specs.Counting.{withinLimits}
+use Rattle.claims.specs.Decisions.{ToDecide}
 
 -- "printable ASCII (32 to 126), each line ended by byte 10": the bytes that a query may have
 abbrev pub allowed : ℕ → Bool
@@ -39,6 +40,16 @@ abbrev pub LeftmostSlip : List Line → List Use → Cause → Type 0
 LeftmostSlip ls us c =
     (before : List Use) × (u : Use) × (rest : List Use) × (us ≡ before ++ (u ∷ rest))
     × (firstSlip ls before ≡ none) × (slip ls u ≡ some c)
+
+-- what is to be decided is within the limits
+abbrev pub fitsLimits : ToDecide → Bool
+fitsLimits d = withinLimits (d .over) (d .claim)
+
+-- "8": d is the first that is over the limits
+abbrev pub FirstOver : List ToDecide → ToDecide → Type 0
+FirstOver ds d =
+    (before : List ToDecide) × (rest : List ToDecide) × (ds ≡ before ++ (d ∷ rest))
+    × (every fitsLimits before ≡ true) × (fitsLimits d ≡ false)
 
 -- what refuses a line after those of q, and what takes it
 pub data LineRefused (q : Query) (l : RawLine) : Cause → Type 0 where

@@ -17,6 +17,7 @@ use Rattle.claims.specs.Sides.{decision}
 use Rattle.claims.specs.Counting.{withinLimits}
 use Rattle.claims.specs.Reading.{badLine, claimOf, readLines, limited, read}
 use Rattle.claims.specs.Refusals.{tooLong, badByte, noClaim, overLimit, Refusal, Result, ok, refused, refuse, onward}
+use Rattle.claims.proofs.Decisions.{limited-by-the-claim}
 use Rattle.codes.specs.Codes.{queryCodes}
 use Rattle.read_text.specs.Reading.{claimed, inLines, readable, leftCodes, summaryOf, SaysSummary}
 use Rattle.words.specs.Memory.{zeros}
@@ -108,12 +109,6 @@ ring-end q (includes e f) = refl
 ring-end q (empty e) = refl
 ring-end q (irreflexive e) = refl
 
--- the limits
-limited-by : (q : Query) (c : Claim) → claimOf q ≡ some c → (b : Bool) → withinLimits q c ≡ b
-    → limited q ≡ elim b [ true ↦ ok q | false ↦ refuse overLimit (length q) ]
-unfolding limited
-limited-by q c e b f = rw (e, f, limited)
-
 module _ (bs : List ℕ) (s : Summary) (out : List ℕ) (a : Accepts bs s out) where
   pub ring-told : isRing s ≡ decision (a .query) (a .taken .claim) .ring
   unfolding isRing summaryOf
@@ -128,8 +123,9 @@ module _ (bs : List ℕ) (s : Summary) (out : List ℕ) (a : Accepts bs s out) w
 
   read-is : (b : Bool) → inLimits s out ≡ b → read bs ≡ elim b [ true ↦ ok (a .query) | false ↦ refuse overLimit (length (a .query)) ]
   read-is b e =
+      let h = taken-claimed bs (a .query) (a .taken) in
       readable-then-limits bs ∙ ap (λ r. onward r limited) (a .is-it)
-      ∙ limited-by (a .query) (a .taken .claim) (a .taken .found) b (tested b e)
+      ∙ limited-by-the-claim (a .query) (a .taken .claim) (h .before, h .last, h .one) b (tested b e)
 
   pub read-within : inLimits s out ≡ true → (read bs ≡ ok (a .query)) × (withinLimits (a .query) (a .taken .claim) ≡ true)
   read-within e = (read-is true e, tested true e)

@@ -14,6 +14,7 @@ use Rattle.claims.specs.Tree.{Tree, Claim, includes, empty, irreflexive, claimL
 use Rattle.claims.specs.Query.{Query, each, assumedEmpty, assumedIrreflexive, claimsOf}
 use Rattle.claims.specs.Expanded.{standsFor, countExpanded}
 use Rattle.claims.specs.Counting.{total, occurrencesOf, leavesOf, sizeOf, withAnys, leftSize, rightSize, rightLimit, withinLimits}
+use Rattle.claims.specs.SheetBytes.{width}
 use Rattle.claims.specs.Sides.{decision}
 use Rattle.claims.proofs.Results.{each-append}
 use Rattle.claims.proofs.Counts.{relation-occurs-once, relation-has-leaves}
@@ -158,7 +159,7 @@ test-capped s =
     (leb-capped (s .own) 512 (omega arith))
 
 limit-of-ring : (q : Query) (c : Claim) → cond (decision q c .ring) 31 64 ≡ rightLimit c
-unfolding decision rightLimit
+unfolding decision rightLimit width
 limit-of-ring q (includes e f) = refl
 limit-of-ring q (empty e) = refl
 limit-of-ring q (irreflexive e) = refl
