@@ -82,7 +82,7 @@ pub occurrences-within : map reads occurrences ≡ map expected occurrences
 unfolding reads everything
 occurrences-within = refl
 
--- names: a letter, and 15 letters or digits at most
+-- names: a letter, and 15 letters or digits at most; no reserved word
 abbrev pub names : List Read
 names =
     -- 16 bytes
@@ -93,6 +93,11 @@ names =
     ∷ record { query = "rel r1\nclaim empty r1\n"; line = "accepted" }
     -- a digit first
     ∷ record { query = "rel r\nrel 1r\nclaim empty r\n"; line = "refusal 3 line 2" }
+    -- a line word declared, and one where an expression is wanted
+    ∷ record { query = "rel closed\nclaim empty [true]\n"; line = "refusal 5 line 1" }
+    ∷ record { query = "rel r\nclaim empty closed\n"; line = "refusal 3 line 2" }
+    -- another reserved word declared
+    ∷ record { query = "rel in\nclaim empty [true]\n"; line = "refusal 5 line 1" }
     ∷ []
 
 pub names-within : map reads names ≡ map expected names

@@ -48,7 +48,7 @@ unfolding Grammar.closes Grammar.nameNext Grammar.testWord Grammar.testUnion Gra
 open-Grammar = tt
 
 unfoldable pub open-Lines : Unit {0}
-unfolding Lines.enough Lines.expression Lines.condition Lines.bracketed Lines.declared Lines.choose Lines.letReader Lines.withinReader Lines.includeReader Lines.assumptions Lines.claims Lines.lineKinds Lines.line
+unfolding Lines.enough Lines.expression Lines.condition Lines.bracketed Lines.declared Lines.choose Lines.letReader Lines.withinReader Lines.includeReader Lines.assumptions Lines.claims Lines.lineKinds Lines.lineBy Lines.line
 open-Lines = tt
 
 unfoldable pub open-Refusals : Unit {0}

@@ -16,7 +16,7 @@ use Rattle.claims.specs.Bytes.{RawLine}
 use Rattle.claims.specs.Tokens.{Token, tokens}
 use Rattle.claims.specs.Tree.{Claim, Line}
 use Rattle.claims.specs.Grammar.{Found, got, wrong, deep, andThen}
-use Rattle.claims.specs.Lines.{line, choose, lineKinds, atEnd}
+use Rattle.claims.specs.Lines.{line, lineBy, choose, lineKinds, atEnd}
 use Rattle.claims.specs.Names.{uses, firstSlip}
 use Rattle.claims.specs.Query.{Query}
 use Rattle.claims.specs.Refusals.{Cause, number, notation, tooDeep, tooMany, afterClaim, Refusal, Result, ok, refused, refuse, onward}
@@ -39,7 +39,7 @@ module _ {A : Type 0} where
 
 -- a line that is read is read to its end
 nothing-left : (l : RawLine) (x : Line) (us : List Token) → line l ≡ got x us → us ≡ []
-unfolding line
+unfolding line lineBy
 nothing-left l x us e = go (choose lineKinds (tokens (l .bytes))) e
   where
     ended : (b : Bool) (y : Line) → elim b [ true ↦ got y [] | false ↦ wrong ] ≡ got x us → us ≡ []

@@ -1,7 +1,8 @@
--- "The query": bytes and lines, tokens, trees, the grammar, line kinds, names.
+-- "The query": bytes and lines, trees, line kinds with their words, tokens, the grammar, lines.
 pub mod Bytes
-pub mod Tokens
 pub mod Tree
+pub mod LineKinds
+pub mod Tokens
 pub mod Grammar
 pub mod Lines
 -- "Refusals with an example each": causes and numbers; then names, the query, what a relation stands for, the limits, what is to be decided, and the reading with 1 to 8.

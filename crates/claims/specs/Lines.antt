@@ -3,9 +3,10 @@
 -- Assumes nothing.
 use Prim.Native.Nat.{ℕ, suc, _*_}
 use mathlib.Core.Bool.{Bool, true, false, _&&_}
-use mathlib.Core.List.{List, [], _∷_}
+use mathlib.Core.List.{List, [], _∷_, map}
 use lib.ListN.{length}
 use Rattle.claims.specs.Bytes.{RawLine, byte, text}
+use Rattle.claims.specs.LineKinds.{LineKind, testKind, relKind, letKind, neverKind, withinKind, closedKind, assumeKind, claimKind, lineWord, allKinds}
 use Rattle.claims.specs.Tokens.{Token, word, mark, bad, tokens}
 use Rattle.claims.specs.Tree.{Name, TestTree, Tree, includes, empty, irreflexive, Line, testLine, relLine, letLine, neverLine, withinLine, closedLine, assumeEmpty, assumeIrreflexive, claimLine}
 use Rattle.claims.specs.Grammar.{Found, got, wrong, andThen, goesOn, past, closes, saysNext, nameNext, testUnion, unionOf}
@@ -90,26 +91,36 @@ claims =
     ∷ record { says = text "irreflexive"; reads = λ ts. mapped (λ e. claimLine (irreflexive e)) (expression ts) }
     ∷ []
 
+-- what follows the word of a line, by the line's kind ("The query")
+abbrev pub lineReader : LineKind → List Token → Found Line
+lineReader testKind = λ ts. mapped testLine (declared ts)
+lineReader relKind = λ ts. mapped relLine (declared ts)
+lineReader letKind = letReader
+lineReader neverKind = λ ts. mapped neverLine (condition ts)
+lineReader withinKind = withinReader
+lineReader closedKind = λ ts. nameNext closedLine ts
+lineReader assumeKind = choose assumptions
+lineReader claimKind = choose claims
+
+-- lines of a kind: its word, and what follows it ("The query")
+abbrev pub ofLineKind : LineKind → Choice
+ofLineKind k = record { says = lineWord k; reads = lineReader k }
+
 -- the eight line words, each with what follows it ("The query")
 unfoldable pub lineKinds : List Choice
-lineKinds =
-    record { says = text "test"; reads = λ ts. mapped testLine (declared ts) }
-    ∷ record { says = text "rel"; reads = λ ts. mapped relLine (declared ts) }
-    ∷ record { says = text "let"; reads = letReader }
-    ∷ record { says = text "never"; reads = λ ts. mapped neverLine (condition ts) }
-    ∷ record { says = text "within"; reads = withinReader }
-    ∷ record { says = text "closed"; reads = λ ts. nameNext closedLine ts }
-    ∷ record { says = text "assume"; reads = choose assumptions }
-    ∷ record { says = text "claim"; reads = choose claims }
-    ∷ []
+lineKinds = map ofLineKind allKinds
 
 -- no token is left ("The query")
 abbrev pub atEnd : List Token → Bool
 atEnd [] = true
 atEnd (t ∷ ts) = false
 
+-- a line in which one of these readers takes all tokens, and which byte 10 ends ("The query")
+unfoldable pub lineBy : List Choice → RawLine → Found Line
+lineBy kinds l =
+    andThen (choose kinds (tokens (l .bytes))) (λ x us.
+    elim (atEnd us && l .ended) [ true ↦ got x [] | false ↦ wrong ])
+
 -- a line as the notation reads it ("The query")
 unfoldable pub line : RawLine → Found Line
-line l =
-    andThen (choose lineKinds (tokens (l .bytes))) (λ x us.
-    elim (atEnd us && l .ended) [ true ↦ got x [] | false ↦ wrong ])
+line = lineBy lineKinds

@@ -3,11 +3,12 @@
 -- Assumes nothing.
 use Prim.Native.Nat.{ℕ}
 use mathlib.Core.Bool.{Bool, false, cond, _&&_, _||_}
-use mathlib.Core.List.{List, [], _∷_}
+use mathlib.Core.List.{List, [], _∷_, _++_, map}
 use lib.Dec.{eqb, leb}
 use lib.ListN.{length}
 use Rattle.kat.specs.Lists.{some}
 use Rattle.claims.specs.Bytes.{text, letter, digit, same}
+use Rattle.claims.specs.LineKinds.{lineWord, allKinds}
 
 -- a word, a mark, or what is no token ("The query")
 pub data Token : Type 0 where
@@ -54,8 +55,8 @@ tokens bs = tokensOf (pieces bs)
 -- line words, `in`, `empty`, `include`, `irreflexive`, `true` and `false` are no names ("The query")
 unfoldable pub reservedWords : List (List ℕ)
 reservedWords =
-    text "test" ∷ text "rel" ∷ text "let" ∷ text "never" ∷ text "within" ∷ text "closed" ∷ text "assume" ∷ text "claim"
-    ∷ text "in" ∷ text "empty" ∷ text "include" ∷ text "irreflexive" ∷ text "true" ∷ text "false" ∷ []
+    map lineWord allKinds
+    ++ (text "in" ∷ text "empty" ∷ text "include" ∷ text "irreflexive" ∷ text "true" ∷ text "false" ∷ [])
 
 -- the word is no name ("The query")
 unfoldable pub isReserved : List ℕ → Bool

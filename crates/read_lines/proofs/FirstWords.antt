@@ -15,7 +15,7 @@ use Rattle.claims.specs.Tokens as Notation
 use Rattle.claims.specs.Tokens.{tokens, reservedWords}
 use Rattle.claims.specs.Grammar.{Found, wrong}
 use Rattle.claims.specs.Tree.{Name, Claim, Line}
-use Rattle.claims.specs.Lines.{Choice, choose, lineKinds, line}
+use Rattle.claims.specs.Lines.{Choice, choose, lineKinds, lineBy, line}
 use Rattle.claims.specs.Query.{Query}
 use Rattle.claims.specs.Reading.{claimOf, readLine}
 use Rattle.claims.specs.Refusals.{afterClaim, Result, refuse}
@@ -142,7 +142,7 @@ claim-none q n raw e = go (claimOf q) e
     go none h = refl
 
 line-whole : (raw : RawLine) → line raw ≡ wholeLine (raw .ended) (choose lineKinds (tokens (raw .bytes)))
-unfolding line wholeLine
+unfolding line lineBy wholeLine
 line-whole raw = refl
 
 module _ (s : List ℕ) (ended : Bool) (st : State) (names out : List ℕ) where
