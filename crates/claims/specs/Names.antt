@@ -5,6 +5,7 @@ use mathlib.Core.Bool.{Bool, true, false}
 use mathlib.Core.List.{List, [], _∷_, _++_}
 use mathlib.Core.Option.{Option, some, none}
 use Rattle.claims.specs.Bytes.{same}
+use Rattle.claims.specs.LineKinds.{testKind, relKind, letKind, lineName, isKind}
 use Rattle.claims.specs.Tokens.{isReserved}
 use Rattle.claims.specs.Tree.{Name, TestTree, testName, always, never, either, both, not, Tree, name, tested, union, sequence, star, plus, opt, Claim, includes, empty, irreflexive, Line, testLine, relLine, letLine, neverLine, withinLine, closedLine, assumeEmpty, assumeIrreflexive, claimLine}
 use Rattle.claims.specs.Refusals.{Cause, unknownName, wrongKind, declaredTwice, reservedName}
@@ -54,17 +55,21 @@ uses (assumeEmpty e) = treeUses e
 uses (assumeIrreflexive e) = treeUses e
 uses (claimLine c) = claimUses c
 
--- what a name is declared as by the lines so far ("The query")
+-- what a line declares its name as, if it declares it ("The query")
+abbrev pub declaredAs : Line → Option Kind
+declaredAs l =
+    elim (isKind testKind l) [
+      | true ↦ some aTest
+      | false ↦ elim (isKind relKind l) [
+        | true ↦ some aRelation
+        | false ↦ elim (isKind letKind l) [ true ↦ some aLet | false ↦ none ]
+      ]
+    ]
+
+-- what a line declares the name m as, if it does ("The query")
 unfoldable pub declares? : Line → Name → Option Kind
-declares? (testLine n) m = elim (same n m) [ true ↦ some aTest | false ↦ none ]
-declares? (relLine n) m = elim (same n m) [ true ↦ some aRelation | false ↦ none ]
-declares? (letLine n e) m = elim (same n m) [ true ↦ some aLet | false ↦ none ]
-declares? (neverLine t) m = none
-declares? (withinLine n t u) m = none
-declares? (closedLine n) m = none
-declares? (assumeEmpty e) m = none
-declares? (assumeIrreflexive e) m = none
-declares? (claimLine c) m = none
+declares? l m =
+    elim (declaredAs l) [ none ↦ none | some k ↦ elim (same (lineName l) m) [ true ↦ some k | false ↦ none ] ]
 
 -- what the lines declare a name as, if they do ("The query")
 unfoldable pub kindOf : List Line → Name → Option Kind

@@ -3,12 +3,13 @@
 -- Assumes nothing.
 use Prim.Native.Nat.{ℕ, suc, _/_, _%_, _^_}
 use mathlib.Core.Bool.{Bool, true, false, not as flip, _&&_, _||_}
-use mathlib.Core.List.{List, [], _∷_, _++_}
+use mathlib.Core.List.{List, [], _∷_, _++_, map}
 use lib.Dec.{eqb}
 use lib.ListN.{length}
 use Rattle.kat.specs.Lists.{upto, filter, some}
 use Rattle.claims.specs.Bytes.{same}
-use Rattle.claims.specs.Tree.{Name, TestTree, testName, always, never, either, both, not, Tree, Claim, Line, testLine, relLine, letLine, neverLine, withinLine, closedLine, assumeEmpty, assumeIrreflexive, claimLine}
+use Rattle.claims.specs.Tree.{Name, TestTree, testName, always, never, either, both, not, Tree, Claim, includes, empty, irreflexive, Line}
+use Rattle.claims.specs.LineKinds.{testKind, relKind, letKind, neverKind, withinKind, closedKind, assumeKind, claimKind, lineName, lineConditions, lineExpressions, lineStatements, ofKind}
 
 -- a query is the list of its lines ("The query")
 abbrev pub Query : Type 0
@@ -24,12 +25,13 @@ pub record Limit : Type 0 where
   pub from : TestTree
   pub to : TestTree
 
-module _ {A : Type 0} where
-  -- what each line gives, in the order of the lines ("The query")
-  abbrev pub each : (Line → List A) → Query → List A
+module _ {A B : Type 0} where
+  -- what each line or each statement gives, in their order ("The query")
+  abbrev pub each : (B → List A) → List B → List A
   each f [] = []
-  each f (l ∷ ls) = f l ++ each f ls
+  each f (b ∷ bs) = f b ++ each f bs
 
+module _ {A : Type 0} where
   -- what a name is bound to, or d ("The query")
   abbrev pub lookup : A → Name → List (Bound A) → A
   lookup d n [] = d
@@ -52,111 +54,57 @@ indexOf n (m ∷ ms) = elim (same n m) [ true ↦ 0 | false ↦ suc (indexOf n m
 
 -- the test that a line declares ("The query")
 unfoldable pub testNames : Line → List Name
-testNames (testLine n) = n ∷ []
-testNames (relLine n) = []
-testNames (letLine n e) = []
-testNames (neverLine t) = []
-testNames (withinLine n t u) = []
-testNames (closedLine n) = []
-testNames (assumeEmpty e) = []
-testNames (assumeIrreflexive e) = []
-testNames (claimLine c) = []
+testNames l = ofKind testKind l (lineName l ∷ [])
 
 -- the relation that a line declares ("The query")
 unfoldable pub relationNames : Line → List Name
-relationNames (testLine n) = []
-relationNames (relLine n) = n ∷ []
-relationNames (letLine n e) = []
-relationNames (neverLine t) = []
-relationNames (withinLine n t u) = []
-relationNames (closedLine n) = []
-relationNames (assumeEmpty e) = []
-relationNames (assumeIrreflexive e) = []
-relationNames (claimLine c) = []
+relationNames l = ofKind relKind l (lineName l ∷ [])
 
 -- the let that a line declares ("The query")
 unfoldable pub lets : Line → List (Bound Tree)
-lets (testLine n) = []
-lets (relLine n) = []
-lets (letLine n e) = record { called = n; means = e } ∷ []
-lets (neverLine t) = []
-lets (withinLine n t u) = []
-lets (closedLine n) = []
-lets (assumeEmpty e) = []
-lets (assumeIrreflexive e) = []
-lets (claimLine c) = []
+lets l = ofKind letKind l (map (λ e. record { called = lineName l; means = e }) (lineExpressions l))
 
 -- the test of a `never` line ("The query")
 unfoldable pub nevers : Line → List TestTree
-nevers (testLine n) = []
-nevers (relLine n) = []
-nevers (letLine n e) = []
-nevers (neverLine t) = t ∷ []
-nevers (withinLine n t u) = []
-nevers (closedLine n) = []
-nevers (assumeEmpty e) = []
-nevers (assumeIrreflexive e) = []
-nevers (claimLine c) = []
+nevers l = ofKind neverKind l (lineConditions l)
+
+-- two tests as a limit ("The query")
+abbrev pub limitOf : List TestTree → List Limit
+limitOf [] = []
+limitOf (t ∷ []) = []
+limitOf (t ∷ (u ∷ ts)) = record { from = t; to = u } ∷ []
 
 -- the limits that a line sets to relation m ("The query")
 unfoldable pub limits : Name → Line → List Limit
-limits m (testLine n) = []
-limits m (relLine n) = []
-limits m (letLine n e) = []
-limits m (neverLine t) = []
-limits m (withinLine n t u) = elim (same m n) [ true ↦ record { from = t; to = u } ∷ [] | false ↦ [] ]
-limits m (closedLine n) = []
-limits m (assumeEmpty e) = []
-limits m (assumeIrreflexive e) = []
-limits m (claimLine c) = []
+limits m l = ofKind withinKind l (elim (same m (lineName l)) [ true ↦ limitOf (lineConditions l) | false ↦ [] ])
 
 -- the relation that a line closes ("The query")
 unfoldable pub closings : Line → List Name
-closings (testLine n) = []
-closings (relLine n) = []
-closings (letLine n e) = []
-closings (neverLine t) = []
-closings (withinLine n t u) = []
-closings (closedLine n) = n ∷ []
-closings (assumeEmpty e) = []
-closings (assumeIrreflexive e) = []
-closings (claimLine c) = []
+closings l = ofKind closedKind l (lineName l ∷ [])
+
+-- the expression that a statement says to be empty ("The query")
+abbrev pub saidEmpty : Claim → List Tree
+saidEmpty (includes e f) = []
+saidEmpty (empty e) = e ∷ []
+saidEmpty (irreflexive e) = []
+
+-- the expression that a statement says to be irreflexive ("The query")
+abbrev pub saidIrreflexive : Claim → List Tree
+saidIrreflexive (includes e f) = []
+saidIrreflexive (empty e) = []
+saidIrreflexive (irreflexive e) = e ∷ []
 
 -- the expression that a line assumes empty ("The query")
 unfoldable pub assumedEmpty : Line → List Tree
-assumedEmpty (testLine n) = []
-assumedEmpty (relLine n) = []
-assumedEmpty (letLine n e) = []
-assumedEmpty (neverLine t) = []
-assumedEmpty (withinLine n t u) = []
-assumedEmpty (closedLine n) = []
-assumedEmpty (assumeEmpty e) = e ∷ []
-assumedEmpty (assumeIrreflexive e) = []
-assumedEmpty (claimLine c) = []
+assumedEmpty l = ofKind assumeKind l (each saidEmpty (lineStatements l))
 
 -- the expression that a line assumes irreflexive ("The query")
 unfoldable pub assumedIrreflexive : Line → List Tree
-assumedIrreflexive (testLine n) = []
-assumedIrreflexive (relLine n) = []
-assumedIrreflexive (letLine n e) = []
-assumedIrreflexive (neverLine t) = []
-assumedIrreflexive (withinLine n t u) = []
-assumedIrreflexive (closedLine n) = []
-assumedIrreflexive (assumeEmpty e) = []
-assumedIrreflexive (assumeIrreflexive e) = e ∷ []
-assumedIrreflexive (claimLine c) = []
+assumedIrreflexive l = ofKind assumeKind l (each saidIrreflexive (lineStatements l))
 
--- the claim of a line ("The query")
+-- the claim that a line makes ("The query")
 unfoldable pub claimsOf : Line → List Claim
-claimsOf (testLine n) = []
-claimsOf (relLine n) = []
-claimsOf (letLine n e) = []
-claimsOf (neverLine t) = []
-claimsOf (withinLine n t u) = []
-claimsOf (closedLine n) = []
-claimsOf (assumeEmpty e) = []
-claimsOf (assumeIrreflexive e) = []
-claimsOf (claimLine c) = c ∷ []
+claimsOf l = ofKind claimKind l (lineStatements l)
 
 -- the tests, numbered from 0 as declared ("The query")
 unfoldable pub tests : Query → List Name

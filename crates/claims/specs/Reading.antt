@@ -9,7 +9,8 @@ use mathlib.Core.Option.{Option, some, none}
 use lib.Dec.{eqb, leb}
 use lib.ListN.{length}
 use Rattle.claims.specs.Bytes.{RawLine, rawLines, printable}
-use Rattle.claims.specs.Tree.{Claim, Line, testLine, relLine, letLine, neverLine, withinLine, closedLine, assumeEmpty, assumeIrreflexive, claimLine}
+use Rattle.claims.specs.Tree.{Claim, Line}
+use Rattle.claims.specs.LineKinds.{testKind, relKind, letKind, isKind}
 use Rattle.claims.specs.Grammar.{Found, got, wrong, deep}
 use Rattle.claims.specs.Lines.{line}
 use Rattle.claims.specs.Names.{uses, firstSlip}
@@ -25,15 +26,14 @@ badLine n (b ∷ bs) =
 
 -- one declaration too many: 6 tests, 16 relations and 32 lets at most ("Refusals with an example each")
 unfoldable pub crowded : Query → Line → Bool
-crowded q (testLine n) = leb 6 (length (tests q))
-crowded q (relLine n) = leb 16 (length (relations q))
-crowded q (letLine n e) = leb 32 (length (each lets q))
-crowded q (neverLine t) = false
-crowded q (withinLine n t u) = false
-crowded q (closedLine n) = false
-crowded q (assumeEmpty e) = false
-crowded q (assumeIrreflexive e) = false
-crowded q (claimLine c) = false
+crowded q l =
+    elim (isKind testKind l) [
+      | true ↦ leb 6 (length (tests q))
+      | false ↦ elim (isKind relKind l) [
+        | true ↦ leb 16 (length (relations q))
+        | false ↦ elim (isKind letKind l) [ true ↦ leb 32 (length (each lets q)) | false ↦ false ]
+      ]
+    ]
 
 -- the claim, which is the last line ("Refusals with an example each")
 unfoldable pub claimOf : Query → Option Claim
