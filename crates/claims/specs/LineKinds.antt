@@ -93,5 +93,5 @@ isKind k l = same (lineWord k) (lineWord (lineKind l))
 
 module _ {A : Type 0} where
   -- what a line of the kind gives; a line of another kind gives nothing ("The query")
-  abbrev pub ofKind : LineKind → Line → List A → List A
-  ofKind k l xs = elim (isKind k l) [ true ↦ xs | false ↦ [] ]
+  abbrev pub ifKind : LineKind → Line → List A → List A
+  ifKind k l xs = elim (isKind k l) [ true ↦ xs | false ↦ [] ]

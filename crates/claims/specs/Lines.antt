@@ -103,12 +103,12 @@ lineReader assumeKind = choose assumptions
 lineReader claimKind = choose claims
 
 -- lines of a kind: its word, and what follows it ("The query")
-abbrev pub ofLineKind : LineKind → Choice
-ofLineKind k = record { says = lineWord k; reads = lineReader k }
+abbrev pub lineChoice : LineKind → Choice
+lineChoice k = record { says = lineWord k; reads = lineReader k }
 
 -- the eight line words, each with what follows it ("The query")
 unfoldable pub lineKinds : List Choice
-lineKinds = map ofLineKind allKinds
+lineKinds = map lineChoice allKinds
 
 -- no token is left ("The query")
 abbrev pub atEnd : List Token → Bool

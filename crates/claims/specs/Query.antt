@@ -9,7 +9,7 @@ use lib.ListN.{length}
 use Rattle.kat.specs.Lists.{upto, filter, some}
 use Rattle.claims.specs.Bytes.{same}
 use Rattle.claims.specs.Tree.{Name, TestTree, testName, always, never, either, both, not, Tree, Claim, includes, empty, irreflexive, Line}
-use Rattle.claims.specs.LineKinds.{testKind, relKind, letKind, neverKind, withinKind, closedKind, assumeKind, claimKind, lineName, lineConditions, lineExpressions, lineStatements, ofKind}
+use Rattle.claims.specs.LineKinds.{testKind, relKind, letKind, neverKind, withinKind, closedKind, assumeKind, claimKind, lineName, lineConditions, lineExpressions, lineStatements, ifKind}
 
 -- a query is the list of its lines ("The query")
 abbrev pub Query : Type 0
@@ -54,19 +54,19 @@ indexOf n (m ∷ ms) = elim (same n m) [ true ↦ 0 | false ↦ suc (indexOf n m
 
 -- the test that a line declares ("The query")
 unfoldable pub testNames : Line → List Name
-testNames l = ofKind testKind l (lineName l ∷ [])
+testNames l = ifKind testKind l (lineName l ∷ [])
 
 -- the relation that a line declares ("The query")
 unfoldable pub relationNames : Line → List Name
-relationNames l = ofKind relKind l (lineName l ∷ [])
+relationNames l = ifKind relKind l (lineName l ∷ [])
 
 -- the let that a line declares ("The query")
 unfoldable pub lets : Line → List (Bound Tree)
-lets l = ofKind letKind l (map (λ e. record { called = lineName l; means = e }) (lineExpressions l))
+lets l = ifKind letKind l (map (λ e. record { called = lineName l; means = e }) (lineExpressions l))
 
 -- the test of a `never` line ("The query")
 unfoldable pub nevers : Line → List TestTree
-nevers l = ofKind neverKind l (lineConditions l)
+nevers l = ifKind neverKind l (lineConditions l)
 
 -- two tests as a limit ("The query")
 abbrev pub limitOf : List TestTree → List Limit
@@ -76,11 +76,11 @@ limitOf (t ∷ (u ∷ ts)) = record { from = t; to = u } ∷ []
 
 -- the limits that a line sets to relation m ("The query")
 unfoldable pub limits : Name → Line → List Limit
-limits m l = ofKind withinKind l (elim (same m (lineName l)) [ true ↦ limitOf (lineConditions l) | false ↦ [] ])
+limits m l = ifKind withinKind l (elim (same m (lineName l)) [ true ↦ limitOf (lineConditions l) | false ↦ [] ])
 
 -- the relation that a line closes ("The query")
 unfoldable pub closings : Line → List Name
-closings l = ofKind closedKind l (lineName l ∷ [])
+closings l = ifKind closedKind l (lineName l ∷ [])
 
 -- the expression that a statement says to be empty ("The query")
 abbrev pub saidEmpty : Claim → List Tree
@@ -96,15 +96,15 @@ saidIrreflexive (irreflexive e) = e ∷ []
 
 -- the expression that a line assumes empty ("The query")
 unfoldable pub assumedEmpty : Line → List Tree
-assumedEmpty l = ofKind assumeKind l (each saidEmpty (lineStatements l))
+assumedEmpty l = ifKind assumeKind l (each saidEmpty (lineStatements l))
 
 -- the expression that a line assumes irreflexive ("The query")
 unfoldable pub assumedIrreflexive : Line → List Tree
-assumedIrreflexive l = ofKind assumeKind l (each saidIrreflexive (lineStatements l))
+assumedIrreflexive l = ifKind assumeKind l (each saidIrreflexive (lineStatements l))
 
 -- the claim that a line makes ("The query")
 unfoldable pub claimsOf : Line → List Claim
-claimsOf l = ofKind claimKind l (lineStatements l)
+claimsOf l = ifKind claimKind l (lineStatements l)
 
 -- the tests, numbered from 0 as declared ("The query")
 unfoldable pub tests : Query → List Name

@@ -10,10 +10,9 @@ use lib.Dec.{eqb, leb}
 use lib.ListN.{length}
 use Rattle.claims.specs.Bytes.{RawLine, rawLines, printable}
 use Rattle.claims.specs.Tree.{Claim, Line}
-use Rattle.claims.specs.LineKinds.{testKind, relKind, letKind, isKind}
 use Rattle.claims.specs.Grammar.{Found, got, wrong, deep}
 use Rattle.claims.specs.Lines.{line}
-use Rattle.claims.specs.Names.{uses, firstSlip}
+use Rattle.claims.specs.Names.{Kind, aTest, aRelation, aLet, declaredAs, uses, firstSlip}
 use Rattle.claims.specs.Query.{Query, each, tests, relations, lets, claimsOf}
 use Rattle.claims.specs.Decisions.{decisions, firstOver}
 use Rattle.claims.specs.Refusals.{tooLong, badByte, notation, tooDeep, tooMany, noClaim, afterClaim, overLimit, Result, ok, refuse, onward}
@@ -24,16 +23,21 @@ badLine n [] = none
 badLine n (b ∷ bs) =
     elim (eqb b 10) [ true ↦ badLine (suc n) bs | false ↦ elim (printable b) [ true ↦ badLine n bs | false ↦ some n ] ]
 
--- one declaration too many: 6 tests, 16 relations and 32 lets at most ("Refusals with an example each")
+-- 6 tests, 16 relations and 32 lets at most ("The query")
+abbrev pub mostDeclared : Kind → ℕ
+mostDeclared aTest = 6
+mostDeclared aRelation = 16
+mostDeclared aLet = 32
+
+-- how many names of the kind the lines so far declare ("The query")
+abbrev pub declaredSoFar : Query → Kind → ℕ
+declaredSoFar q aTest = length (tests q)
+declaredSoFar q aRelation = length (relations q)
+declaredSoFar q aLet = length (each lets q)
+
+-- one declaration too many ("Refusals with an example each")
 unfoldable pub crowded : Query → Line → Bool
-crowded q l =
-    elim (isKind testKind l) [
-      | true ↦ leb 6 (length (tests q))
-      | false ↦ elim (isKind relKind l) [
-        | true ↦ leb 16 (length (relations q))
-        | false ↦ elim (isKind letKind l) [ true ↦ leb 32 (length (each lets q)) | false ↦ false ]
-      ]
-    ]
+crowded q l = elim (declaredAs l) [ none ↦ false | some k ↦ leb (mostDeclared k) (declaredSoFar q k) ]
 
 -- the claim, which is the last line ("Refusals with an example each")
 unfoldable pub claimOf : Query → Option Claim
