@@ -44,7 +44,7 @@ unfolding Tokens.longer Tokens.pieces Tokens.wordLike Tokens.marks Tokens.tokens
 open-Tokens = tt
 
 unfoldable pub open-Grammar : Unit {0}
-unfolding Grammar.closes Grammar.nameNext Grammar.testWord Grammar.testUnion Grammar.unionOf
+unfolding Grammar.beforeMark Grammar.nameNext Grammar.testWord Grammar.testUnion Grammar.unionOf
 open-Grammar = tt
 
 unfoldable pub open-Lines : Unit {0}
@@ -60,7 +60,7 @@ unfolding Names.testUses Names.treeUses Names.claimUses Names.uses Names.declare
 open-Names = tt
 
 unfoldable pub open-Query : Unit {0}
-unfolding Query.testNames Query.relationNames Query.lets Query.nevers Query.limits Query.closings Query.assumedEmpty Query.assumedIrreflexive Query.claimsOf Query.tests Query.relations Query.closed Query.names Query.bit Query.holds Query.atoms Query.removed Query.live
+unfolding Query.testNames Query.relationNames Query.lets Query.nevers Query.limits Query.closedNames Query.assumedEmpty Query.assumedIrreflexive Query.claimsOf Query.tests Query.relations Query.closed Query.names Query.bit Query.holds Query.atoms Query.removed Query.live
 open-Query = tt
 
 unfoldable pub open-Expanded : Unit {0}

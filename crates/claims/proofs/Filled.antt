@@ -21,7 +21,7 @@ use Rattle.kat.proofs.Sets.{in-some, filter-in, member-in, in-append-left, in-a
 use Rattle.kat.proofs.Closure.{plus-join, closure-is-plus-of}
 use Rattle.claims.specs.Bytes.{same}
 use Rattle.claims.specs.Tree.{Name, TestTree, Tree, Line, neverLine, withinLine, closedLine}
-use Rattle.claims.specs.Query.{Query, Limit, each, indexOf, tests, relations, nevers, limits, closings, closed, holds, atoms, live, removed}
+use Rattle.claims.specs.Query.{Query, Limit, each, indexOf, tests, relations, nevers, limits, closedNames, closed, holds, atoms, live, removed}
 use Rattle.claims.specs.Expanded.{Expanded, stepOf, plusOf, bounded, standsFor}
 use Rattle.claims.specs.Sides.{exprOf, replaced, side}
 use Rattle.claims.specs.Meaning.{Execution, Meets, Related}
@@ -59,8 +59,8 @@ unfolding limits
 limit-listed q n t u i = in-each (limits n) i (rw (same-itself n, limits) (here refl))
 
 closing-listed : (q : Query) (n : Name) → In (closedLine n) q → closed q n ≡ true
-unfolding closed closings
-closing-listed q n i = in-some (same n) (in-each closings i (here refl)) (same-itself n)
+unfolding closed closedNames
+closing-listed q n i = in-some (same n) (in-each closedNames i (here refl)) (same-itself n)
 
 never-live : (q : Query) (t : TestTree) (a : ℕ) → In (neverLine t) q → member a (live q) ≡ true → holds (tests q) t a ≡ true → ⊥
 unfolding live removed nevers

@@ -15,7 +15,7 @@ use Rattle.kat.specs.Graph.{Graph, Rel, Plus, once, more}
 use Rattle.kat.proofs.Sets.{some-in}
 use Rattle.claims.specs.Bytes.{same}
 use Rattle.claims.specs.Tree.{Name, TestTree, Tree, Line, withinLine, closedLine}
-use Rattle.claims.specs.Query.{Query, Limit, each, indexOf, tests, relations, limits, closings, closed, holds}
+use Rattle.claims.specs.Query.{Query, Limit, each, indexOf, tests, relations, limits, closedNames, closed, holds}
 use Rattle.claims.specs.Expanded.{Expanded, stepOf, testOf, sequenceOf, plusOf, bounded, standsFor}
 use Rattle.claims.specs.Sides.{meant, single, exprOf, replaced, side}
 use Rattle.claims.specs.Meaning.{Related, Meets}
@@ -31,15 +31,15 @@ limit-line n (withinLine m t u) b i = go (same n m) refl i
     go true e (here h) =
         ap (λ k. withinLine k t u) (sym (same-is-equal n m e)) ∙ ap (λ (z : Limit). withinLine n (z .from) (z .to)) (sym h)
 
-closing-line : (n : Name) (l : Line) → In n (closings l) → l ≡ closedLine n
-unfolding closings
+closing-line : (n : Name) (l : Line) → In n (closedNames l) → l ≡ closedLine n
+unfolding closedNames
 closing-line n (closedLine m) (here e) = ap closedLine (sym e)
 
 pub closed-line : (q : Query) (n : Name) → closed q n ≡ true → In (closedLine n) q
 unfolding closed
 closed-line q n e =
-    let (m, i, h) = some-in (same n) (each closings q) e in
-    let (l, j, k) = each-in closings q m i in
+    let (m, i, h) = some-in (same n) (each closedNames q) e in
+    let (l, j, k) = each-in closedNames q m i in
     subst (λ z. In z q) (closing-line m l k ∙ ap closedLine (sym (same-is-equal n m h))) j
 
 module _ (G : Graph) where

@@ -7,7 +7,7 @@ use mathlib.Core.Bool.{Bool, true, false, cond, _&&_, _||_}
 use mathlib.Core.List.{List, [], _∷_}
 use lib.Dec.{eqb, leb}
 
--- the byte of a quoted character, and the bytes of a quoted text ("The query")
+-- the byte of a quoted character ("The query")
 abbrev pub byte : Char → ℕ
 byte c = code c
 
@@ -23,7 +23,7 @@ same [] (y ∷ ys) = false
 same (x ∷ xs) [] = false
 same (x ∷ xs) (y ∷ ys) = eqb x y && same xs ys
 
--- m to n, both included ("The query")
+-- b lies from m to n, both included ("The query")
 abbrev pub between : ℕ → ℕ → ℕ → Bool
 between m n b = leb m b && leb b n
 

@@ -1,6 +1,6 @@
 -- The grammar of E, of T and of a line, read from the left over tokens. (Document 01, "The query".) A reader ends at the first token
 -- with which no line of the notation goes on (`wrong`) or at the 33rd open bracket (`deep`), whichever comes first. The first
--- argument of a reader bounds the depth of calls; `line` gives more than any line can use. d counts the open round brackets.
+-- argument of a reader bounds the depth of calls; `enough` (Lines) is more than any line can use. d counts the open round brackets.
 -- Assumes nothing.
 use Prim.Native.Nat.{ℕ, zero, suc}
 use mathlib.Core.Bool.{Bool, true, false}
@@ -8,7 +8,7 @@ use mathlib.Core.List.{List, [], _∷_}
 use lib.Dec.{eqb}
 use Rattle.claims.specs.Bytes.{byte, text, same}
 use Rattle.claims.specs.Tokens.{Token, word, mark, bad, isReserved}
-use Rattle.claims.specs.Tree.{Name, TestTree, testName, always, never, either, both, not, Tree, name, tested, union, sequence, star, plus, opt}
+use Rattle.claims.specs.Tree.{Name, TestTree, testName, trueTest, falseTest, either, both, not, Tree, name, tested, union, sequence, star, plus, opt}
 
 -- what a reader finds: a value and the tokens after it, or the fault met first ("The query")
 pub data Found (A : Type 0) : Type 0 where
@@ -35,9 +35,9 @@ abbrev pub past : List Token → List Token
 past [] = []
 past (t ∷ ts) = ts
 
--- the value, if the mark b stands next ("The query")
-unfoldable pub closes : {A : Type 0} → ℕ → A → List Token → Found A
-closes b a ts = elim (goesOn b ts) [ true ↦ got a (past ts) | false ↦ wrong ]
+-- the value, if the mark b stands behind it ("The query")
+unfoldable pub beforeMark : {A : Type 0} → ℕ → A → List Token → Found A
+beforeMark b a ts = elim (goesOn b ts) [ true ↦ got a (past ts) | false ↦ wrong ]
 
 -- a word that is no reserved one is a name ("The query")
 unfoldable pub nameNext : {A : Type 0} → (Name → A) → List Token → Found A
@@ -58,11 +58,11 @@ unfoldable pub testWord : List Token → Found TestTree
 unfolding nameNext
 testWord ts =
     elim (saysNext (text "true") ts) [
-      | true ↦ got always (past ts)
-      | false ↦ elim (saysNext (text "false") ts) [ true ↦ got never (past ts) | false ↦ nameNext testName ts ]
+      | true ↦ got trueTest (past ts)
+      | false ↦ elim (saysNext (text "false") ts) [ true ↦ got falseTest (past ts) | false ↦ nameNext testName ts ]
     ]
 
--- T: `|`, then `&`, then prefix `!`, over names, `true`, `false` and round brackets
+-- T: `|`, then `&`, then prefix `!`, over names, `true`, `false` and round brackets ("The query")
 unfoldable mutual
   pub testUnion : ℕ → ℕ → List Token → Found TestTree
   testUnion zero d ts = wrong
@@ -102,13 +102,13 @@ unfoldable mutual
       elim (goesOn (byte "(") ts) [
         | true ↦ elim (eqb d 32) [
           | true ↦ deep
-          | false ↦ andThen (testUnion n (suc d) (past ts)) (λ t us. closes (byte ")") t us)
+          | false ↦ andThen (testUnion n (suc d) (past ts)) (λ t us. beforeMark (byte ")") t us)
         ]
         | false ↦ testWord ts
       ]
 
 -- E: a union `|` of sequences `;` of factors with any number of postfix `*`, `+`, `?`. A factor is a name, `[T]`, or an E in round
--- brackets.
+-- brackets ("The query")
 unfoldable mutual
   pub unionOf : ℕ → ℕ → List Token → Found Tree
   unionOf zero d ts = wrong
@@ -155,10 +155,10 @@ unfoldable mutual
       elim (goesOn (byte "(") ts) [
         | true ↦ elim (eqb d 32) [
           | true ↦ deep
-          | false ↦ andThen (unionOf n (suc d) (past ts)) (λ e us. closes (byte ")") e us)
+          | false ↦ andThen (unionOf n (suc d) (past ts)) (λ e us. beforeMark (byte ")") e us)
         ]
         | false ↦ elim (goesOn (byte "[") ts) [
-          | true ↦ andThen (testUnion n d (past ts)) (λ t us. closes (byte "]") (tested t) us)
+          | true ↦ andThen (testUnion n d (past ts)) (λ t us. beforeMark (byte "]") (tested t) us)
           | false ↦ nameNext name ts
         ]
       ]

@@ -9,7 +9,7 @@ use Rattle.claims.specs.Bytes.{RawLine, byte, text}
 use Rattle.claims.specs.LineKinds.{LineKind, testKind, relKind, letKind, neverKind, withinKind, closedKind, assumeKind, claimKind, lineWord, allKinds}
 use Rattle.claims.specs.Tokens.{Token, word, mark, bad, tokens}
 use Rattle.claims.specs.Tree.{Name, TestTree, Tree, includes, empty, irreflexive, Line, testLine, relLine, letLine, neverLine, withinLine, closedLine, assumeEmpty, assumeIrreflexive, claimLine}
-use Rattle.claims.specs.Grammar.{Found, got, wrong, andThen, goesOn, past, closes, saysNext, nameNext, testUnion, unionOf}
+use Rattle.claims.specs.Grammar.{Found, got, wrong, andThen, goesOn, past, beforeMark, saysNext, nameNext, testUnion, unionOf}
 
 -- each token is met by at most 8 calls in a row that read none, so more depth changes nothing: `union-depth` and `test-depth` of
 -- `proofs/Fuel.antt` ("The query")
@@ -28,7 +28,7 @@ condition ts = testUnion (enough ts) 0 ts
 unfoldable pub bracketed : List Token → Found TestTree
 bracketed ts =
     elim (goesOn (byte "[") ts) [
-      | true ↦ andThen (condition (past ts)) (λ t us. closes (byte "]") t us)
+      | true ↦ andThen (condition (past ts)) (λ t us. beforeMark (byte "]") t us)
       | false ↦ wrong
     ]
 
@@ -40,16 +40,16 @@ declared (mark b ∷ ts) = wrong
 declared (bad ∷ ts) = wrong
 
 module _ {A B : Type 0} where
-  -- the reader's value, under f ("The query")
+  -- what a reader finds, with its value under f ("The query")
   abbrev pub mapped : (A → B) → Found A → Found B
   mapped f x = andThen x (λ a us. got (f a) us)
 
--- the line goes on as one of the readers says, by its next word ("The query")
+-- a word, and the reader of what follows it ("The query")
 pub record Choice : Type 0 where
   pub says : List ℕ
   pub reads : List Token → Found Line
 
--- the reader that the next word chooses ("The query")
+-- the reader that the next word chooses, on what stands behind that word ("The query")
 unfoldable pub choose : List Choice → List Token → Found Line
 choose [] ts = wrong
 choose (c ∷ cs) ts = elim (saysNext (c .says) ts) [ true ↦ c .reads (past ts) | false ↦ choose cs ts ]

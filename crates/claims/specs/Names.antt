@@ -7,7 +7,7 @@ use mathlib.Core.Option.{Option, some, none}
 use Rattle.claims.specs.Bytes.{same}
 use Rattle.claims.specs.LineKinds.{testKind, relKind, letKind, lineName, isKind}
 use Rattle.claims.specs.Tokens.{isReserved}
-use Rattle.claims.specs.Tree.{Name, TestTree, testName, always, never, either, both, not, Tree, name, tested, union, sequence, star, plus, opt, Claim, includes, empty, irreflexive, Line, testLine, relLine, letLine, neverLine, withinLine, closedLine, assumeEmpty, assumeIrreflexive, claimLine}
+use Rattle.claims.specs.Tree.{Name, TestTree, testName, trueTest, falseTest, either, both, not, Tree, name, tested, union, sequence, star, plus, opt, Claim, includes, empty, irreflexive, Line, testLine, relLine, letLine, neverLine, withinLine, closedLine, assumeEmpty, assumeIrreflexive, claimLine}
 use Rattle.claims.specs.Refusals.{Cause, unknownName, wrongKind, declaredTwice, reservedName}
 
 -- what a name is declared as ("The query")
@@ -21,8 +21,8 @@ pub data Use : Type 0 where
 -- the names of a T, from left to right ("The query")
 unfoldable pub testUses : TestTree → List Use
 testUses (testName n) = usesTest n ∷ []
-testUses always = []
-testUses never = []
+testUses trueTest = []
+testUses falseTest = []
 testUses (either t u) = testUses t ++ testUses u
 testUses (both t u) = testUses t ++ testUses u
 testUses (not t) = testUses t
@@ -76,7 +76,7 @@ unfoldable pub kindOf : List Line → Name → Option Kind
 kindOf [] m = none
 kindOf (l ∷ ls) m = elim (declares? l m) [ some k ↦ some k | none ↦ kindOf ls m ]
 
--- the slip of a name that stands where a test, a relation, or a relation or a let is wanted ("The query")
+-- the slip of a name, by what it is declared as, where a test is wanted ("The query")
 unfoldable pub testSlip : Option Kind → Option Cause
 testSlip none = some unknownName
 testSlip (some aTest) = none

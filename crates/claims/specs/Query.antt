@@ -8,7 +8,7 @@ use lib.Dec.{eqb}
 use lib.ListN.{length}
 use Rattle.kat.specs.Lists.{upto, filter, some}
 use Rattle.claims.specs.Bytes.{same}
-use Rattle.claims.specs.Tree.{Name, TestTree, testName, always, never, either, both, not, Tree, Claim, includes, empty, irreflexive, Line}
+use Rattle.claims.specs.Tree.{Name, TestTree, testName, trueTest, falseTest, either, both, not, Tree, Claim, includes, empty, irreflexive, Line}
 use Rattle.claims.specs.LineKinds.{testKind, relKind, letKind, neverKind, withinKind, closedKind, assumeKind, claimKind, lineName, lineConditions, lineExpressions, lineStatements, ifKind}
 
 -- a query is the list of its lines ("The query")
@@ -79,8 +79,8 @@ unfoldable pub limits : Name → Line → List Limit
 limits m l = ifKind withinKind l (elim (same m (lineName l)) [ true ↦ limitOf (lineConditions l) | false ↦ [] ])
 
 -- the relation that a line closes ("The query")
-unfoldable pub closings : Line → List Name
-closings l = ifKind closedKind l (lineName l ∷ [])
+unfoldable pub closedNames : Line → List Name
+closedNames l = ifKind closedKind l (lineName l ∷ [])
 
 -- the expression that a statement says to be empty ("The query")
 abbrev pub saidEmpty : Claim → List Tree
@@ -116,7 +116,7 @@ relations q = each relationNames q
 
 -- relation r is closed ("The query")
 unfoldable pub closed : Query → Name → Bool
-closed q r = some (same r) (each closings q)
+closed q r = some (same r) (each closedNames q)
 
 module _ {A : Type 0} where
   -- the relations with what w gives each, then the lets with what f makes of them ("The query")
@@ -130,8 +130,8 @@ bit i a = eqb (a / 2 ^ i % 2) 1
 -- an event with atom a satisfies T: test i holds where the atom has bit i ("Words")
 unfoldable pub holds : List Name → TestTree → ℕ → Bool
 holds ns (testName n) a = bit (indexOf n ns) a
-holds ns always a = true
-holds ns never a = false
+holds ns trueTest a = true
+holds ns falseTest a = false
 holds ns (either t u) a = holds ns t a || holds ns u a
 holds ns (both t u) a = holds ns t a && holds ns u a
 holds ns (not t) a = flip (holds ns t a)

@@ -10,13 +10,13 @@ use Rattle.kat.specs.Lists.{some}
 use Rattle.claims.specs.Bytes.{text, letter, digit, same}
 use Rattle.claims.specs.LineKinds.{lineWord, allKinds}
 
--- a word, a mark, or what is no token ("The query")
+-- a word, a mark, or what is no token of the notation ("The query")
 pub data Token : Type 0 where
   word : List ℕ → Token
   mark : ℕ → Token
   bad : Token
 
--- a line cut into longest runs of letters and digits, and other bytes ("The query")
+-- a piece of a line: a longest run of letters and digits, or another byte ("The query")
 pub data Piece : Type 0 where
   run : List ℕ → Piece
   other : ℕ → Piece

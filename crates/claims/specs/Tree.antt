@@ -11,7 +11,7 @@ Name = List ℕ
 -- T ("The query")
 pub data TestTree : Type 0 where
   testName : Name → TestTree
-  always never : TestTree  -- `true`, `false`
+  trueTest falseTest : TestTree  -- `true`, `false`
   either both : TestTree → TestTree → TestTree  -- `|`, `&`
   not : TestTree → TestTree  -- `!`
 

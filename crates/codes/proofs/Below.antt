@@ -6,7 +6,7 @@ use mathlib.Core.Path.{_≡_, refl}
 use mathlib.Core.List.{List, [], _∷_, _++_}
 use mathlib.Core.Option.{Option, some, none}
 use lib.ListN.{length, length-map}
-use Rattle.claims.specs.Tree.{Name, TestTree, testName, always, never, either, both, not, Tree, name, tested, union, sequence, star, plus, opt}
+use Rattle.claims.specs.Tree.{Name, TestTree, testName, trueTest, falseTest, either, both, not, Tree, name, tested, union, sequence, star, plus, opt}
 use Rattle.claims.specs.Names.{Kind, aTest, aRelation, aLet, kindOf, testSlip}
 use Rattle.claims.specs.Query.{Query, Bound, each, lets, tests, relations}
 use Rattle.claims.proofs.Limits.{Declared}
@@ -46,8 +46,8 @@ module _ (p : Query) (d : Declared p) where
   pub test-below : (u : TestTree) → Below 128 (testCodes p u)
   unfolding testCodes
   test-below (testName n) = (code-below n, tt)
-  test-below always = (omega arith, tt)
-  test-below never = (omega arith, tt)
+  test-below trueTest = (omega arith, tt)
+  test-below falseTest = (omega arith, tt)
   test-below (either u v) = below-joined (testCodes p u) (testCodes p v) _ (omega arith) (test-below u) (test-below v)
   test-below (both u v) = below-joined (testCodes p u) (testCodes p v) _ (omega arith) (test-below u) (test-below v)
   test-below (not u) = below-ended (testCodes p u) _ (omega arith) (test-below u)

@@ -6,7 +6,7 @@ use Prim.Native.Nat.{ℕ, _+_, _-_}
 use mathlib.Core.List.{List, [], _∷_, _++_, map}
 use mathlib.Core.Option.{Option, some, none}
 use lib.ListN.{length, getD}
-use Rattle.claims.specs.Tree.{Name, TestTree, testName, always, never, either, both, not, Tree, name, tested, union, sequence, star, plus, opt, Claim, includes, empty, irreflexive, Line, testLine, relLine, letLine, neverLine, withinLine, closedLine, assumeEmpty, assumeIrreflexive, claimLine}
+use Rattle.claims.specs.Tree.{Name, TestTree, testName, trueTest, falseTest, either, both, not, Tree, name, tested, union, sequence, star, plus, opt, Claim, includes, empty, irreflexive, Line, testLine, relLine, letLine, neverLine, withinLine, closedLine, assumeEmpty, assumeIrreflexive, claimLine}
 use Rattle.claims.specs.Names.{Kind, aTest, aRelation, aLet, kindOf}
 use Rattle.claims.specs.Query.{Query, Bound, each, indexOf, tests, relations, lets}
 
@@ -138,8 +138,8 @@ codeOf q n = kindCode q n (kindOf q n)
 -- a T
 unfoldable pub testCodes : Query → TestTree → List ℕ
 testCodes q (testName n) = codeOf q n ∷ []
-testCodes q always = TRUE ∷ []
-testCodes q never = FALSE ∷ []
+testCodes q trueTest = TRUE ∷ []
+testCodes q falseTest = FALSE ∷ []
 testCodes q (either t u) = (testCodes q t ++ testCodes q u) ++ (OR ∷ [])
 testCodes q (both t u) = (testCodes q t ++ testCodes q u) ++ (AND ∷ [])
 testCodes q (not t) = testCodes q t ++ (NOT ∷ [])

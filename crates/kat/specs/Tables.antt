@@ -1,6 +1,6 @@
 -- The occurrence tables of an expression. (Document 01, "Standings".) The relation occurrences of an expression are numbered in
--- written order, from 1 where nothing stands before it; 0 means that nothing has been read. The tables are those of the local
--- automaton: which occurrences may be read first, may be read last, or may follow one another, at which atom.
+-- written order, from 1 where nothing stands before it; 0 means that nothing has been read. The tables are those of the
+-- position (Glushkov) automaton: which occurrences may be read first, may be read last, or may follow one another, at which atom.
 -- k is always the number of occurrences that stand before the expression.
 -- Assumes nothing.
 use Prim.Native.Nat.{ℕ, zero, suc, _+_}

@@ -11,7 +11,7 @@ use lib.ListN.{length, drop, replicate, length-append}
 use lib.Seq.{sets}
 use Rattle.claims.specs.Bytes.{byte}
 use Rattle.claims.specs.Tokens.{Token, tokens}
-use Rattle.claims.specs.Grammar.{Found, got, wrong, andThen, goesOn, past, closes}
+use Rattle.claims.specs.Grammar.{Found, got, wrong, andThen, goesOn, past, beforeMark}
 use Rattle.claims.specs.Tree.{Line}
 use Rattle.claims.specs.Lines.{mapped, condition, bracketed}
 use Rattle.claims.specs.Names.{Use, uses, testUses, firstSlip}
@@ -136,40 +136,40 @@ pub bracket-missing : (ts : List Token) → goesOn 91 ts ≡ false → bracketed
 unfolding bracketed
 bracket-missing ts e = rw (e, bracketed)
 
-bracket-opened : (ts : List Token) → goesOn 91 ts ≡ true → bracketed ts ≡ andThen (condition (past ts)) (λ t us. closes (byte "]") t us)
+bracket-opened : (ts : List Token) → goesOn 91 ts ≡ true → bracketed ts ≡ andThen (condition (past ts)) (λ t us. beforeMark (byte "]") t us)
 unfolding bracketed
 bracket-opened ts e = rw (e, bracketed)
 
-closed-by : {A : Type 0} (a : A) (ts : List Token) → goesOn 93 ts ≡ true → closes (byte "]") a ts ≡ got a (past ts)
-unfolding closes
-closed-by a ts e = rw (e, closes)
+closed-by : {A : Type 0} (a : A) (ts : List Token) → goesOn 93 ts ≡ true → beforeMark (byte "]") a ts ≡ got a (past ts)
+unfolding beforeMark
+closed-by a ts e = rw (e, beforeMark)
 
 module _ (s names : List ℕ) (n : ℕ) (p : Place) (next : ℕ) (m : ScannedMark s (p .at) 91 next) where
   abbrev inside : Place
   inside = record { at = next; used = p .used; slip = p .slip }
 
-  opened : bracketed (tokens (drop (p .at) s)) ≡ andThen (condition (tokens (drop next s))) (λ t us. closes (byte "]") t us)
+  opened : bracketed (tokens (drop (p .at) s)) ≡ andThen (condition (tokens (drop next s))) (λ t us. beforeMark (byte "]") t us)
   opened =
       bracket-opened (tokens (drop (p .at) s)) (goes-on s (p .at) 91 next m)
-      ∙ ap (λ ts. andThen (condition ts) (λ t us. closes (byte "]") t us)) (passed s (p .at) 91 next m)
+      ∙ ap (λ ts. andThen (condition ts) (λ t us. beforeMark (byte "]") t us)) (passed s (p .at) 91 next m)
 
   pub bracket-failed : (before after : List ℕ) (r : Parsed) → TestThen 6 s names n inside before after r → Failed r
       → Bracketed s names n p before after r
   bracket-failed before after (Got g) w f = absurd f
-  bracket-failed before after Wrong (a, b) f = (tt, λ q k. opened ∙ ap (λ x. andThen x (λ t us. closes (byte "]") t us)) (b q k))
-  bracket-failed before after Deep (a, b) f = (tt, λ q k. opened ∙ ap (λ x. andThen x (λ t us. closes (byte "]") t us)) (b q k))
+  bracket-failed before after Wrong (a, b) f = (tt, λ q k. opened ∙ ap (λ x. andThen x (λ t us. beforeMark (byte "]") t us)) (b q k))
+  bracket-failed before after Deep (a, b) f = (tt, λ q k. opened ∙ ap (λ x. andThen x (λ t us. beforeMark (byte "]") t us)) (b q k))
 
   module _ (before after : List ℕ) (r : Parsed) (g : Place) (e : r ≡ Got g) (w : TestThen 6 s names n inside before after r) where
     found : TestThen 6 s names n inside before after (Got g)
     found = subst (TestThen 6 s names n inside before after) e w
 
     read-inside : (q : Query) (k : Knows names n q)
-        → bracketed (tokens (drop (p .at) s)) ≡ closes (byte "]") (found .1 q k .tree) (tokens (drop (g .at) s))
-    read-inside q k = opened ∙ ap (λ x. andThen x (λ t us. closes (byte "]") t us)) (found .1 q k .read)
+        → bracketed (tokens (drop (p .at) s)) ≡ beforeMark (byte "]") (found .1 q k .tree) (tokens (drop (g .at) s))
+    read-inside q k = opened ∙ ap (λ x. andThen x (λ t us. beforeMark (byte "]") t us)) (found .1 q k .read)
 
     pub bracket-unclosed : goesOn 93 (tokens (drop (g .at) s)) ≡ false → Bracketed s names n p before after Wrong
-    unfolding closes
-    bracket-unclosed h = (tt, λ q k. read-inside q k ∙ rw (h, closes))
+    unfolding beforeMark
+    bracket-unclosed h = (tt, λ q k. read-inside q k ∙ rw (h, beforeMark))
 
     pub bracket-got : (end : ℕ) → ScannedMark s (g .at) 93 end
         → Bracketed s names n p before after (Got (record { at = end; used = g .used; slip = g .slip }))

@@ -9,7 +9,7 @@ use borrow.Author.Tests.{eqb-true}
 use Rattle.claims.specs.Bytes.{byte}
 use Rattle.claims.specs.Tokens as Notation
 use Rattle.claims.specs.Tokens.{Token}
-use Rattle.claims.specs.Grammar.{Found, andThen, goesOn, past, closes, nameNext, testUnion, unionOf, unionMore, sequenceOf, sequenceMore, postfixOf, factorOf}
+use Rattle.claims.specs.Grammar.{Found, andThen, goesOn, past, beforeMark, nameNext, testUnion, unionOf, unionMore, sequenceOf, sequenceMore, postfixOf, factorOf}
 use Rattle.claims.specs.Lines.{expression}
 use Rattle.claims.specs.Tree.{TestTree, Tree, name, tested, union, sequence}
 use Rattle.claims.specs.Names.{testUses, treeUses}
@@ -47,7 +47,7 @@ sequences = record { first = λ n d ts. refl; step = λ n d t ts. refl; codes-jo
 abbrev pub leafOf : ℕ → ℕ → List Token → Found Tree
 leafOf n d ts =
     elim (goesOn (byte "[") ts) [
-      | true ↦ andThen (testUnion n d (past ts)) (λ t us. closes (byte "]") (tested t) us)
+      | true ↦ andThen (testUnion n d (past ts)) (λ t us. beforeMark (byte "]") (tested t) us)
       | false ↦ nameNext name ts
     ]
 
@@ -66,7 +66,7 @@ not-round (Notation.mark c ∷ ts) h = ap (eqb (byte "(")) (sym (eqb-true (byte 
 not-round (Notation.bad ∷ ts) h = refl
 
 pub square-opens : (d n : ℕ) (ts : List Token) → goesOn (byte "[") ts ≡ true
-    → factorOf (suc n) d ts ≡ andThen (testUnion n d (past ts)) (λ t us. closes (byte "]") (tested t) us)
+    → factorOf (suc n) d ts ≡ andThen (testUnion n d (past ts)) (λ t us. beforeMark (byte "]") (tested t) us)
 square-opens d n ts h = rw (factors .step n d ts, not-round ts h, h, leafOf)
 
 pub square-codes : (q : Query) (t : TestTree) → treeCodes q (tested t) ≡ testCodes q t ++ (TESTED ∷ [])

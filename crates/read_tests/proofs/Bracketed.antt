@@ -9,7 +9,7 @@ use mathlib.Core.List.{List, _++_}
 use lib.ListN.{length, drop}
 use lib.Seq.{sets}
 use Rattle.claims.specs.Tokens.{Token, tokens}
-use Rattle.claims.specs.Grammar.{Found, got, wrong, deep, andThen, goesOn, past, closes}
+use Rattle.claims.specs.Grammar.{Found, got, wrong, deep, andThen, goesOn, past, beforeMark}
 use Rattle.claims.specs.Names.{Use}
 use Rattle.claims.specs.Query.{Query}
 use Rattle.read_tokens.proofs.Tokens.{ScannedMark}
@@ -37,17 +37,17 @@ pub record Bracket (A B : Type 0) : Type 0 where
   pub innerUses : A → List Use
   pub outerUses : B → List Use
   pub opens : (n : ℕ) (ts : List Token) → goesOn opening ts ≡ true
-      → outer (suc n) depth ts ≡ andThen (inner n within (past ts)) (λ t us. closes closing (wrap t) us)
+      → outer (suc n) depth ts ≡ andThen (inner n within (past ts)) (λ t us. beforeMark closing (wrap t) us)
   pub codes-wrap : (q : Query) (t : A) → outerCodes q (wrap t) ≡ innerCodes q t ++ extra
   pub uses-wrap : (t : A) → outerUses (wrap t) ≡ innerUses t
 
-closed-by : {B : Type 0} (b : ℕ) (x : B) (ts : List Token) → goesOn b ts ≡ true → closes b x ts ≡ got x (past ts)
-unfolding closes
-closed-by b x ts h = rw (h, closes)
+closed-by : {B : Type 0} (b : ℕ) (x : B) (ts : List Token) → goesOn b ts ≡ true → beforeMark b x ts ≡ got x (past ts)
+unfolding beforeMark
+closed-by b x ts h = rw (h, beforeMark)
 
-not-closed : {B : Type 0} (b : ℕ) (x : B) (ts : List Token) → goesOn b ts ≡ false → closes b x ts ≡ wrong
-unfolding closes
-not-closed b x ts h = rw (h, closes)
+not-closed : {B : Type 0} (b : ℕ) (x : B) (ts : List Token) → goesOn b ts ≡ false → beforeMark b x ts ≡ wrong
+unfolding beforeMark
+not-closed b x ts h = rw (h, beforeMark)
 
 -- what stands behind the opening mark, as a place
 abbrev pub behind : Place → ℕ → Place
@@ -55,13 +55,13 @@ behind p next = record { at = next; used = p .used; slip = p .slip }
 
 -- the inner reader's answer x makes the outer one's answer y
 through : {A B : Type 0} (K : Bracket A B) (s : List ℕ) (at next : ℕ) → ScannedMark s at (K .opening) next → (x : Found A) (y : Found B)
-    → andThen x (λ t us. closes (K .closing) (K .wrap t) us) ≡ y → Finds (K .inner) (K .within) 4 (tokens (drop next s)) x
+    → andThen x (λ t us. beforeMark (K .closing) (K .wrap t) us) ≡ y → Finds (K .inner) (K .within) 4 (tokens (drop next s)) x
     → Finds (K .outer) (K .depth) 1 (tokens (drop at s)) y
 through K s at next m x y e h zero l = absurd (omega arith)
 through K s at next m x y e h (suc f) l =
     K .opens f (tokens (drop at s)) (goes-on s at (K .opening) next m)
-    ∙ ap (λ ts. andThen (K .inner f (K .within) ts) (λ t us. closes (K .closing) (K .wrap t) us)) (passed s at (K .opening) next m)
-    ∙ ap (λ z. andThen z (λ t us. closes (K .closing) (K .wrap t) us)) (h f (omega (arith, one-fewer s at (K .opening) next m))) ∙ e
+    ∙ ap (λ ts. andThen (K .inner f (K .within) ts) (λ t us. beforeMark (K .closing) (K .wrap t) us)) (passed s at (K .opening) next m)
+    ∙ ap (λ z. andThen z (λ t us. beforeMark (K .closing) (K .wrap t) us)) (h f (omega (arith, one-fewer s at (K .opening) next m))) ∙ e
 
 -- the ways out, over the answers of the functions that are called
 module _ {A B : Type 0} (K : Bracket A B) (s names : List ℕ) (n : ℕ) (p : Place) (before : List ℕ) (next : ℕ)

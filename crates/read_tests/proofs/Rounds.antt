@@ -11,7 +11,7 @@ use lib.ListN.{drop}
 use borrow.Author.Tests.{eq-eqb, ne-eqb}
 use Rattle.claims.specs.Bytes.{byte}
 use Rattle.claims.specs.Tokens.{Token, tokens}
-use Rattle.claims.specs.Grammar.{Found, deep, andThen, goesOn, past, closes}
+use Rattle.claims.specs.Grammar.{Found, deep, andThen, goesOn, past, beforeMark}
 use Rattle.claims.specs.Names.{Use}
 use Rattle.claims.specs.Query.{Query}
 use Rattle.read_tests.specs.declared.Place.{Place}
@@ -37,14 +37,14 @@ pub record Rounded {A : Type 0} (R : Rounds A) : Type 0 where
       ≡ elim (goesOn (byte "(") ts) [
         | true ↦ elim (eqb d 32) [
           | true ↦ deep
-          | false ↦ andThen (R .inner n (suc d) (past ts)) (λ t us. closes (byte ")") t us)
+          | false ↦ andThen (R .inner n (suc d) (past ts)) (λ t us. beforeMark (byte ")") t us)
         ]
         | false ↦ R .plain n d ts
       ]
 
 module _ {A : Type 0} {R : Rounds A} (L : Rounded R) (d : ℕ) where
   pub round-opens : (d ≡ 32 → ⊥) → (n : ℕ) (ts : List Token) → goesOn (byte "(") ts ≡ true
-      → R .outer (suc n) d ts ≡ andThen (R .inner n (d + 1) (past ts)) (λ t us. closes (byte ")") t us)
+      → R .outer (suc n) d ts ≡ andThen (R .inner n (d + 1) (past ts)) (λ t us. beforeMark (byte ")") t us)
   round-opens few n ts h = rw (L .step n d ts, h, ne-eqb d 32 few, add-one d)
 
   abbrev pub roundBracket : (d ≡ 32 → ⊥) → Bracket A A

@@ -11,7 +11,7 @@ use Rattle.claims.specs.Bytes.{text, same}
 use Rattle.claims.specs.Tokens as Notation
 use Rattle.claims.specs.Tokens.{tokens, reservedWords, isReserved}
 use Rattle.claims.specs.Grammar.{Found, got, wrong, nameNext, testWord}
-use Rattle.claims.specs.Tree.{testName, always, never, name}
+use Rattle.claims.specs.Tree.{testName, trueTest, falseTest, name}
 use Rattle.claims.specs.Names.{Use, testUses, treeUses, firstSlip}
 use Rattle.claims.specs.Query.{Query}
 use Rattle.codes.specs.Codes.{TRUE, FALSE, A-TEST, A-RELATION, LINE, codeOf, testCodes, treeCodes}
@@ -68,11 +68,11 @@ module _ {A : Type 0} (Reads : List Notation.Token → Found A → Type 0) (code
 
 -- the word w stands next
 module _ (w : List ℕ) (ts us : List Notation.Token) (read : ts ≡ Notation.word w ∷ us) where
-  says-true : same (text "true") w ≡ true → testWord ts ≡ got always us
+  says-true : same (text "true") w ≡ true → testWord ts ≡ got trueTest us
   unfolding testWord nameNext
   says-true h = rw (read, h)
 
-  says-false : same (text "true") w ≡ false → same (text "false") w ≡ true → testWord ts ≡ got never us
+  says-false : same (text "true") w ≡ false → same (text "false") w ≡ true → testWord ts ≡ got falseTest us
   unfolding testWord nameNext
   says-false g h = rw (read, g, h)
 
@@ -129,7 +129,7 @@ module _ (s names : List ℕ) (n : ℕ) (p : Place) (before : List ℕ) (k : Key
     pub word-true : a ≡ true → TestOutcome (Is testWord) s names n p before (set before (p .used) TRUE) (Got (stepped p next (p .slip)))
     unfolding testCodes testUses
     word-true h =
-        word-read (Is testWord) testCodes testUses s names n p before always k TRUE next (p .slip) f
+        word-read (Is testWord) testCodes testUses s names n p before trueTest k TRUE next (p .slip) f
         (says-true (f .spelling) (tokens (drop (p .at) s)) (tokens (drop next s)) (f .read) (sym (key-true x a x-is a-is) ∙ h))
         (λ q _. refl) (λ q _. no-slip q (p .slip))
 
@@ -140,7 +140,7 @@ module _ (s names : List ℕ) (n : ℕ) (p : Place) (before : List ℕ) (k : Key
       pub word-false : b ≡ true → TestOutcome (Is testWord) s names n p before (set before (p .used) FALSE) (Got (stepped p next (p .slip)))
       unfolding testCodes testUses
       word-false h =
-          word-read (Is testWord) testCodes testUses s names n p before never k FALSE next (p .slip) f
+          word-read (Is testWord) testCodes testUses s names n p before falseTest k FALSE next (p .slip) f
           (says-false (f .spelling) (tokens (drop (p .at) s)) (tokens (drop next s)) (f .read) not-true (sym (key-false y b y-is b-is) ∙ h))
           (λ q _. refl) (λ q _. no-slip q (p .slip))
 

@@ -10,7 +10,7 @@ use mathlib.Core.Option.{Option, some, none}
 use lib.ListN.{length, length-append}
 use borrow.Author.Tests.{lt-ltb}
 use Rattle.claims.specs.Bytes.{same}
-use Rattle.claims.specs.Tree.{Name, TestTree, testName, always, never, either, both, not as negated, testLine, relLine, letLine, neverLine, withinLine, closedLine, assumeEmpty, assumeIrreflexive, claimLine}
+use Rattle.claims.specs.Tree.{Name, TestTree, testName, trueTest, falseTest, either, both, not as negated, testLine, relLine, letLine, neverLine, withinLine, closedLine, assumeEmpty, assumeIrreflexive, claimLine}
 use Rattle.claims.specs.Names.{Kind, aTest, aRelation, aLet, kindOf, declares?, Use, testUses, firstSlip, slip, testSlip}
 use Rattle.claims.specs.Query.{Query, bit, each, indexOf, testNames, tests, holds}
 use Rattle.claims.specs.Refusals.{Cause}
@@ -171,8 +171,8 @@ one-length cs c = simp length-append
 pub codes-some : (q : Query) (t : TestTree) → 0 < length (testCodes q t)
 unfolding testCodes
 codes-some q (testName m) = omega arith
-codes-some q always = omega arith
-codes-some q never = omega arith
+codes-some q trueTest = omega arith
+codes-some q falseTest = omega arith
 codes-some q (either t u) = omega (arith, two-lengths (testCodes q t) (testCodes q u) 3)
 codes-some q (both t u) = omega (arith, two-lengths (testCodes q t) (testCodes q u) 4)
 codes-some q (negated t) = omega (arith, one-length (testCodes q t) 5)
@@ -210,9 +210,9 @@ module _ (q : Query) (six : length (tests q) ≤ 6) (n : ℕ) where
       → runTest n (testCodes q t) st ≡ atomsOf (holds (tests q) t) ∷ st
   unfolding testCodes holds testUses runTest top under
   test-run (testName m) st e h = named m st (test-name q m e) (omega arith)
-  test-run always st e h =
+  test-run trueTest st e h =
       step-true n 1 st refl ∙ push-room n allAtoms st (omega arith) ∙ ap (λ v. v ∷ st) atoms-all
-  test-run never st e h = step-false n 2 st refl ∙ push-room n 0 st (omega arith) ∙ ap (λ v. v ∷ st) atoms-none
+  test-run falseTest st e h = step-false n 2 st refl ∙ push-room n 0 st (omega arith) ∙ ap (λ v. v ∷ st) atoms-none
   test-run (either t u) st e h =
       pair t u 3 st (test-run t) (test-run u) e (omega (arith, two-lengths (testCodes q t) (testCodes q u) 3)) (codes-some q t)
       ∙ step-or n 3 _ refl ∙ push-room n _ st (omega (arith, two-lengths (testCodes q t) (testCodes q u) 3))

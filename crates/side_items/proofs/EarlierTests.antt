@@ -9,7 +9,7 @@ use mathlib.Core.List.{List, [], _∷_, _++_}
 use mathlib.Core.Option.{none}
 use lib.ListN.{length}
 use Rattle.claims.specs.Bytes.{same}
-use Rattle.claims.specs.Tree.{Name, TestTree, testName, always, never, either, both, not as negated}
+use Rattle.claims.specs.Tree.{Name, TestTree, testName, trueTest, falseTest, either, both, not as negated}
 use Rattle.claims.specs.Names.{usesTest, testUses, kindOf, slip, firstSlip}
 use Rattle.claims.specs.Query.{Query, bit, each, indexOf, testNames, tests, holds}
 use Rattle.claims.proofs.Results.{each-append}
@@ -41,8 +41,8 @@ module _ (q p r : Query) (z : p ++ r ≡ q) where
   pub holds-earlier : (t : TestTree) → firstSlip p (testUses t) ≡ none → (a : ℕ) → holds (tests p) t a ≡ holds (tests q) t a
   unfolding holds testUses
   holds-earlier (testName n) e a = ap (λ i. bit i a) (test-place n (slip-first p (usesTest n) [] e .0))
-  holds-earlier always e a = refl
-  holds-earlier never e a = refl
+  holds-earlier trueTest e a = refl
+  holds-earlier falseTest e a = refl
   holds-earlier (either t u) e a =
       let (h, k) = slip-append p (testUses t) (testUses u) e in
       ap₂ _||_ (holds-earlier t h a) (holds-earlier u k a)

@@ -11,7 +11,7 @@ use mathlib.Core.Option.{some, none}
 use lib.Dec.{leb, ltb}
 use lib.ListN.{getD, length-map}
 use borrow.Author.Tests.{le-ltb, lt-ltb, le-leb}
-use Rattle.claims.specs.Tree.{Name, TestTree, testName, always, never, either, both, not, Tree, name, tested, union, sequence, star, plus, opt}
+use Rattle.claims.specs.Tree.{Name, TestTree, testName, trueTest, falseTest, either, both, not, Tree, name, tested, union, sequence, star, plus, opt}
 use Rattle.claims.specs.Names.{aRelation, aLet, usesTest, usesEither, testUses, treeUses, kindOf, slip, firstSlip}
 use Rattle.claims.specs.Query.{Query, Bound, each, indexOf, lets, tests, relations}
 use Rattle.codes.specs.Codes.{letNames, kindCode, codeOf, testCodes, treeCodes}
@@ -96,8 +96,8 @@ module _ (p : Query) (s : Settled p) where
   pub test-codes : (t : TestTree) → firstSlip p (testUses t) ≡ none → Tested (testCodes p t)
   unfolding testCodes testUses ofTest
   test-codes (testName n) e = (test-code n (slip-first p (usesTest n) [] e .0), tt)
-  test-codes always e = (refl, tt)
-  test-codes never e = (refl, tt)
+  test-codes trueTest e = (refl, tt)
+  test-codes falseTest e = (refl, tt)
   test-codes (either t u) e =
       let (a, b) = slip-append p (testUses t) (testUses u) e in
       tested-append (testCodes p t ++ testCodes p u) (3 ∷ []) (tested-append (testCodes p t) (testCodes p u) (test-codes t a) (test-codes u b))

@@ -9,7 +9,7 @@ use mathlib.Core.Bool.{cond}
 use mathlib.Core.List.{List, [], _∷_, _++_}
 use mathlib.Core.Option.{none}
 use borrow.Author.Tests.{lt-ltb, ne-eqb}
-use Rattle.claims.specs.Tree.{Name, TestTree, testName, always, never, either, both, not, Tree, name, tested, union, sequence, star, plus, opt}
+use Rattle.claims.specs.Tree.{Name, TestTree, testName, trueTest, falseTest, either, both, not, Tree, name, tested, union, sequence, star, plus, opt}
 use Rattle.claims.specs.Names.{usesTest, usesEither, testUses, treeUses, kindOf, slip, firstSlip}
 use Rattle.claims.specs.Query.{Query, Bound, lookup, indexOf, lets, tests}
 use Rattle.claims.specs.Counting.{count}
@@ -53,8 +53,8 @@ module _ (p : Query) (d : Declared p) (t : ℕ) (w : ℕ → ℕ) (ls : List ℕ
   test-counts : (u : TestTree) → firstSlip p (testUses u) ≡ none → counts (testCodes p u) ≡ 0
   unfolding testCodes testUses weight
   test-counts (testName n) e = omega (arith, test-name n (slip-first p (usesTest n) [] e .0))
-  test-counts always e = refl
-  test-counts never e = refl
+  test-counts trueTest e = refl
+  test-counts falseTest e = refl
   test-counts (either u v) e =
       let (a, b) = slip-append p (testUses u) (testUses v) e in
       joined (testCodes p u) (testCodes p v) 3 0 0 refl (test-counts u a) (test-counts v b)

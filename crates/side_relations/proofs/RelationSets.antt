@@ -14,7 +14,7 @@ use borrow.Author.Tests.{ne-eqb, lt-ltb, le-ltb}
 use Rattle.claims.specs.Bytes.{same}
 use Rattle.claims.specs.Tree.{Name, Line, testLine, relLine, letLine, neverLine, withinLine, closedLine, assumeEmpty, assumeIrreflexive, claimLine}
 use Rattle.claims.specs.Names.{usesRelation, uses, firstSlip}
-use Rattle.claims.specs.Query.{Query, each, indexOf, limits, closings, tests, relations, closed}
+use Rattle.claims.specs.Query.{Query, each, indexOf, limits, closedNames, tests, relations, closed}
 use Rattle.codes.specs.Codes.{lineCodes, linesCodes, queryCodes}
 use Rattle.codes.proofs.Names.{has, has-append, index-lt}
 use Rattle.codes.proofs.Orderly.{Orderly, slip-first, Settled, settled-none, settled-more, settled-on}
@@ -54,8 +54,8 @@ module _ (q : Query) (n : Name) (inQ : has n (relations q) ≡ true) where
     line-other l e u = closed-free number (lineItems ss p l) js (line-free (ofClosed number) (low-closed number) p s ss l e u)
 
     line-closed : (l : Line) → firstSlip p (uses l) ≡ none
-        → closedIn (lineItems ss p l ++ js) number ≡ (has n (closings l) || closedIn js number)
-    unfolding closings lineItems uses closedIn
+        → closedIn (lineItems ss p l ++ js) number ≡ (has n (closedNames l) || closedIn js number)
+    unfolding closedNames lineItems uses closedIn
     line-closed (testLine m) e = line-other (testLine m) e tt
     line-closed (relLine m) e = line-other (relLine m) e tt
     line-closed (letLine m t) e = line-other (letLine m t) e tt
@@ -71,16 +71,16 @@ module _ (q : Query) (n : Name) (inQ : has n (relations q) ≡ true) where
     line-closed (claimLine c) e = line-other (claimLine c) e tt
 
   lines-closed : (p r : Query) → p ++ r ≡ q → Orderly p r → Settled p → (a : ℕ) (ss : List ℕ)
-      → closedIn (itemsFrom (resting a a ss) (linesCodes p r)) number ≡ has n (each closings r)
+      → closedIn (itemsFrom (resting a a ss) (linesCodes p r)) number ≡ has n (each closedNames r)
   unfolding linesCodes itemsFrom closedIn
   lines-closed p [] z o s a ss = refl
   lines-closed p (l ∷ r) z (e, c, o) s a ss =
       let b = a + length (lineCodes p l) in
       ap (λ is. closedIn is number) (lines-items p l r e s a ss)
       ∙ line-closed p (l ∷ r) z s ss (itemsFrom (resting b b (ss ++ lineStarts a l)) (linesCodes (p ++ (l ∷ [])) r)) l e
-      ∙ ap (λ x. has n (closings l) || x)
+      ∙ ap (λ x. has n (closedNames l) || x)
       (lines-closed (p ++ (l ∷ [])) r (append-assoc p (l ∷ []) r ∙ z) o (settled-more p l e c s) b (ss ++ lineStarts a l))
-      ∙ sym (has-append n (closings l) (each closings r))
+      ∙ sym (has-append n (closedNames l) (each closedNames r))
 
   all-closed : Orderly [] q → closedIn (itemsOf (queryCodes q)) number ≡ closed q n
   unfolding queryCodes unscanned closed
