@@ -13,7 +13,7 @@ use lib.ListN.{length}
 use Rattle.claims.specs.Bytes.{byte, text}
 use Rattle.claims.specs.Tokens.{Token, word, mark, bad, isReserved}
 use Rattle.claims.specs.Tree.{Name, testName, either, both, not, Tree, name, tested, union, sequence, star, plus, opt}
-use Rattle.claims.specs.Grammar.{Found, got, wrong, deep, andThen, goesOn, past, closes, nameNext, saysNext, testWord, testUnion, testUnionMore, testMeet, testMeetMore, testNot, testBasic, unionOf, unionMore, sequenceOf, sequenceMore, postfixOf, postfixMore, factorOf}
+use Rattle.claims.specs.Grammar.{Found, got, wrong, deep, andThen, goesOn, past, beforeMark, nameNext, saysNext, testWord, testUnion, testUnionMore, testMeet, testMeetMore, testNot, testBasic, unionOf, unionMore, sequenceOf, sequenceMore, postfixOf, postfixMore, factorOf}
 use Rattle.claims.specs.Lines.{enough}
 
 -- fewer than m tokens are left, where something was found
@@ -70,8 +70,8 @@ past-fewer [] = omega arith
 past-fewer (t ∷ ts) = omega arith
 
 module _ {A : Type 0} where
-  closes-leaves : (b : ℕ) (a : A) (us : List Token) → Leaves (suc (length us)) (closes b a us)
-  unfolding closes
+  closes-leaves : (b : ℕ) (a : A) (us : List Token) → Leaves (suc (length us)) (beforeMark b a us)
+  unfolding beforeMark
   closes-leaves b a us =
       either-leaves (suc (length us)) (goesOn b us) (got a (past us)) wrong
       (λ h. let p = past-fewer us in omega arith) (λ h. tt)
@@ -147,11 +147,11 @@ module _ {A : Type 0} where
   module _ (outer inner plain : ℕ → ℕ → List Token → Found A)
       (step : (n d : ℕ) (ts : List Token) → outer (suc n) d ts
       ≡ elim (goesOn (byte "(") ts) [
-        | true ↦ elim (eqb d 32) [ true ↦ deep | false ↦ andThen (inner n (suc d) (past ts)) (λ a us. closes (byte ")") a us) ]
+        | true ↦ elim (eqb d 32) [ true ↦ deep | false ↦ andThen (inner n (suc d) (past ts)) (λ a us. beforeMark (byte ")") a us) ]
         | false ↦ plain n d ts
       ]) where
     abbrev inside : ℕ → ℕ → List Token → Found A
-    inside n d ts = elim (eqb d 32) [ true ↦ deep | false ↦ andThen (inner n (suc d) (past ts)) (λ a us. closes (byte ")") a us) ]
+    inside n d ts = elim (eqb d 32) [ true ↦ deep | false ↦ andThen (inner n (suc d) (past ts)) (λ a us. beforeMark (byte ")") a us) ]
 
     outer-settled : (c n : ℕ) → c ≤ 8 → Settled c inner n → Settled 0 plain n → Settled 1 outer (suc n)
     outer-settled c n b i o d ts = (
@@ -159,10 +159,10 @@ module _ {A : Type 0} where
           (either-leaves (length ts) (goesOn (byte "(") ts) (inside n d ts) (plain n d ts)
           (λ g.
           let p = goes-past (byte "(") ts g in
-          either-leaves (length ts) (eqb d 32) deep (andThen (inner n (suc d) (past ts)) (λ a us. closes (byte ")") a us)) (λ h. tt)
+          either-leaves (length ts) (eqb d 32) deep (andThen (inner n (suc d) (past ts)) (λ a us. beforeMark (byte ")") a us)) (λ h. tt)
           (λ h.
-          leaves-more (length (past ts)) (length ts) (andThen (inner n (suc d) (past ts)) (λ a us. closes (byte ")") a us)) (omega arith)
-          (then-leaves (length (past ts)) (inner n (suc d) (past ts)) (λ a us. closes (byte ")") a us) (i (suc d) (past ts) .0)
+          leaves-more (length (past ts)) (length ts) (andThen (inner n (suc d) (past ts)) (λ a us. beforeMark (byte ")") a us)) (omega arith)
+          (then-leaves (length (past ts)) (inner n (suc d) (past ts)) (λ a us. beforeMark (byte ")") a us) (i (suc d) (past ts) .0)
           (λ a us. closes-leaves (byte ")") a us))))
           (λ g. o d ts .0)),
       (λ h.
@@ -170,9 +170,9 @@ module _ {A : Type 0} where
           ∙ either-same (goesOn (byte "(") ts) (inside (suc n) d ts) (inside n d ts) (plain (suc n) d ts) (plain n d ts)
           (λ g.
           let p = goes-past (byte "(") ts g in
-          either-same (eqb d 32) deep deep (andThen (inner (suc n) (suc d) (past ts)) (λ a us. closes (byte ")") a us))
-          (andThen (inner n (suc d) (past ts)) (λ a us. closes (byte ")") a us)) (λ k. refl)
-          (λ k. ap (λ x. andThen x (λ a us. closes (byte ")") a us)) (i (suc d) (past ts) .1 (omega arith))))
+          either-same (eqb d 32) deep deep (andThen (inner (suc n) (suc d) (past ts)) (λ a us. beforeMark (byte ")") a us))
+          (andThen (inner n (suc d) (past ts)) (λ a us. beforeMark (byte ")") a us)) (λ k. refl)
+          (λ k. ap (λ x. andThen x (λ a us. beforeMark (byte ")") a us)) (i (suc d) (past ts) .1 (omega arith))))
           (λ g. o d ts .1 (omega arith))
           ∙ sym (step n d ts)),
     )
@@ -259,25 +259,25 @@ postfix-settled n m d e ts = (
 abbrev factor : ℕ → ℕ → List Token → Found Tree
 factor n d ts =
     elim (goesOn (byte "[") ts) [
-      | true ↦ andThen (testUnion n d (past ts)) (λ t us. closes (byte "]") (tested t) us)
+      | true ↦ andThen (testUnion n d (past ts)) (λ t us. beforeMark (byte "]") (tested t) us)
       | false ↦ nameNext name ts
     ]
 
 factor-settled : (n : ℕ) → Settled 4 testUnion n → Settled 0 factor n
 factor-settled n u d ts = (
-  either-leaves (length ts) (goesOn (byte "[") ts) (andThen (testUnion n d (past ts)) (λ t us. closes (byte "]") (tested t) us)) (nameNext name ts)
+  either-leaves (length ts) (goesOn (byte "[") ts) (andThen (testUnion n d (past ts)) (λ t us. beforeMark (byte "]") (tested t) us)) (nameNext name ts)
       (λ g.
       let p = goes-past (byte "[") ts g in
-      leaves-more (length (past ts)) (length ts) (andThen (testUnion n d (past ts)) (λ t us. closes (byte "]") (tested t) us)) (omega arith)
-      (then-leaves (length (past ts)) (testUnion n d (past ts)) (λ t us. closes (byte "]") (tested t) us) (u d (past ts) .0)
+      leaves-more (length (past ts)) (length ts) (andThen (testUnion n d (past ts)) (λ t us. beforeMark (byte "]") (tested t) us)) (omega arith)
+      (then-leaves (length (past ts)) (testUnion n d (past ts)) (λ t us. beforeMark (byte "]") (tested t) us) (u d (past ts) .0)
       (λ t us. closes-leaves (byte "]") (tested t) us)))
       (λ g. name-leaves name ts),
   (λ h.
-      either-same (goesOn (byte "[") ts) (andThen (testUnion (suc n) d (past ts)) (λ t us. closes (byte "]") (tested t) us))
-      (andThen (testUnion n d (past ts)) (λ t us. closes (byte "]") (tested t) us)) (nameNext name ts) (nameNext name ts)
+      either-same (goesOn (byte "[") ts) (andThen (testUnion (suc n) d (past ts)) (λ t us. beforeMark (byte "]") (tested t) us))
+      (andThen (testUnion n d (past ts)) (λ t us. beforeMark (byte "]") (tested t) us)) (nameNext name ts) (nameNext name ts)
       (λ g.
       let p = goes-past (byte "[") ts g in
-      ap (λ x. andThen x (λ t us. closes (byte "]") (tested t) us)) (u d (past ts) .1 (omega arith)))
+      ap (λ x. andThen x (λ t us. beforeMark (byte "]") (tested t) us)) (u d (past ts) .1 (omega arith)))
       (λ g. refl)),
 )
 
