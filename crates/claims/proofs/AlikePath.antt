@@ -6,7 +6,7 @@ use Prim.Native.Nat.{ℕ}
 use mathlib.Core.Path.{_≡_, sym}
 use mathlib.Core.Logic._⊎_.{inl, inr}
 use mathlib.Core.Bool.{Bool, true, false}
-use mathlib.Core.List.{[], _∷_}
+use mathlib.Core.List.{List, [], _∷_}
 use Rattle.kat.specs.Lists.{In}
 use Rattle.kat.specs.Ring.{Prefix}
 use Rattle.kat.specs.Tables.{after}
@@ -14,15 +14,14 @@ use Rattle.kat.proofs.Bools.{and-left, and-right}
 use Rattle.claims.specs.Sides.{Decision}
 use Rattle.claims.specs.Standings.{Letter, Path, pathStep, pathSystem}
 use Rattle.claims.specs.Search.{Entry, verdict}
-use Rattle.claims.specs.SheetReading.{Said}
-use Rattle.claims.specs.Passing.{passes}
-use Rattle.claims.specs.Thin.{thinVerdict, thinPasses}
+use Rattle.claims.specs.Passing.{proving}
+use Rattle.claims.specs.Thin.{thinVerdict, thinProving}
 use Rattle.claims.specs.Alike.{statesOf, readersOf, sameNext, alikePath, alikePathFirst, alikePathAfter, keptPath, keptPathFirst, keptPathAfter, lastRelation, pathLetter, pathLetterFirst, pathLetterAfter}
 use Rattle.claims.specs.Verdicts.{StandingOf, begun, grown}
 use Rattle.claims.specs.Orders.{Rising, letterOf}
 use Rattle.claims.proofs.Letters.{Fits}
 use Rattle.claims.proofs.Lawful.{path-lawful}
-use Rattle.claims.proofs.ThinVerdict.{MayLeave, Thins, ThinsAnywhere, anywhere-thins, thin-verdict, thin-passes}
+use Rattle.claims.proofs.ThinVerdict.{MayLeave, Thins, ThinsAnywhere, anywhere-thins, thin-verdict, thin-proving}
 use Rattle.claims.proofs.Alike.{SameStep, after-same, next-is-same, next-is-same-anywhere, after-readers, lower-alike}
 
 module _ (D : Decision) where
@@ -118,5 +117,5 @@ module _ (D : Decision) where
     kept-path-verdict-after = thin-verdict (pathSystem D) (path-lawful D rising) (pathLetterFirst D) (pathLetterAfter D) path-thins
 
     -- the check of a sheet over the atoms kept by the next relation
-    pub kept-path-passes : (said : Said (pathSystem D)) → thinPasses (pathSystem D) (pathLetter D) (pathLetter D) said ≡ passes (pathSystem D) said
-    kept-path-passes = thin-passes (pathSystem D) (path-lawful D rising) (pathLetter D) (pathLetter D) path-thins-anywhere
+    pub kept-path-proves : (ss : List (pathSystem D .Standing)) → thinProving (pathSystem D) (pathLetter D) (pathLetter D) ss ≡ proving (pathSystem D) ss
+    kept-path-proves = thin-proving (pathSystem D) (path-lawful D rising) (pathLetter D) (pathLetter D) path-thins-anywhere

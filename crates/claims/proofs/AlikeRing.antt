@@ -18,9 +18,8 @@ use Rattle.kat.proofs.Sets.{some-in, filter-in, filter-same, some-same, map-in,
 use Rattle.claims.specs.Sides.{Decision}
 use Rattle.claims.specs.Standings.{Letter, Ring, row, states, moves, ringBegin, pairs, ringStep, ringSystem}
 use Rattle.claims.specs.Search.{Entry, verdict}
-use Rattle.claims.specs.SheetReading.{Said}
-use Rattle.claims.specs.Passing.{passes}
-use Rattle.claims.specs.Thin.{thinVerdict, thinPasses}
+use Rattle.claims.specs.Passing.{proving}
+use Rattle.claims.specs.Thin.{thinVerdict, thinProving}
 use Rattle.claims.specs.Alike.{occurrencesOf, statesOf, readersOf, sameNext, sameLast, alikeRing, alikeRingAfter, keptRing, keptRingAfter, lastRelation, ringLetter, ringLetterAfter}
 use Rattle.claims.specs.Verdicts.{StandingOf, begun, grown}
 use Rattle.claims.specs.Orders.{Rising, letterOf}
@@ -28,7 +27,7 @@ use Rattle.claims.proofs.Rows.{row-made, rows-made, row-past, nothing-i
 use Rattle.claims.proofs.RingStandings.{begin-N}
 use Rattle.claims.proofs.Letters.{Fits}
 use Rattle.claims.proofs.Lawful.{beq-sound, and-false, ring-lawful}
-use Rattle.claims.proofs.ThinVerdict.{MayLeave, Thins, ThinsAnywhere, anywhere-thins, thin-verdict, thin-passes}
+use Rattle.claims.proofs.ThinVerdict.{MayLeave, Thins, ThinsAnywhere, anywhere-thins, thin-verdict, thin-proving}
 use Rattle.claims.proofs.Alike.{SameStep, step-next, after-same, ends-same, next-is-same, next-is-same-anywhere, last-is-same, last-is-same-anywhere, reads-in, after-readers, lower-alike}
 
 -- a row that holds something is one of the table's rows
@@ -236,5 +235,5 @@ module _ (D : Decision) where
     kept-ring-verdict-after = thin-verdict (ringSystem D) (ring-lawful D rising) (λ l. true) (ringLetterAfter D) ring-thins
 
     -- the check of a sheet over the atoms kept by the next relation
-    pub kept-ring-passes : (said : Said (ringSystem D)) → thinPasses (ringSystem D) (λ l. true) (ringLetter D) said ≡ passes (ringSystem D) said
-    kept-ring-passes = thin-passes (ringSystem D) (ring-lawful D rising) (λ l. true) (ringLetter D) ring-thins-anywhere
+    pub kept-ring-proves : (ss : List (ringSystem D .Standing)) → thinProving (ringSystem D) (λ l. true) (ringLetter D) ss ≡ proving (ringSystem D) ss
+    kept-ring-proves = thin-proving (ringSystem D) (ring-lawful D rising) (λ l. true) (ringLetter D) ring-thins-anywhere

@@ -4,13 +4,16 @@
 use Prim.Native.Nat.{ℕ, zero, suc, _+_, _*_, _/_, _%_, _^_, _≤_, _<_}
 use native.Mathlib.Nat.{pow-zero, pow-suc, div-one, div-div-eq-div-mul, div-add-mod', div-eq-of-lt, mod-lt}
 use native.Mathlib.Omega.{arith}
-use mathlib.Core.Path.{_≡_, refl, sym, _∙_, ap}
-use mathlib.Core.List.{List, _++_}
-use lib.ListN.{length, length-append}
-use lib.Seq.{take-at, drop-at}
-use borrow.Author.Tests.{le-leb}
+use mathlib.Core.Path.{_≡_, refl, sym, _∙_, ap, subst}
+use mathlib.Core.Bool.{Bool, true, false}
+use mathlib.Core.List.{List, [], _∷_, _++_}
+use lib.Dec.{leb}
+use lib.ListN.{length, take, drop, length-append, take-append-drop}
+use lib.Seq.{take-at, drop-at, length-take-le}
+use borrow.Author.Tests.{le-leb, leb-true, eqb-true}
 use Rattle.kat.specs.Lists.{In, here, there}
-use Rattle.claims.specs.Fields.{bigEndian, fromBytes, field, whole, contentsOf, nextField}
+use Rattle.claims.specs.Fields.{bigEndian, fromBytes, field, whole, cut, contentsOf, nextField}
+use Rattle.claims.specs.SheetReading.{tagged}
 
 -- n bytes are n bytes
 pub bigEndian-length : (n m : ℕ) → length (bigEndian n m) ≡ n
@@ -58,3 +61,45 @@ field-read-back tag contents rest h =
 pub field-length : (tag : ℕ) (contents : List ℕ) → length (field tag contents) ≡ 3 + length contents
 unfolding field
 field-length tag contents = simp (length-append, bigEndian-length) (omega arith)
+
+-- a whole field is what stands before the rest
+contents-whole : (t n : ℕ) (bs : List ℕ) (tag : ℕ) (contents rest : List ℕ) → contentsOf t n bs ≡ whole tag contents rest
+    → (t ≡ tag) × (bs ≡ contents ++ rest) × (length contents ≡ n)
+unfolding contentsOf
+contents-whole t n bs tag contents rest = go (leb n (length bs)) refl
+  where
+    go : (b : Bool) → leb n (length bs) ≡ b → elim b [ true ↦ whole t (take n bs) (drop n bs) | false ↦ cut ] ≡ whole tag contents rest
+        → (t ≡ tag) × (bs ≡ contents ++ rest) × (length contents ≡ n)
+    go true h e =
+        let p : take n bs ≡ contents = cc in
+        let q : drop n bs ≡ rest = cc in
+        (cc, rw (← p, ← q) (sym (take-append-drop n bs)), rw (← p) (length-take-le n bs (leb-true n (length bs) h)))
+    go false h e = let z : _≡_ {A = ℕ} 0 1 = cc in absurd (omega arith)
+
+-- the field as its header says it, and as it is written if its contents are short
+pub next-whole : (bs : List ℕ) (tag : ℕ) (contents rest : List ℕ) → nextField bs ≡ whole tag contents rest
+    → (h : ℕ) × (l : ℕ) × (bs ≡ tag ∷ h ∷ l ∷ (contents ++ rest)) × (length contents ≡ h * 256 + l)
+unfolding nextField
+next-whole [] tag contents rest e = let z : _≡_ {A = ℕ} 0 1 = cc in absurd (omega arith)
+next-whole (t ∷ []) tag contents rest e = let z : _≡_ {A = ℕ} 0 1 = cc in absurd (omega arith)
+next-whole (t ∷ h ∷ []) tag contents rest e = let z : _≡_ {A = ℕ} 0 1 = cc in absurd (omega arith)
+next-whole (t ∷ h ∷ l ∷ bs) tag contents rest e =
+    let (p, q, n) = contents-whole t (h * 256 + l) bs tag contents rest e in
+    (h, l, rw (← p, ← q), n)
+
+-- a field that begins with the byte t has the tag t
+pub next-tag : (t : ℕ) (bs : List ℕ) (tag : ℕ) (contents rest : List ℕ) → tagged t bs ≡ true → nextField bs ≡ whole tag contents rest
+    → tag ≡ t
+unfolding tagged
+next-tag t bs tag contents rest h e =
+    let (x, y, p, n) = next-whole bs tag contents rest e in
+    eqb-true tag t (subst (λ l. tagged t l ≡ true) p h)
+
+-- a field of bytes that was read is the field as written
+pub field-as-written : (tag h l : ℕ) (contents : List ℕ) → length contents ≡ h * 256 + l → h < 256 → l < 256
+    → tag ∷ h ∷ l ∷ contents ≡ field tag contents
+unfolding field bigEndian
+field-as-written tag h l contents n p q =
+    let x : h ≡ length contents / 256 % 256 = omega arith in
+    let y : l ≡ length contents / 1 % 256 = omega arith in
+    (λ i. tag ∷ x i ∷ y i ∷ contents)

@@ -10,9 +10,11 @@ use mathlib.Core.List.{List, [], _∷_, _++_, map}
 use lib.ListN.{length, replicate}
 use Rattle.kat.specs.Lists.{upto}
 use Rattle.kat.specs.Graph.{Finite}
-use Rattle.kat.specs.Word.{Word, end, at}
+use Rattle.kat.specs.Word.{Word, end, at, numbers}
 use Rattle.claims.specs.Bytes.{text}
 use Rattle.claims.specs.Refusals.{Result, ok, refused, refuse, spentAllowance, shortBuffer}
+use Rattle.claims.specs.Sides.{Decision}
+use Rattle.claims.specs.SheetReading.{Said, saysProved, saysRefuted, Part, partIn}
 use Rattle.claims.specs.Judgement.{Judgement, Outcome, holdsIn, breaksAt, breaksFrom}
 use Rattle.claims.specs.GraphWriting.{joined}
 use Rattle.claims.specs.Drawn.{drawn}
@@ -95,7 +97,8 @@ M5 = 10 ∷ 4 ∷ 0 ∷ 8 ∷ 16 ∷ []
 
 abbrev pub sheets : List Sent
 sheets =
-    -- a path's: nothing, another verdict, as written, another tag, cut short, a byte more, a standing twice
+    -- a path's: nothing, another verdict, as written, another tag, cut short, a byte more, a standing twice, another tag behind a standing,
+    -- a second sheet behind the first
     record { query = included; bytes = []; line = "refusal 13 line 1" }
     ∷ record { query = included; bytes = saying 3 []; line = "refusal 13 line 1" }
     ∷ record { query = included; bytes = saying 1 (pathField 3 1 3); line = "passes proved" }
@@ -103,6 +106,8 @@ sheets =
     ∷ record { query = included; bytes = saying 1 (3 ∷ 0 ∷ 16 ∷ replicate 15 0); line = "refusal 13 line 2" }
     ∷ record { query = included; bytes = saying 1 (pathField 3 1 3 ++ (0 ∷ [])); line = "refusal 13 line 3" }
     ∷ record { query = included; bytes = saying 1 (pathField 3 1 3 ++ pathField 3 1 3); line = "refusal 13 line 3" }
+    ∷ record { query = included; bytes = saying 1 (pathField 3 1 3 ++ pathField 4 1 1); line = "refusal 13 line 3" }
+    ∷ record { query = included; bytes = saying 1 (pathField 3 1 3 ++ saying 1 (pathField 3 1 3)); line = "refusal 13 line 3" }
     -- a refuted one: its word in a line and in a ring; no word, a relation that there is not, a field more; words that do not refute
     ∷ record { query = nothing; bytes = sheetOfWord; line = "passes refuted" }
     ∷ record { query = "rel r\nclaim irreflexive r\n"; bytes = sheetOfWord; line = "passes refuted" }
@@ -127,6 +132,33 @@ sheets =
 pub sheets-checked : map checks sheets ≡ map said sheets
 unfolding checks everything
 sheets-checked = refl
+
+-- a part read from field 5 on: what it says, the number of the next field, and how many bytes are left; or the refusal
+abbrev pub partLine : {D : Decision} → Part D → List ℕ
+partLine {D} p = saidLine D (p .said) ++ spaced (p .next ∷ length (p .rest) ∷ [])
+  where
+    saidLine : (D : Decision) → Said D → List ℕ
+    saidLine D (saysProved ss) = text "proved" ++ spaced (length ss ∷ [])
+    saidLine D (saysRefuted w) = text "refuted" ++ spaced (numbers w)
+
+unfoldable pub reads : Sent → List ℕ
+reads c = elim (asked (text (c .query))) [ refused r ↦ refusalLine r | ok a ↦ shown partLine (partIn (a .decided) 5 (c .bytes)) ]
+
+-- parts in a row: each is read by itself, and a standing of the first does not repeat in the second; a wrong field has its own number
+abbrev pub parts : List Sent
+parts =
+    record { query = included; bytes = saying 1 (pathField 3 1 3 ++ saying 1 (pathField 3 1 3)); line = "proved 1 7 23" }
+    ∷ record { query = included; bytes = saying 1 (pathField 3 1 3 ++ (4 ∷ [])); line = "proved 1 7 1" }
+    ∷ record { query = included; bytes = saying 1 (saying 2 []); line = "proved 0 6 4" }
+    ∷ record { query = included; bytes = sheetOfWord ++ saying 1 []; line = "refuted 0 0 0 7 4" }
+    ∷ record { query = included; bytes = saying 1 (pathField 3 1 3 ++ pathField 3 1 3); line = "refusal 13 line 7" }
+    ∷ record { query = included; bytes = saying 2 (saying 1 []); line = "refusal 13 line 6" }
+    ∷ record { query = included; bytes = pathField 3 1 3; line = "refusal 13 line 5" }
+    ∷ []
+
+pub parts-read : map reads parts ≡ map said parts
+unfolding reads everything
+parts-read = refl
 
 -- the judgement of a graph
 abbrev pub outcomeLine : Outcome → List ℕ

@@ -16,7 +16,7 @@ use Rattle.kat.specs.Word.{Word}
 use Rattle.kat.proofs.Bools.{bool-cases}
 use Rattle.claims.specs.Query.{Query}
 use Rattle.claims.specs.Sides.{Decision}
-use Rattle.claims.specs.Standings.{System, pathSystem, ringSystem}
+use Rattle.claims.specs.Standings.{System, pathSystem, ringSystem, systemOf}
 use Rattle.claims.specs.Search.{proved, refuted, spent, verdict}
 use Rattle.claims.specs.SheetBytes.{pathBytes, ringBytes}
 use Rattle.claims.specs.Passing.{refuting}
@@ -28,7 +28,7 @@ use Rattle.claims.specs.Lawful.{Lawful}
 use Rattle.claims.specs.Calls.{Answer, provedWith, refutedBy, Given, answerOf, searched, Asked, asked, Lent, Done, search-call}
 use Rattle.claims.specs.RefusalOrder.{Accepted}
 use Rattle.claims.specs.CallOrder.{sought, Ready}
-use Rattle.claims.specs.Demands.{systemOf, MeansProved, MeansRefuted, MeansSpent, AnswerMeans, OneMeaning, FixedByWords, answerAlone}
+use Rattle.claims.specs.Demands.{MeansProved, MeansRefuted, MeansSpent, AnswerMeans, OneMeaning, FixedByWords, answerAlone}
 use Rattle.claims.specs.Sheets.{sheetLength}
 use Rattle.claims.proofs.LineOrder.{ok-not-refused, same-value}
 use Rattle.claims.proofs.Lawful.{path-lawful, ring-lawful, decision-rising}

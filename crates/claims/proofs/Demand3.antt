@@ -35,7 +35,7 @@ module _ (bs : List ℕ) (a : Asked) (accepted : asked bs ≡ ok a) (sheet : Lis
 
   -- a sheet that passes as refuted: the graph drawn from its word is judged to meet the lines, and the claim is judged not to hold
   pub passing-refuted-judged-to-break : check-call bs sheet ≡ ok passedRefuted
-      → (w : Word) × SaysRefuted (a .decided) (a .decided .ring) sheet w
+      → (w : Word) × SaysRefuted (a .decided) sheet w
       × Execution (graph (drawn (a .query) (a .decided .ring) w)) (a .query)
       × (judgement (drawn (a .query) (a .decided .ring) w) (a .query) (a .claim) .line ≡ 0)
       × (judgement (drawn (a .query) (a .decided .ring) w) (a .query) (a .claim) .outcome ≡ holdsIn → ⊥)

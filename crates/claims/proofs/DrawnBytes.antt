@@ -24,7 +24,8 @@ use Rattle.claims.specs.GraphBytes.{Edge, Listed, Ranges, finite}
 use Rattle.claims.specs.GraphWriting.{WellListed, joined, eventField, edgeField, graphBytes, listedOf}
 use Rattle.claims.specs.Meaning.{Execution}
 use Rattle.claims.specs.Sheets.{SaysRefuted}
-use Rattle.claims.proofs.SheetOfBytes.{AllBytes, bytes-cons, bytes-nil, field-bytes}
+use Rattle.claims.specs.SheetWriting.{AllBytes}
+use Rattle.claims.proofs.SheetOfBytes.{bytes-cons, bytes-nil, field-bytes}
 use Rattle.claims.proofs.Limits.{WithinLimits, asked-within-limits}
 use Rattle.claims.proofs.GraphReading.{rangesOf, accepted-is-execution}
 use Rattle.claims.proofs.GraphWritten.{written-is-read}
@@ -109,7 +110,7 @@ module _ (bs : List ℕ) (a : Asked) (accepted : asked bs ≡ ok a) where
 
   -- a sheet that passes as refuted: the judge, given the bytes of the graph drawn from its word, answers line 0 and a broken claim
   pub passing-refuted-called-to-break : (sheet : List ℕ) → check-call bs sheet ≡ ok passedRefuted
-      → (w : Word) × SaysRefuted (a .decided) (a .decided .ring) sheet w
+      → (w : Word) × SaysRefuted (a .decided) sheet w
       × (length (drawn (a .query) (a .decided .ring) w .atoms) ≤ 64
       → ((b : ℕ) → In b (graphBytes (listedOf (drawn (a .query) (a .decided .ring) w) (length (relations (a .query))))) → b < 256)
       × (judge-call bs (graphBytes (listedOf (drawn (a .query) (a .decided .ring) w) (length (relations (a .query)))))

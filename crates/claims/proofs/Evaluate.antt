@@ -11,6 +11,7 @@ use Rattle.claims.specs.Refusals
 use Rattle.claims.specs.Names
 use Rattle.claims.specs.Query
 use Rattle.claims.specs.Expanded
+use Rattle.claims.specs.Width
 use Rattle.claims.specs.Counting
 use Rattle.claims.specs.Decisions
 use Rattle.claims.specs.Reading
@@ -67,6 +68,10 @@ unfoldable pub open-Expanded : Unit {0}
 unfolding Expanded.bounded Expanded.standsFor Expanded.expandedIn Expanded.expanded Expanded.countExpanded
 open-Expanded = tt
 
+unfoldable pub open-Width : Unit {0}
+unfolding Width.width Width.rowLength Width.besideColumns Width.ringWords
+open-Width = tt
+
 unfoldable pub open-Counting : Unit {0}
 unfolding Counting.count Counting.occurrencesOf Counting.leavesOf Counting.sizeOf Counting.withAnys Counting.leftSize Counting.rightSize Counting.rightLimit Counting.withinLimits
 open-Counting = tt
@@ -96,15 +101,15 @@ unfolding Fields.bigEndian Fields.fromBytes Fields.setNumber Fields.numberSet Fi
 open-Fields = tt
 
 unfoldable pub open-SheetBytes : Unit {0}
-unfolding SheetBytes.width SheetBytes.setBytes SheetBytes.rowBytes SheetBytes.pathBytes SheetBytes.ringBytes SheetBytes.standingFields SheetBytes.sheetBytes
+unfolding SheetBytes.setBytes SheetBytes.rowBytes SheetBytes.tableBytes SheetBytes.contentsLength SheetBytes.pathBytes SheetBytes.ringBytes SheetBytes.standingFields SheetBytes.sheetBytes
 open-SheetBytes = tt
 
 unfoldable pub open-SheetReading : Unit {0}
-unfolding SheetReading.setOf SheetReading.setFits SheetReading.pathOf SheetReading.rowNumbers SheetReading.rowsPass SheetReading.rowOfM SheetReading.rowOfN SheetReading.tableOf SheetReading.ringOf SheetReading.wordOf SheetReading.standingIn SheetReading.standingsIn SheetReading.wordIn SheetReading.verdictIn SheetReading.sheetIn
+unfolding SheetReading.setOf SheetReading.setFits SheetReading.pathOf SheetReading.rowNumbers SheetReading.rowsPass SheetReading.rowOfM SheetReading.rowOfN SheetReading.tableOf SheetReading.ringOf SheetReading.wordOf SheetReading.tagged SheetReading.verdictIs SheetReading.wordIn SheetReading.standingIn SheetReading.standingsIn SheetReading.wordFrom SheetReading.partFrom SheetReading.partIn SheetReading.onlyPart SheetReading.sheetIn
 open-SheetReading = tt
 
 unfoldable pub open-Passing : Unit {0}
-unfolding Passing.completes Passing.refuting Passing.listed Passing.passes
+unfolding Passing.completes Passing.refuting Passing.listed Passing.proving Passing.passes
 open-Passing = tt
 
 unfoldable pub open-GraphBytes : Unit {0}
@@ -128,5 +133,5 @@ unfolding Printed.digitsBefore Printed.decimal Printed.spaced Printed.answerLine
 open-Printed = tt
 
 unfoldable pub everything : Unit {0}
-unfolding open-Tables open-Closure open-Bytes open-Tokens open-Grammar open-Lines open-Refusals open-Names open-Query open-Expanded open-Counting open-Decisions open-Reading open-Sides open-Standings open-Search open-Fields open-SheetBytes open-SheetReading open-Passing open-GraphBytes open-Judgement open-Drawn open-Calls open-Printed
+unfolding open-Tables open-Closure open-Bytes open-Tokens open-Grammar open-Lines open-Refusals open-Names open-Query open-Width open-Expanded open-Counting open-Decisions open-Reading open-Sides open-Standings open-Search open-Fields open-SheetBytes open-SheetReading open-Passing open-GraphBytes open-Judgement open-Drawn open-Calls open-Printed
 everything = tt

@@ -55,14 +55,14 @@ edge-is-listed L r x y =
       (λ i. in-some (sameEdge e) i (edge-same e e refl)),
     )
 
-in-one-more : {A : Type 0} {x y : A} (l : List A) → In x (l ++ (y ∷ [])) → In x l ⊎ (x ≡ y)
+pub in-one-more : {A : Type 0} {x y : A} (l : List A) → In x (l ++ (y ∷ [])) → In x l ⊎ (x ≡ y)
 in-one-more {x = x} {y = y} l i = ⊎-elim (λ h. inl h) (λ h. inr (only h)) (in-append l i)
   where
     only : In x (y ∷ []) → x ≡ y
     only (here e) = e
     only (there j) = elim j [ ]
 
-distinct-one-more : {A : Type 0} {x : A} (l : List A) → Distinct l → (In x l → ⊥) → Distinct (l ++ (x ∷ []))
+pub distinct-one-more : {A : Type 0} {x : A} (l : List A) → Distinct l → (In x l → ⊥) → Distinct (l ++ (x ∷ []))
 distinct-one-more [] d n = ((λ i. elim i [ ]), tt)
 distinct-one-more (y ∷ ys) (h, d) n = (
   (λ i. ⊎-elim h (λ e. n (here (sym e))) (in-one-more ys i)),
@@ -98,7 +98,7 @@ edgeFits R L e =
     && not (someOf (sameEdge e) (L .edges))
 
 module _ (R : Ranges) where
-  nothing-accepted : WellListed R (record { atoms = []; edges = [] })
+  pub nothing-accepted : WellListed R (record { atoms = []; edges = [] })
   nothing-accepted =
       record {
         atoms-known = λ a i. elim i [ ];
@@ -156,7 +156,7 @@ module _ (R : Ranges) where
             (λ i. true-not-false (in-some (sameEdge e) i (edge-same e e refl)) fresh);
       }
 
-  abbrev Kept : Listed → Option Listed → Type 0
+  abbrev pub Kept : Listed → Option Listed → Type 0
   Kept L o = WellListed R L → (H : Listed) → o ≡ some H → WellListed R H
 
   kept-none : (L : Listed) → Kept L none
@@ -179,7 +179,7 @@ module _ (R : Ranges) where
   with-edge L (r ∷ x ∷ y ∷ []) = kept-provided L _ _ (edge-accepted L (record { relation = r; from = x; to = y }))
   with-edge L (r ∷ x ∷ y ∷ b ∷ bs) = kept-none L
 
-  with-field : (L : Listed) (f : Field) → Kept L (withField R L f)
+  pub with-field : (L : Listed) (f : Field) → Kept L (withField R L f)
   unfolding withField
   with-field L cut = kept-none L
   with-field L (whole tag contents rest) = go (eqb tag 1) (eqb tag 2)

@@ -2,17 +2,16 @@
 -- and then edges, and L is as `GraphReading` says. So nothing is left unread and every execution graph can be given. The idea: the
 -- fields read so far, and then the bytes still to be read, are always the whole of the bytes.
 -- Assumes nothing.
-use Prim.Native.Nat.{ℕ, zero, suc, _+_, _*_, _≤_, _<_}
+use Prim.Native.Nat.{ℕ, zero, suc, _+_, _≤_, _<_}
 use native.Mathlib.Omega.{arith}
 use mathlib.Core.Path.{_≡_, refl, sym, _∙_, ap, subst}
 use mathlib.Core.Logic.{_↔_}
 use mathlib.Core.Bool.{Bool, true, false, _&&_}
 use mathlib.Core.List.{List, [], _∷_, _++_, append-assoc, append-nil}
 use mathlib.Core.Option.{Option, some, none}
-use lib.Dec.{eqb, ltb, leb}
-use lib.ListN.{length, take, drop, length-append, take-append-drop}
-use lib.Seq.{length-take-le}
-use borrow.Author.Tests.{leb-true, le-leb, eqb-true, lt-ltb}
+use lib.Dec.{eqb, ltb}
+use lib.ListN.{length, take, drop, length-append}
+use borrow.Author.Tests.{le-leb, eqb-true, lt-ltb}
 use Rattle.kat.specs.Lists.{In, here, there, isEmpty, some as someOf}
 use Rattle.kat.proofs.Bools.{and-left, and-right, and-both, true-not-false, false-not-true, false-of-not}
 use Rattle.kat.proofs.Sets.{some-in, in-append-right}
@@ -21,38 +20,14 @@ use Rattle.claims.specs.Refusals.{Result, ok, refuse, graphField}
 use Rattle.claims.specs.Verdicts.{Distinct}
 use Rattle.claims.specs.GraphBytes.{Edge, Listed, sameEdge, Ranges, withEvent, withEdge, withField, fieldsIn, graphIn}
 use Rattle.claims.proofs.Results.{provided-some}
+use Rattle.claims.proofs.Bytes.{next-whole}
 use Rattle.claims.proofs.GraphReading.{same-edge, graph-accepted, moreEvent, moreEdge, eventFits, edgeFits}
-use Rattle.claims.specs.GraphWriting.{WellListed, joined, eventField, edgeField, graphBytes}
+use Rattle.claims.specs.GraphWriting.{WellListed, joined, eventField, edgeField, graphBytes, graphFields}
 
 joined-more : {A : Type 0} (f : A → List ℕ) (xs : List A) (x : A) → joined f (xs ++ (x ∷ [])) ≡ joined f xs ++ f x
 joined-more f [] x = append-nil (f x)
 joined-more f (y ∷ ys) x =
     ap (λ t. f y ++ t) (joined-more f ys x) ∙ sym (append-assoc (f y) (joined f ys) (f x))
-
--- a whole field is what stands before the rest
-contents-whole : (t n : ℕ) (bs : List ℕ) (tag : ℕ) (contents rest : List ℕ) → contentsOf t n bs ≡ whole tag contents rest
-    → (t ≡ tag) × (bs ≡ contents ++ rest) × (length contents ≡ n)
-unfolding contentsOf
-contents-whole t n bs tag contents rest = go (leb n (length bs)) refl
-  where
-    go : (b : Bool) → leb n (length bs) ≡ b → elim b [ true ↦ whole t (take n bs) (drop n bs) | false ↦ cut ] ≡ whole tag contents rest
-        → (t ≡ tag) × (bs ≡ contents ++ rest) × (length contents ≡ n)
-    go true h e =
-        let p : take n bs ≡ contents = cc in
-        let q : drop n bs ≡ rest = cc in
-        (cc, rw (← p, ← q) (sym (take-append-drop n bs)), rw (← p) (length-take-le n bs (leb-true n (length bs) h)))
-    go false h e = let z : _≡_ {A = ℕ} 0 1 = cc in absurd (omega arith)
-
--- the field as its header says it, and as it is written if its contents are short
-pub next-whole : (bs : List ℕ) (tag : ℕ) (contents rest : List ℕ) → nextField bs ≡ whole tag contents rest
-    → (h : ℕ) × (l : ℕ) × (bs ≡ tag ∷ h ∷ l ∷ (contents ++ rest)) × (length contents ≡ h * 256 + l)
-unfolding nextField
-next-whole [] tag contents rest e = let z : _≡_ {A = ℕ} 0 1 = cc in absurd (omega arith)
-next-whole (t ∷ []) tag contents rest e = let z : _≡_ {A = ℕ} 0 1 = cc in absurd (omega arith)
-next-whole (t ∷ h ∷ []) tag contents rest e = let z : _≡_ {A = ℕ} 0 1 = cc in absurd (omega arith)
-next-whole (t ∷ h ∷ l ∷ bs) tag contents rest e =
-    let (p, q, n) = contents-whole t (h * 256 + l) bs tag contents rest e in
-    (h, l, rw (← p, ← q), n)
 
 next-event : (bs : List ℕ) (a : ℕ) (rest : List ℕ) → nextField bs ≡ whole 1 (a ∷ []) rest → bs ≡ eventField a ++ rest
 unfolding field bigEndian
@@ -72,24 +47,33 @@ next-edge bs e rest d =
     p ∙ ap (λ u. 2 ∷ u ∷ l ∷ e .relation ∷ e .from ∷ e .to ∷ rest) x
     ∙ ap (λ u. 2 ∷ 0 ∷ u ∷ e .relation ∷ e .from ∷ e .to ∷ rest) y
 
--- H and then the rest are the same bytes as G and then bs, and fewer bytes are left
+-- H and then the rest are the same bytes as G and then bs, fewer bytes are left, and H has a field more
 pub record Onward (G : Listed) (bs : List ℕ) (H : Listed) (rest : List ℕ) : Type 0 where
   pub same-bytes : graphBytes G ++ bs ≡ graphBytes H ++ rest
   pub fewer : length rest < length bs
+  pub one-more : graphFields H ≡ suc (graphFields G)
 
 field-longer : (tag : ℕ) (contents rest : List ℕ) → length rest < length (field tag contents ++ rest)
 unfolding field
 field-longer tag contents rest = simp length-append (omega arith)
 
-event-on : (xs : List ℕ) (es : List Edge) (a : ℕ) (rest : List ℕ) → isEmpty es ≡ true
+pub event-on : (xs : List ℕ) (es : List Edge) (a : ℕ) (rest : List ℕ) → isEmpty es ≡ true
     → let G : Listed = record { atoms = xs; edges = es } in Onward G (eventField a ++ rest) (moreEvent G a) rest
 event-on xs [] a rest h =
-    record { same-bytes = simp (append-nil, joined-more, append-assoc); fewer = field-longer 1 (a ∷ []) rest }
+    record {
+      same-bytes = simp (append-nil, joined-more, append-assoc);
+      fewer = field-longer 1 (a ∷ []) rest;
+      one-more = omega (arith, length-append xs (a ∷ []));
+    }
 event-on xs (e ∷ es) a rest h = absurd (true-not-false h refl)
 
-edge-on : (G : Listed) (e : Edge) (rest : List ℕ) → Onward G (edgeField e ++ rest) (moreEdge G e) rest
+pub edge-on : (G : Listed) (e : Edge) (rest : List ℕ) → Onward G (edgeField e ++ rest) (moreEdge G e) rest
 edge-on G e rest =
-    record { same-bytes = simp (joined-more, append-assoc); fewer = field-longer 2 (e .relation ∷ e .from ∷ e .to ∷ []) rest }
+    record {
+      same-bytes = simp (joined-more, append-assoc);
+      fewer = field-longer 2 (e .relation ∷ e .from ∷ e .to ∷ []) rest;
+      one-more = omega (arith, length-append (G .edges) (e ∷ []));
+    }
 
 module _ (R : Ranges) where
   event-read : (G H : Listed) (bs contents rest : List ℕ) → nextField bs ≡ whole 1 contents rest
@@ -119,7 +103,7 @@ module _ (R : Ranges) where
       (subst (λ M. Onward G (edgeField g ++ rest) M rest) d (edge-on G g rest))
   edge-read G H bs (r ∷ x ∷ y ∷ b ∷ cs) rest f e = let z : _≡_ {A = ℕ} 0 1 = cc in absurd (omega arith)
 
-  field-read : (G H : Listed) (bs : List ℕ) (f : Field) → nextField bs ≡ f → withField R G f ≡ some H → Onward G bs H (afterField f)
+  pub field-read : (G H : Listed) (bs : List ℕ) (f : Field) → nextField bs ≡ f → withField R G f ≡ some H → Onward G bs H (afterField f)
   unfolding withField
   field-read G H bs cut n e = let z : _≡_ {A = ℕ} 0 1 = cc in absurd (omega arith)
   field-read G H bs (whole tag contents rest) n d = go (eqb tag 1) refl (eqb tag 2) refl d
@@ -224,6 +208,10 @@ module _ (R : Ranges) where
   no-field (suc n) k G = refl
 
   module _ (L : Listed) (A : WellListed R L) where
+    -- the reading of bytes after the graph G comes, k fields later, to the rest after L
+    abbrev ReadOn : ℕ → ℕ → Listed → List ℕ → ℕ → List ℕ → Type 0
+    ReadOn n k G bs count rest = (m : ℕ) × (length rest ≤ m) × (fieldsIn R n k G bs ≡ fieldsIn R m (k + count) L rest)
+
     edge-fits : (done es : List Edge) (e : Edge) → L .edges ≡ done ++ (e ∷ es)
         → edgeFits R (record { atoms = L .atoms; edges = done }) e ≡ true
     edge-fits done es e p =
@@ -240,17 +228,27 @@ module _ (R : Ranges) where
             let (f, i, s) = some-in (sameEdge e) done h in
             distinct-not-before done es (subst Distinct p (A .once-each)) (subst (λ g. In g done) (sym (same-edge e f s)) i)
 
-    edges-written : (es done : List Edge) → L .edges ≡ done ++ es → (n k : ℕ) → length (joined edgeField es) ≤ n
-        → fieldsIn R n k (record { atoms = L .atoms; edges = done }) (joined edgeField es) ≡ ok L
-    edges-written [] done p n k h =
+    edges-read-on : (es done : List Edge) → L .edges ≡ done ++ es → (n k : ℕ) (rest : List ℕ) → length (joined edgeField es ++ rest) ≤ n
+        → ReadOn n k (record { atoms = L .atoms; edges = done }) (joined edgeField es ++ rest) (length es) rest
+    edges-read-on [] done p n k rest h =
         let q : done ≡ L .edges = sym (append-nil done) ∙ sym p in
-        no-field n k _ ∙ (λ i. ok (record { atoms = L .atoms; edges = q i }))
-    edges-written (e ∷ es) done p zero k h =
-        absurd (omega (arith, field-longer 2 (e .relation ∷ e .from ∷ e .to ∷ []) (joined edgeField es)))
-    edges-written (e ∷ es) done p (suc n) k h =
-        let l = field-longer 2 (e .relation ∷ e .from ∷ e .to ∷ []) (joined edgeField es) in
-        one-edge n k (record { atoms = L .atoms; edges = done }) e (joined edgeField es) (edge-fits done es e p)
-        ∙ edges-written es (done ++ (e ∷ [])) (p ∙ sym (append-assoc done (e ∷ []) es)) n (suc k) (omega arith)
+        let z : k ≡ k + 0 = omega arith in
+        (n, h, λ i. fieldsIn R n (z i) (record { atoms = L .atoms; edges = q i }) rest)
+    edges-read-on (e ∷ es) done p zero k rest h =
+        absurd (omega (arith, field-longer 2 (e .relation ∷ e .from ∷ e .to ∷ []) (joined edgeField es ++ rest), ap length (append-assoc (edgeField e) (joined edgeField es) rest)))
+    edges-read-on (e ∷ es) done p (suc n) k rest h =
+        let apart : joined edgeField (e ∷ es) ++ rest ≡ edgeField e ++ (joined edgeField es ++ rest) =
+        append-assoc (edgeField e) (joined edgeField es) rest in
+        let l = field-longer 2 (e .relation ∷ e .from ∷ e .to ∷ []) (joined edgeField es ++ rest) in
+        let (m, f, g) =
+        edges-read-on es (done ++ (e ∷ [])) (p ∙ sym (append-assoc done (e ∷ []) es)) n (suc k) rest (omega (arith, ap length apart)) in
+        let z : suc k + length es ≡ k + length (e ∷ es) = omega arith in (
+          m,
+          f,
+          ap (fieldsIn R (suc n) k (record { atoms = L .atoms; edges = done })) apart
+              ∙ one-edge n k (record { atoms = L .atoms; edges = done }) e (joined edgeField es ++ rest) (edge-fits done es e p)
+              ∙ g ∙ ap (λ j. fieldsIn R m j L rest) z,
+        )
 
     event-fits : (done xs : List ℕ) (a : ℕ) → L .atoms ≡ done ++ (a ∷ xs)
         → eventFits R (record { atoms = done; edges = [] }) a ≡ true
@@ -260,33 +258,47 @@ module _ (R : Ranges) where
         and-both (and-both (lt-ltb a (R .atoms) (A .atoms-known a i)) refl)
         (lt-ltb (length done) 64 (omega (arith, length-append done (a ∷ xs))))
 
-    first-apart : (x : ℕ) (xs : List ℕ)
-        → joined eventField (x ∷ xs) ++ joined edgeField (L .edges)
-        ≡ eventField x ++ (joined eventField xs ++ joined edgeField (L .edges))
-    first-apart x xs = append-assoc (eventField x) (joined eventField xs) (joined edgeField (L .edges))
+    events-read-on : (xs done : List ℕ) → L .atoms ≡ done ++ xs → (n k : ℕ) (rest : List ℕ)
+        → length (joined eventField xs ++ (joined edgeField (L .edges) ++ rest)) ≤ n
+        → ReadOn n k (record { atoms = done; edges = [] }) (joined eventField xs ++ (joined edgeField (L .edges) ++ rest))
+        (length xs + length (L .edges)) rest
+    events-read-on [] done p n k rest h =
+        let z : length (L .edges) ≡ length (let none : List ℕ = [] in none) + length (L .edges) = omega arith in
+        subst (λ c. ReadOn n k (record { atoms = done; edges = [] }) (joined edgeField (L .edges) ++ rest) c rest) z
+        (subst (λ l. ReadOn n k (record { atoms = l; edges = [] }) (joined edgeField (L .edges) ++ rest) (length (L .edges)) rest)
+        (p ∙ append-nil done) (edges-read-on (L .edges) [] refl n k rest h))
+    events-read-on (x ∷ xs) done p zero k rest h =
+        let behind : List ℕ = joined edgeField (L .edges) ++ rest in
+        absurd (omega (arith, field-longer 1 (x ∷ []) (joined eventField xs ++ behind), ap length (append-assoc (eventField x) (joined eventField xs) behind)))
+    events-read-on (x ∷ xs) done p (suc n) k rest h =
+        let behind : List ℕ = joined edgeField (L .edges) ++ rest in
+        let apart : joined eventField (x ∷ xs) ++ behind ≡ eventField x ++ (joined eventField xs ++ behind) =
+        append-assoc (eventField x) (joined eventField xs) behind in
+        let l = field-longer 1 (x ∷ []) (joined eventField xs ++ behind) in
+        let (m, f, g) =
+        events-read-on xs (done ++ (x ∷ [])) (p ∙ sym (append-assoc done (x ∷ []) xs)) n (suc k) rest (omega (arith, ap length apart)) in
+        let z : suc k + (length xs + length (L .edges)) ≡ k + (length (x ∷ xs) + length (L .edges)) = omega arith in (
+          m,
+          f,
+          ap (fieldsIn R (suc n) k (record { atoms = done; edges = [] })) apart
+              ∙ one-event n k (record { atoms = done; edges = [] }) x (joined eventField xs ++ behind) (event-fits done xs x p)
+              ∙ g ∙ ap (λ j. fieldsIn R m j L rest) z,
+        )
 
-    events-written : (xs done : List ℕ) → L .atoms ≡ done ++ xs → (n k : ℕ)
-        → length (joined eventField xs ++ joined edgeField (L .edges)) ≤ n
-        → fieldsIn R n k (record { atoms = done; edges = [] }) (joined eventField xs ++ joined edgeField (L .edges)) ≡ ok L
-    events-written [] done p n k h =
-        subst (λ l. fieldsIn R n k (record { atoms = l; edges = [] }) (joined edgeField (L .edges)) ≡ ok L) (p ∙ append-nil done)
-        (edges-written (L .edges) [] refl n k h)
-    events-written (x ∷ xs) done p zero k h =
-        let rest : List ℕ = joined eventField xs ++ joined edgeField (L .edges) in
-        let m : length (eventField x ++ rest) ≤ 0 = subst (λ l. length l ≤ 0) (first-apart x xs) h in
-        absurd (omega (arith, field-longer 1 (x ∷ []) rest))
-    events-written (x ∷ xs) done p (suc n) k h =
-        let rest : List ℕ = joined eventField xs ++ joined edgeField (L .edges) in
-        let m : length (eventField x ++ rest) ≤ suc n = subst (λ l. length l ≤ suc n) (first-apart x xs) h in
-        let l = field-longer 1 (x ∷ []) rest in
-        ap (fieldsIn R (suc n) k (record { atoms = done; edges = [] })) (first-apart x xs)
-        ∙ one-event n k (record { atoms = done; edges = [] }) x rest (event-fits done xs x p)
-        ∙ events-written xs (done ++ (x ∷ [])) (p ∙ sym (append-assoc done (x ∷ []) xs)) n (suc k) (omega arith)
+    -- the bytes of an execution graph are read as that graph, whatever stands behind them
+    pub graph-read-on : (rest : List ℕ)
+        → (m : ℕ) × (length rest ≤ m) × (graphIn R (graphBytes L ++ rest) ≡ fieldsIn R m (1 + (length (L .atoms) + length (L .edges))) L rest)
+    unfolding graphIn
+    graph-read-on rest =
+        let apart : graphBytes L ++ rest ≡ joined eventField (L .atoms) ++ (joined edgeField (L .edges) ++ rest) =
+        append-assoc (joined eventField (L .atoms)) (joined edgeField (L .edges)) rest in
+        let (m, f, g) = events-read-on (L .atoms) [] refl (length (graphBytes L ++ rest)) 1 rest (omega (arith, ap length apart)) in
+        (m, f, ap (fieldsIn R (length (graphBytes L ++ rest)) 1 (record { atoms = []; edges = [] })) apart ∙ g)
 
-  -- the bytes of an execution graph are read as that graph
   pub written-is-read : (L : Listed) → WellListed R L → graphIn R (graphBytes L) ≡ ok L
-  unfolding graphIn
-  written-is-read L A = events-written L A (L .atoms) [] refl (length (graphBytes L)) 1 (omega arith)
+  written-is-read L A =
+      let (m, f, g) = graph-read-on L A [] in
+      ap (graphIn R) (sym (append-nil (graphBytes L))) ∙ g ∙ no-field m _ L
 
   pub graph-reading : (bs : List ℕ) (L : Listed) → (graphIn R bs ≡ ok L) ↔ ((bs ≡ graphBytes L) × WellListed R L)
   graph-reading bs L = (

@@ -71,11 +71,14 @@ alone-lives : (D : Decision) (a : ℕ) → In a (alone D) → In a (D .live)
 unfolding alone
 alone-lives D a i = filter-in (λ b. null (D .left) b && not (null (D .right) b)) (D .live) i .0
 
-path-sound : (D : Decision) (s t : Path) → pathSystem D .equal s t ≡ true → s ≡ t
+pub path-sound : (D : Decision) (s t : Path) → pathSystem D .equal s t ≡ true → s ≡ t
 path-sound D s t e =
     let p : s .P ≡ t .P = same-is-equal (s .P) (t .P) (and-left (same (s .P) (t .P)) (same (s .S) (t .S)) e) in
     let q : s .S ≡ t .S = same-is-equal (s .S) (t .S) (and-right (same (s .P) (t .P)) (same (s .S) (t .S)) e) in
     λ i. record { P = p i; S = q i }
+
+pub path-self : (D : Decision) (s : Path) → pathSystem D .equal s s ≡ true
+path-self D s = and-both (same-self (s .P)) (same-self (s .S))
 
 path-ends : (D : Decision) (s : Path) → not (isEmpty (s .P)) ≡ false → pathFinals D s ≡ []
 unfolding pathFinals
@@ -88,7 +91,7 @@ unfolding pathStep pathFinals
 path-lawful D h =
     record {
       equal-sound = path-sound D;
-      equal-self = λ s. and-both (same-self (s .P)) (same-self (s .S));
+      equal-self = path-self D;
       dead-stays = λ s l e. none-after (D .left) (s .P) (l .atom) (l .relation) e;
       dead-ends = path-ends D;
       finals-rising = λ s. pairwise-filter _<_ (λ a. ends (D .left) (s .P) a && not (ends (D .right) (s .S) a)) (D .live) h;
@@ -98,7 +101,7 @@ path-lawful D h =
       live-rising = h;
     }
 
-ring-sound : (D : Decision) (s t : Ring) → ringSystem D .equal s t ≡ true → s ≡ t
+pub ring-sound : (D : Decision) (s t : Ring) → ringSystem D .equal s t ≡ true → s ≡ t
 ring-sound D s t e =
     let f : Bool = eqb (s .first) (t .first) in
     let z : Bool = Bool·beq (s .Z) (t .Z) in
@@ -115,7 +118,7 @@ ring-sound D s t e =
     let ns : s .N ≡ t .N = rows-sound (s .N) (t .N) (and-right (f && z && p && m) n e) in
     λ i. record { first = firsts i; Z = flags i; P = reads i; M = ms i; N = ns i }
 
-ring-self : (D : Decision) (s : Ring) → ringSystem D .equal s s ≡ true
+pub ring-self : (D : Decision) (s : Ring) → ringSystem D .equal s s ≡ true
 ring-self D s =
     and-both (and-both (and-both (and-both (eq-eqb (s .first) (s .first) refl) (beq-self (s .Z))) (same-self (s .P))) (rows-self (s .M)))
     (rows-self (s .N))

@@ -3,11 +3,11 @@ pub mod Evaluate
 pub mod Cases
 pub mod CasesOfLimits
 pub mod CasesOfBytes
-pub mod AtMostStandings
 -- Small laws.
 pub mod Results
 -- The notation of lines.
 pub mod Fuel
+pub mod FirstWrong
 -- The order of refusals.
 pub mod FirstFault
 pub mod LineOrder
@@ -52,12 +52,17 @@ pub mod AlikeRing
 pub mod Bytes
 pub mod SetBytes
 pub mod StandingBytes
+pub mod StandingExactly
+pub mod RingExactly
 pub mod StandingShapes
+pub mod ByKind
 pub mod WordBytes
+pub mod PartReading
 pub mod SheetRoundTrip
 pub mod Counts
 pub mod Limits
-pub mod SheetReturns
+pub mod SheetExactly
+pub mod WrongSheetFields
 pub mod SheetOfBytes
 pub mod Checked
 pub mod Written
@@ -73,6 +78,7 @@ pub mod GraphReading
 pub mod JudgeCall
 pub mod OneJudgement
 pub mod GraphWritten
+pub mod WrongGraphFields
 pub mod SameEdges
 pub mod ListedGraph
 -- Drawn graphs.
@@ -87,7 +93,7 @@ pub mod Drawn
 -- What a sheet means.
 pub mod Sheets
 pub mod SheetLength
-pub mod RefutedExactly
+pub mod PassesExactly
 -- The second and the third demand, each end to end.
 pub mod Demand2
 pub mod Program

@@ -21,7 +21,7 @@ use Rattle.claims.specs.Counting.{leftSize, rightSize, rightLimit, withi
 use Rattle.claims.specs.Reading.{crowded, claimOf, read}
 use Rattle.claims.specs.Refusals.{ok}
 use Rattle.claims.specs.Sides.{Decision, decision}
-use Rattle.claims.specs.SheetBytes.{width}
+use Rattle.claims.specs.Width.{width}
 use Rattle.claims.specs.Calls.{Asked, asked}
 use Rattle.claims.specs.RefusalOrder.{Taken, Accepted}
 use Rattle.claims.proofs.Results.{each-append}

@@ -12,8 +12,7 @@ use Rattle.kat.specs.Word.{Word, end, at}
 use Rattle.kat.proofs.Sets.{some-in, in-some, every-in, in-every}
 use Rattle.kat.proofs.Bools.{or-cases, or-left, or-right, and-left, and-right, and-both, not-true-false, false-not-true}
 use Rattle.claims.specs.Standings.{System, Letter, letters}
-use Rattle.claims.specs.SheetReading.{saysProved}
-use Rattle.claims.specs.Passing.{completes, refuting, listed, passes}
+use Rattle.claims.specs.Passing.{completes, refuting, listed, proving}
 use Rattle.claims.specs.Words.{Guarded}
 use Rattle.claims.specs.Lawful.{Lawful}
 use Rattle.claims.proofs.Letters.{Fits, in-letters, letters-in}
@@ -48,8 +47,8 @@ pub record Closed (S : System) (laws : Lawful S) (ss : List (S .Standing)) : Typ
   pub completes-none : (s : S .Standing) → In s ss → S .finals s ≡ []
 
 module _ (S : System) (laws : Lawful S) (ss : List (S .Standing)) where
-  pub passes-closed : passes S (saysProved ss) ≡ true → Closed S laws ss
-  unfolding passes
+  pub passes-closed : proving S ss ≡ true → Closed S laws ss
+  unfolding proving
   passes-closed e =
       let first : Bool = every (λ l. listed S ss (S .begin l)) (letters S) in
       let steps : Bool = every (λ s. every (λ l. listed S ss (S .onward s l)) (letters S)) ss in
@@ -71,8 +70,8 @@ module _ (S : System) (laws : Lawful S) (ss : List (S .Standing)) where
             (every-in (λ t. isEmpty (S .finals t)) (and-right (isEmpty (S .alone) && first && steps) ends e) i);
       }
 
-  pub closed-passes : Closed S laws ss → passes S (saysProved ss) ≡ true
-  unfolding passes
+  pub closed-passes : Closed S laws ss → proving S ss ≡ true
+  unfolding proving
   closed-passes c =
       and-both (and-both (and-both (ap isEmpty (c .none-alone))
       (in-every (λ l. listed S ss (S .begin l)) (letters S) (λ l i. cases-listed S laws ss (S .begin l) (c .begins l (letters-in S l i)))))
@@ -103,5 +102,5 @@ module _ (S : System) (laws : Lawful S) (ss : List (S .Standing)) where
         rw k (completed-none (S .begin (letterOf a r)) w (c .begins (letterOf a r) (k, q)) g)
 
   -- a proved sheet that passes: no word refutes
-  pub passing-proved-refutes-none : passes S (saysProved ss) ≡ true → (v : Word) → Guarded (S .live) (S .relations) v → refuting S v ≡ false
+  pub passing-proved-refutes-none : proving S ss ≡ true → (v : Word) → Guarded (S .live) (S .relations) v → refuting S v ≡ false
   passing-proved-refutes-none e v g = closed-refutes-none (passes-closed e) v g

@@ -18,8 +18,7 @@ use Rattle.kat.specs.Ring.{onto}
 use Rattle.kat.proofs.Sets.{in-member}
 use Rattle.kat.proofs.Bools.{bool-cases, true-not-false}
 use Rattle.claims.specs.Standings.{System}
-use Rattle.claims.specs.SheetReading.{saysProved, saysRefuted}
-use Rattle.claims.specs.Passing.{refuting, passes}
+use Rattle.claims.specs.Passing.{refuting, proving}
 use Rattle.claims.specs.Verdicts.{Holds, ProvedBy, RefutedBy, SpentAt}
 use Rattle.claims.specs.Lawful.{Lawful}
 use Rattle.claims.proofs.Distinct.{distinct-no-longer}
@@ -79,9 +78,5 @@ module _ (S : System) (laws : Lawful S) (c : ℕ) where
             true-not-false (Prefixes.finals-refute S b st j) (p .0 (onto l (end b)) (Prefixes.finals-guarded S laws b st j)));
       }
 
-  pub proved-passes : (ss : List (S .Standing)) → ProvedBy S c ss → passes S (saysProved ss) ≡ true
+  pub proved-passes : (ss : List (S .Standing)) → ProvedBy S c ss → proving S ss ≡ true
   proved-passes ss p = closed-passes S laws ss (proved-closed ss p)
-
-pub refuted-passes : (S : System) (c : ℕ) (w : Word) → RefutedBy S c w → passes S (saysRefuted w) ≡ true
-unfolding passes
-refuted-passes S c w p = p .1

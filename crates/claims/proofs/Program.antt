@@ -10,18 +10,21 @@ use lib.Dec.{leb}
 use lib.ListN.{length, replicate, length-replicate}
 use borrow.Author.Tests.{leb-true}
 use Rattle.kat.proofs.Bools.{and-left, and-right}
+use Rattle.claims.specs.Width.{width, rowLength, besideColumns, ringWords}
+use Rattle.claims.specs.SheetBytes.{contentsLength}
 use Rattle.claims.specs.Sides.{Decision}
+use Rattle.claims.specs.Standings.{systemOf}
 use Rattle.claims.specs.Refusals.{badAllowance, Result, ok, refused, refuse, onward}
 use Rattle.claims.specs.Calls.{provedWith, searched, Asked, asked, Lent, neededRecords, neededWords, searchAsked, search-call}
 use Rattle.claims.specs.CallOrder.{Ready}
-use Rattle.claims.specs.Demands.{systemOf, FixedByWords, answerAlone}
+use Rattle.claims.specs.Demands.{FixedByWords, answerAlone}
 use Rattle.claims.specs.Sheets.{sheetLength}
 use Rattle.claims.specs.Printed.{answered, memoryFor, asksRing, programResult}
 use Rattle.claims.proofs.Demand2.{call-is-searched, fits-full, call-with-full-buffer-exactly-by-words}
 
 -- the memory is as refusal 9 asks
 memory-ready : (D : Decision) (n : ℕ) → 1 ≤ n → n ≤ 4096 → Ready D n (memoryFor n)
-unfolding neededRecords neededWords memoryFor
+unfolding neededRecords neededWords ringWords width besideColumns memoryFor
 memory-ready D n h i =
     record {
       some-allowance = h;
@@ -40,7 +43,7 @@ memory-ready D n h i =
 
 -- the buffer is long enough for the longest sheet
 buffer-full : (n : ℕ) (ring : Bool) → sheetLength (provedWith n) ring ≤ length (memoryFor n .buffer)
-unfolding memoryFor
+unfolding memoryFor contentsLength rowLength width
 buffer-full n false = rw length-replicate (omega arith)
 buffer-full n true = rw length-replicate (omega arith)
 

@@ -12,11 +12,7 @@ use lib.Dec.{eqb}
 use Rattle.kat.specs.Lists.{counted, upto, filter}
 use Rattle.claims.specs.Query.{bit}
 use Rattle.claims.specs.Fields.{setNumber, numberSet}
-
--- the list rises strictly, from lo or above to below hi
-abbrev pub RisingWithin : ℕ → ℕ → List ℕ → Type 0
-RisingWithin lo hi [] = Unit {0}
-RisingWithin lo hi (k ∷ ks) = (lo ≤ k) × (k < hi) × RisingWithin (suc k) hi ks
+pub use Rattle.claims.specs.SheetWriting.{RisingWithin}
 
 pub rising-from-below : (lo lo′ hi : ℕ) (s : List ℕ) → lo ≤ lo′ → RisingWithin lo′ hi s → RisingWithin lo hi s
 rising-from-below lo lo′ hi [] h r = tt
@@ -50,7 +46,7 @@ pub setNumber-even : (hi : ℕ) (s : List ℕ) → RisingWithin 1 hi s → setNu
 setNumber-even hi s r = omega (arith, setNumber-double 0 hi s r)
 
 -- with its lowest possible member
-setNumber-odd : (lo hi : ℕ) (ks : List ℕ) → RisingWithin (suc lo) hi ks → setNumber lo (lo ∷ ks) ≡ 1 + 2 * setNumber (suc lo) ks
+pub setNumber-odd : (lo hi : ℕ) (ks : List ℕ) → RisingWithin (suc lo) hi ks → setNumber lo (lo ∷ ks) ≡ 1 + 2 * setNumber (suc lo) ks
 unfolding setNumber
 setNumber-odd lo hi ks r =
     let e : 2 ^ (lo - lo) ≡ 1 = ap (λ i. 2 ^ i) (sub-self lo) ∙ pow-zero 2 in
@@ -89,6 +85,10 @@ bit-suc i m = ap (λ k. eqb (k % 2) 1) (ap (λ k. m / k) (pow-succ' 2 i) ∙ sym
 -- the members among the n numbers from lo on
 unfoldable pub picked : ℕ → ℕ → ℕ → List ℕ
 picked lo n m = filter (λ k. bit (k - lo) m) (counted lo n)
+
+pub picked-rising : (lo n m : ℕ) → RisingWithin lo (lo + n) (picked lo n m)
+unfolding picked
+picked-rising lo n m = filter-counted-rising (λ k. bit (k - lo) m) lo n (lo + n) (omega arith)
 
 pub picked-suc : (lo n m : ℕ)
     → picked lo (suc n) m ≡ cond (eqb (m % 2) 1) (lo ∷ picked (suc lo) n (m / 2)) (picked (suc lo) n (m / 2))

@@ -2,19 +2,21 @@
 -- 269 for each of a ring claim, or 8 and 2 for each relation of the refuting word. So a buffer for a proof that uses the whole allowance
 -- is enough for every answer. The idea: each field is its header and its contents, whose lengths are known.
 -- Assumes nothing.
-use Prim.Native.Nat.{ℕ, suc, _+_, _≤_}
+use Prim.Native.Nat.{ℕ, _+_, _≤_}
+use native.Mathlib.Nat.{mul-zero, mul-suc}
 use native.Mathlib.Omega.{arith}
 use mathlib.Core.Path.{_≡_, refl, sym, _∙_, ap, subst}
 use mathlib.Core.Bool.{Bool, true, false}
 use mathlib.Core.List.{List, [], _∷_}
 use lib.ListN.{length, length-append}
 use Rattle.kat.specs.Word.{Word, size, numbers}
+use Rattle.claims.specs.Width.{width, rowLength}
 use Rattle.claims.specs.Sides.{Decision}
-use Rattle.claims.specs.Standings.{System, pathSystem, ringSystem}
+use Rattle.claims.specs.Standings.{System, claimSystem}
 use Rattle.claims.specs.Search.{Verdict, proved, refuted, spent, verdict}
 use Rattle.claims.specs.Fields.{field}
-use Rattle.claims.specs.SheetBytes.{standingFields, sheetBytes, pathBytes, ringBytes}
-use Rattle.claims.specs.Refusals.{Result, ok}
+use Rattle.claims.specs.SheetBytes.{contentsLength, standingBytes, standingFields, sheetBytes}
+use Rattle.claims.specs.Refusals.{ok}
 use Rattle.claims.specs.Orders.{Rising}
 use Rattle.claims.specs.Lawful.{Lawful}
 use Rattle.claims.specs.Calls.{Answer, provedWith, refutedBy, Given, answerOf, searched, Lent, Done, leftBehind, search-call}
@@ -24,8 +26,7 @@ use Rattle.claims.proofs.Results.{refused-not-ok}
 use Rattle.claims.proofs.LineOrder.{same-value}
 use Rattle.claims.proofs.Bytes.{field-length}
 use Rattle.claims.proofs.WordBytes.{numbers-length}
-use Rattle.claims.proofs.StandingBytes.{pathBytes-length, ringBytes-length}
-use Rattle.claims.proofs.Lawful.{path-lawful, ring-lawful}
+use Rattle.claims.proofs.ByKind.{lawful, searched-by-kind, contents-length}
 use Rattle.claims.proofs.Verdict.{proved-is-few, refuted-is-within}
 use Rattle.claims.proofs.SearchOrder.{asked-accepted, search-reads-first, allowance-next, memory-next, spent-next, buffer-last, else-answered}
 use Rattle.claims.proofs.SearchMemory.{search-outcomes}
@@ -39,18 +40,17 @@ Keeps allowance (refutedBy w) = size w ≤ allowance
 -- no sheet is longer than that of a proof that uses the whole allowance
 longest : (allowance : ℕ) → 1 ≤ allowance → (ans : Answer) (ring : Bool) → Keeps allowance ans
     → sheetLength ans ring ≤ sheetLength (provedWith allowance) ring
+unfolding contentsLength width rowLength
 longest allowance h (provedWith c) false k = omega arith
 longest allowance h (provedWith c) true k = omega arith
 longest allowance h (refutedBy w) false k = omega arith
 longest allowance h (refutedBy w) true k = omega arith
 
--- for any kind of standing whose contents have k bytes, where the length grows by a field of so many for each standing
-module _ (ring : Bool) (S : System) (contents : S .Standing → List ℕ) (k : ℕ) (each : (s : S .Standing) → length (contents s) ≡ k)
-    (none : sheetLength (provedWith 0) ring ≡ 4)
-    (one-more : (n : ℕ) → sheetLength (provedWith (suc n)) ring ≡ 3 + k + sheetLength (provedWith n) ring) where
+-- for any kind of standing whose contents have so many bytes
+module _ (ring : Bool) (S : System) (contents : S .Standing → List ℕ) (each : (s : S .Standing) → length (contents s) ≡ contentsLength ring) where
   fields-length : (ss : List (S .Standing)) → 4 + length (standingFields S contents ss) ≡ sheetLength (provedWith (length ss)) ring
   unfolding standingFields
-  fields-length [] = sym none
+  fields-length [] = omega (arith, mul-zero (3 + contentsLength ring))
   fields-length (s ∷ ss) =
       omega (
         arith,
@@ -58,7 +58,7 @@ module _ (ring : Bool) (S : System) (contents : S .Standing → List ℕ) (k : �
         field-length 3 (contents s),
         each s,
         fields-length ss,
-        one-more (length ss),
+        mul-suc (3 + contentsLength ring) (length ss),
       )
 
   proved-length : (ss : List (S .Standing)) → length (sheetBytes S contents (proved ss)) ≡ sheetLength (provedWith (length ss)) ring
@@ -95,36 +95,17 @@ answer-keeps S laws allowance contents (refuted w) e g h =
 answer-keeps S laws allowance contents spent e g h = refused-not-ok h
 
 module _ (D : Decision) (allowance : ℕ) (g : Given) (e : searched D allowance ≡ ok g) where
+  answered : answerOf (claimSystem D) (standingBytes (D .ring) D) (verdict (claimSystem D) allowance) ≡ ok g
+  answered = sym (searched-by-kind D allowance) ∙ e
+
   -- the sheet of an answer has so many bytes
   pub searched-sheet-length : length (g .sheet) ≡ sheetLength (g .answer) (D .ring)
-  unfolding searched
-  searched-sheet-length = go (D .ring) e
-    where
-      go : (b : Bool)
-          → _≡_ {A = Result Given}
-          (elim b [
-            | false ↦ answerOf (pathSystem D) pathBytes (verdict (pathSystem D) allowance)
-            | true ↦ answerOf (ringSystem D) ringBytes (verdict (ringSystem D) allowance)
-          ]) (ok g) → length (g .sheet) ≡ sheetLength (g .answer) b
-      go false h =
-          answer-length false (pathSystem D) pathBytes 16 pathBytes-length refl (λ n. omega arith) (verdict (pathSystem D) allowance) g h
-      go true h =
-          answer-length true (ringSystem D) ringBytes 266 ringBytes-length refl (λ n. omega arith) (verdict (ringSystem D) allowance) g h
+  searched-sheet-length =
+      answer-length (D .ring) (claimSystem D) (standingBytes (D .ring) D) (contents-length (D .ring) D) (verdict (claimSystem D) allowance) g answered
 
   searched-keeps : Rising (D .live) → Keeps allowance (g .answer)
-  unfolding searched
-  searched-keeps rising = go (D .ring) e
-    where
-      go : (b : Bool)
-          → _≡_ {A = Result Given}
-          (elim b [
-            | false ↦ answerOf (pathSystem D) pathBytes (verdict (pathSystem D) allowance)
-            | true ↦ answerOf (ringSystem D) ringBytes (verdict (ringSystem D) allowance)
-          ]) (ok g) → Keeps allowance (g .answer)
-      go false h =
-          answer-keeps (pathSystem D) (path-lawful D rising) allowance pathBytes (verdict (pathSystem D) allowance) refl g h
-      go true h =
-          answer-keeps (ringSystem D) (ring-lawful D rising) allowance ringBytes (verdict (ringSystem D) allowance) refl g h
+  searched-keeps rising =
+      answer-keeps (claimSystem D) (lawful (D .ring) D rising) allowance (standingBytes (D .ring) D) (verdict (claimSystem D) allowance) refl g answered
 
   -- and a buffer for a proof that uses the whole allowance has room for it
   pub searched-sheet-fits : Rising (D .live) → 1 ≤ allowance → length (g .sheet) ≤ sheetLength (provedWith allowance) (D .ring)

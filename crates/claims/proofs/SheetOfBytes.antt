@@ -10,17 +10,14 @@ use lib.ListN.{length}
 use Rattle.kat.specs.Lists.{In, here, there}
 use Rattle.kat.specs.Word.{Word, end, at, numbers}
 use Rattle.kat.proofs.Sets.{in-append}
+use Rattle.claims.specs.Width.{width, rowLength}
 use Rattle.claims.specs.Sides.{Decision}
 use Rattle.claims.specs.Standings.{System, Path, Ring, row}
 use Rattle.claims.specs.Search.{proved, refuted}
 use Rattle.claims.specs.Fields.{bigEndian, setNumber, field}
-use Rattle.claims.specs.SheetBytes.{width, setBytes, rowBytes, pathBytes, ringBytes, standingFields, sheetBytes}
+use Rattle.claims.specs.SheetBytes.{setBytes, rowBytes, tableBytes, pathBytes, ringBytes, standingFields, sheetBytes}
 use Rattle.claims.proofs.Bytes.{bigEndian-small}
-use Rattle.claims.proofs.WordBytes.{InRange}
-
--- each number of the list is a byte
-abbrev pub AllBytes : List ℕ → Type 0
-AllBytes bs = (b : ℕ) → In b bs → b < 256
+use Rattle.claims.specs.SheetWriting.{AllBytes, InRange}
 
 pub bytes-cons : (a : ℕ) (bs : List ℕ) → a < 256 → AllBytes bs → AllBytes (a ∷ bs)
 bytes-cons a bs h k b (here e) = omega arith
@@ -45,11 +42,15 @@ setBytes-bytes : (s : List ℕ) → AllBytes (setBytes s)
 unfolding setBytes
 setBytes-bytes s = bigEndian-bytes 8 (setNumber 1 s)
 
-rowBytes-bytes : (t : List (List ℕ)) (p n : ℕ) → AllBytes (rowBytes t p n)
+rowBytes-bytes : (b : ℕ) (t : List (List ℕ)) (p n : ℕ) → AllBytes (rowBytes b t p n)
 unfolding rowBytes
-rowBytes-bytes t p zero = bytes-nil
-rowBytes-bytes t p (suc n) =
-    bytes-append (bigEndian 4 (setNumber 0 (row t p))) (rowBytes t (suc p) n) (bigEndian-bytes 4 (setNumber 0 (row t p))) (rowBytes-bytes t (suc p) n)
+rowBytes-bytes b t p zero = bytes-nil
+rowBytes-bytes b t p (suc n) =
+    bytes-append (bigEndian b (setNumber 0 (row t p))) (rowBytes b t (suc p) n) (bigEndian-bytes b (setNumber 0 (row t p))) (rowBytes-bytes b t (suc p) n)
+
+tableBytes-bytes : (t : List (List ℕ)) → AllBytes (tableBytes t)
+unfolding tableBytes
+tableBytes-bytes t = rowBytes-bytes rowLength t 0 width
 
 pub pathBytes-bytes : (s : Path) → AllBytes (pathBytes s)
 unfolding pathBytes
@@ -62,11 +63,11 @@ flag-byte false = omega arith
 pub ringBytes-bytes : (s : Ring) → s .first < 256 → AllBytes (ringBytes s)
 unfolding ringBytes
 ringBytes-bytes s h =
-    let rows : List ℕ = rowBytes (s .M) 0 width ++ rowBytes (s .N) 0 width in
+    let rows : List ℕ = tableBytes (s .M) ++ tableBytes (s .N) in
     bytes-cons (s .first) (cond (s .Z) 1 0 ∷ (setBytes (s .P) ++ rows)) h
     (bytes-cons (cond (s .Z) 1 0) (setBytes (s .P) ++ rows) (flag-byte (s .Z))
     (bytes-append (setBytes (s .P)) rows (setBytes-bytes (s .P))
-    (bytes-append (rowBytes (s .M) 0 width) (rowBytes (s .N) 0 width) (rowBytes-bytes (s .M) 0 width) (rowBytes-bytes (s .N) 0 width))))
+    (bytes-append (tableBytes (s .M)) (tableBytes (s .N)) (tableBytes-bytes (s .M)) (tableBytes-bytes (s .N)))))
 
 pub numbers-bytes : (D : Decision) (w : Word) → D .atoms ≤ 256 → D .relations ≤ 256 → InRange D w → AllBytes (numbers w)
 numbers-bytes D (end a) h k r = bytes-cons a [] (omega arith) bytes-nil

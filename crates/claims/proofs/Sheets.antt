@@ -49,14 +49,14 @@ module _ (bs : List ℕ) (a : Asked) (accepted : asked bs ≡ ok a) where
 
   -- a passing sheet that says refuted holds a word that refutes
   pub passing-refuted-refutes : (sheet : List ℕ) → check-call bs sheet ≡ ok passedRefuted
-      → (w : Word) × SaysRefuted (a .decided) (a .decided .ring) sheet w × Refutes (decision (a .query) (a .claim)) w
+      → (w : Word) × SaysRefuted (a .decided) sheet w × Refutes (decision (a .query) (a .claim)) w
   passing-refuted-refutes sheet e =
       let (w, h, r) = passing-refuted (a .decided) live-rises sheet (sym (check-is sheet) ∙ e) in
       (w, h, subst (λ (D : Decision). Refutes D w) is-decision r)
 
   -- a passing sheet that says refuted: the graph drawn from its word meets the query's lines and breaks the claim
   pub passing-refuted-breaks : (sheet : List ℕ) → check-call bs sheet ≡ ok passedRefuted
-      → (w : Word) × SaysRefuted (a .decided) (a .decided .ring) sheet w
+      → (w : Word) × SaysRefuted (a .decided) sheet w
       × Execution (graph (drawn (a .query) (a .decided .ring) w)) (a .query)
       × MeetsAll (graph (drawn (a .query) (a .decided .ring) w)) (a .query)
       × (ClaimHolds (graph (drawn (a .query) (a .decided .ring) w)) (a .query) (a .claim) → ⊥)

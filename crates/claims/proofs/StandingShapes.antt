@@ -17,8 +17,8 @@ use Rattle.kat.proofs.Ranges.{reads-range}
 use Rattle.claims.specs.Sides.{Decision}
 use Rattle.claims.specs.Standings.{Letter, Path, pathStep, pathSystem, Ring, row, states, moves, ringBegin, pairs, ringStep, ringSystem}
 use Rattle.claims.specs.Verdicts.{StandingOf, begun, grown}
-use Rattle.claims.proofs.SetBytes.{RisingWithin, filter-rising}
-use Rattle.claims.proofs.StandingBytes.{PathShaped, RingShaped}
+use Rattle.claims.specs.SheetWriting.{RisingWithin, PathShaped, RingShaped}
+use Rattle.claims.proofs.SetBytes.{filter-rising}
 
 -- the standings of path claims
 after-rising : (E : Expr) (P : List ℕ) (a r : ℕ) → RisingWithin 1 (suc (occurrences E)) (after E P a r)

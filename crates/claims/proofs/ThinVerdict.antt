@@ -17,9 +17,8 @@ use Rattle.kat.specs.Lists.{In, here, there, filter, every}
 use Rattle.kat.specs.Word.{end}
 use Rattle.claims.specs.Standings.{System, Letter, letters}
 use Rattle.claims.specs.Search.{Entry, refuted, spent, firstLevel, grown, nextLevel, fresh, completed, levels, verdictWithin, verdict}
-use Rattle.claims.specs.SheetReading.{Said, saysProved, saysRefuted}
-use Rattle.claims.specs.Passing.{listed, passes}
-use Rattle.claims.specs.Thin.{thinNextLevel, thinLevels, thinVerdict, thinPasses}
+use Rattle.claims.specs.Passing.{listed, proving}
+use Rattle.claims.specs.Thin.{thinNextLevel, thinLevels, thinVerdict, thinProving}
 use Rattle.claims.specs.Verdicts.{StandingOf, begun, grown as more-grown}
 use Rattle.claims.specs.Lawful.{Lawful}
 use Rattle.claims.specs.Orders.{Sooner}
@@ -75,10 +74,9 @@ module _ (S : System) (laws : Lawful S) where
     every-step ss (t ∷ ts) =
         rw (sym (listed-thinned S ss (S .onward t) (letters-thinned (S .onward t) later (thins .goes-on t))), every-step ss ts) refl
 
-    pub thin-passes : (said : Said S) → thinPasses S first later said ≡ passes S said
-    unfolding thinPasses passes
-    thin-passes (saysRefuted w) = refl
-    thin-passes (saysProved ss) =
+    pub thin-proving : (ss : List (S .Standing)) → thinProving S first later ss ≡ proving S ss
+    unfolding thinProving proving
+    thin-proving ss =
         rw (sym (listed-thinned S ss (S .begin) (letters-thinned (S .begin) first (thins .begins))), every-step ss ss) refl
 
   module _ (first : Letter → Bool) (later : Entry S → Letter → Bool) (thins : Thins S first later) where

@@ -10,14 +10,13 @@ use mathlib.Core.List.{List}
 use lib.ListN.{length}
 use Rattle.kat.specs.Word.{Word, size}
 use Rattle.claims.specs.Standings.{System}
-use Rattle.claims.specs.SheetReading.{saysProved, saysRefuted}
-use Rattle.claims.specs.Passing.{passes}
+use Rattle.claims.specs.Passing.{refuting, proving}
 use Rattle.claims.specs.Search.{Verdict, proved, refuted, spent, verdict}
 use Rattle.claims.specs.Verdicts.{ProvedBy, RefutedBy, SpentAt, Answered, ExactlyOne}
 use Rattle.claims.specs.Lawful.{Lawful}
 use Rattle.claims.specs.Orders.{InOrder}
 use Rattle.claims.proofs.Walk.{Means, verdict-means}
-use Rattle.claims.proofs.Plain.{proved-not-refuted, proved-not-spent, refuted-not-spent, proved-same-count, refuted-same, proved-passes, refuted-passes}
+use Rattle.claims.proofs.Plain.{proved-not-refuted, proved-not-spent, refuted-not-spent, proved-same-count, refuted-same, proved-passes}
 
 module _ (S : System) (laws : Lawful S) (allowance : ℕ) where
   means : (v : Verdict S) → verdict S allowance ≡ v → Means S allowance v
@@ -47,11 +46,11 @@ module _ (S : System) (laws : Lawful S) (allowance : ℕ) where
   refuted-is-short w e = let h = refuted-is-within w e in omega arith
 
   -- sheets
-  pub search-proved-passes : (ss : List (S .Standing)) → verdict S allowance ≡ proved ss → passes S (saysProved ss) ≡ true
+  pub search-proved-passes : (ss : List (S .Standing)) → verdict S allowance ≡ proved ss → proving S ss ≡ true
   search-proved-passes ss e = proved-passes S laws allowance ss (proved-is-proved ss e)
 
-  pub search-refuted-passes : (w : Word) → verdict S allowance ≡ refuted w → passes S (saysRefuted w) ≡ true
-  search-refuted-passes w e = refuted-passes S allowance w (refuted-is-least w e)
+  pub search-refuted-passes : (w : Word) → verdict S allowance ≡ refuted w → refuting S w ≡ true
+  search-refuted-passes w e = refuted-is-least w e .1
 
   pub exactly-one : ExactlyOne S allowance
   exactly-one =

@@ -11,7 +11,7 @@ use lib.ListN.{length}
 use Rattle.kat.specs.Word.{Word}
 use Rattle.kat.proofs.Bools.{true-not-false}
 use Rattle.claims.specs.Sides.{Decision}
-use Rattle.claims.specs.Standings.{System, pathSystem, ringSystem}
+use Rattle.claims.specs.Standings.{System, pathSystem, ringSystem, systemOf}
 use Rattle.claims.specs.Search.{Verdict, proved, refuted, spent, verdict}
 use Rattle.claims.specs.SheetBytes.{sheetBytes, pathBytes, ringBytes}
 use Rattle.claims.specs.Passing.{refuting}
@@ -25,7 +25,7 @@ use Rattle.claims.proofs.Lawful.{path-lawful, ring-lawful}
 use Rattle.claims.specs.Lawful.{Lawful}
 use Rattle.claims.proofs.Verdict.{proved-is-proved, refuted-is-least, spent-is-spent}
 use Rattle.claims.proofs.Refuting.{refutes-path, refutes-ring}
-use Rattle.claims.specs.Demands.{systemOf, MeansProved, MeansRefuted, MeansSpent, AnswerMeans}
+use Rattle.claims.specs.Demands.{MeansProved, MeansRefuted, MeansSpent, AnswerMeans}
 
 -- for any lawful kind of standing whose refuting words are those of the languages
 module _ (D : Decision) (S : System) (laws : Lawful S) (allowance : ℕ)

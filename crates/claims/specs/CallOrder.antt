@@ -4,7 +4,7 @@
 use Prim.Native.Nat.{ℕ, _≤_, _<_}
 use mathlib.Core.Path.{_≡_}
 use mathlib.Core.Logic.{_⊎_}
-use mathlib.Core.Bool.{Bool, true, false}
+use mathlib.Core.Bool.{Bool, false}
 use mathlib.Core.List.{List}
 use lib.ListN.{length}
 use Rattle.claims.specs.Tree.{Claim}
@@ -12,10 +12,10 @@ use Rattle.claims.specs.Query.{Query}
 use Rattle.claims.specs.Refusals.{spentAllowance, Refusal, ok, refused, refuse, Cause, sheetField, doesNotPass}
 use Rattle.claims.specs.Reading.{read}
 use Rattle.claims.specs.Sides.{Decision, decision}
-use Rattle.claims.specs.Standings.{pathSystem, ringSystem}
 use Rattle.claims.specs.Calls.{Given, searched, Asked, Lent, neededRecords, neededWords, Slot}
 use Rattle.claims.specs.RefusalOrder.{Accepted}
-use Rattle.claims.specs.SheetReading.{Said, sheetIn, pathOf, ringOf, wordOf}
+use Rattle.claims.specs.SheetReading.{Said}
+use Rattle.claims.specs.SheetWriting.{MaySay, partBytes, WrongSheetField}
 use Rattle.claims.specs.Passing.{passes}
 use Rattle.claims.specs.GraphBytes.{Ranges}
 
@@ -53,24 +53,14 @@ pub data WayOut (bs : List ℕ) (allowance : ℕ) (m : Lent) : Type 0 where
   written : (q : Query) (a : Accepted bs q) → Ready (sought a) allowance m
       → (g : Given) → searched (sought a) allowance ≡ ok g → length (g .sheet) ≤ length (m .buffer) → WayOut bs allowance m
 
--- the sheet has a wrong field, the first one being field k
-abbrev pub WrongField : Decision → List ℕ → ℕ → Type 0
-WrongField D sheet k =
-    ((D .ring ≡ false) × (sheetIn (pathSystem D) (pathOf D) (wordOf D) sheet ≡ refuse sheetField k))
-    ⊎ ((D .ring ≡ true) × (sheetIn (ringSystem D) (ringOf D) (wordOf D) sheet ≡ refuse sheetField k))
-
 -- the sheet is well-formed, and the test whether it passes gives b
 abbrev pub WellFormed : Decision → List ℕ → Bool → Type 0
-WellFormed D sheet b =
-    ((D .ring ≡ false)
-    × (s : Said (pathSystem D)) × (sheetIn (pathSystem D) (pathOf D) (wordOf D) sheet ≡ ok s) × (passes (pathSystem D) s ≡ b))
-    ⊎ ((D .ring ≡ true)
-    × (s : Said (ringSystem D)) × (sheetIn (ringSystem D) (ringOf D) (wordOf D) sheet ≡ ok s) × (passes (ringSystem D) s ≡ b))
+WellFormed D sheet b = (s : Said D) × (sheet ≡ partBytes D s) × MaySay D s × (passes D s ≡ b)
 
 -- all that the sheet check refuses
 pub data CheckRefused (bs sheet : List ℕ) : Cause → ℕ → Type 0 where
   unread : {c : Cause} {p : ℕ} → read bs ≡ refuse c p → CheckRefused bs sheet c p
-  wrong : {k : ℕ} (q : Query) (a : Accepted bs q) → WrongField (sought a) sheet k → CheckRefused bs sheet sheetField k
+  wrong : {k : ℕ} (q : Query) (a : Accepted bs q) → WrongSheetField (sought a) sheet k → CheckRefused bs sheet sheetField k
   failed : (q : Query) (a : Accepted bs q) → WellFormed (sought a) sheet false → CheckRefused bs sheet doesNotPass 0
 
 -- the ranges of a decision, by which a graph is read

@@ -10,6 +10,7 @@ use lib.Dec.{leb}
 use lib.ListN.{length, drop, replicate}
 use Rattle.kat.specs.Word.{Word}
 use Rattle.claims.specs.Query.{Query, atoms, relations}
+use Rattle.claims.specs.Width.{ringWords}
 use Rattle.claims.specs.Tree.{Claim}
 use Rattle.claims.specs.Decisions.{decisions, lastOf}
 use Rattle.claims.specs.Reading.{read}
@@ -17,7 +18,7 @@ use Rattle.claims.specs.Sides.{Decision, decision}
 use Rattle.claims.specs.Standings.{System, pathSystem, ringSystem}
 use Rattle.claims.specs.Search.{Verdict, proved, refuted, spent, verdict}
 use Rattle.claims.specs.SheetBytes.{sheetBytes, pathBytes, ringBytes}
-use Rattle.claims.specs.SheetReading.{Said, saysProved, saysRefuted, sheetIn, pathOf, ringOf, wordOf}
+use Rattle.claims.specs.SheetReading.{Said, saysProved, saysRefuted, sheetIn}
 use Rattle.claims.specs.Passing.{passes}
 use Rattle.claims.specs.GraphBytes.{graphIn, finite}
 use Rattle.claims.specs.Judgement.{Judgement, judgement}
@@ -82,7 +83,7 @@ neededRecords D allowance = elim (D .ring) [ false ↦ allowance | true ↦ 0 ]
 
 -- the words that a ring claim needs ("Refusals with an example each")
 unfoldable pub neededWords : Decision → ℕ → ℕ
-neededWords D allowance = elim (D .ring) [ false ↦ 0 | true ↦ 40 * allowance ]
+neededWords D allowance = elim (D .ring) [ false ↦ 0 | true ↦ ringWords * allowance ]
 
 -- the first n zero, those beyond unchanged ("Refusals with an example each")
 unfoldable pub cleared : {A : Type 0} → A → ℕ → List A → List A
@@ -137,17 +138,13 @@ pub data Passed : Type 0 where
   passedProved passedRefuted : Passed
 
 -- 14 for a well-formed sheet that does not pass ("Refusals with an example each")
-unfoldable pub passedOf : (S : System) → Said S → Result Passed
-passedOf S (saysProved ss) = elim (passes S (saysProved ss)) [ true ↦ ok passedProved | false ↦ refuse doesNotPass 0 ]
-passedOf S (saysRefuted w) = elim (passes S (saysRefuted w)) [ true ↦ ok passedRefuted | false ↦ refuse doesNotPass 0 ]
+unfoldable pub passedOf : (D : Decision) → Said D → Result Passed
+passedOf D (saysProved ss) = elim (passes D (saysProved ss)) [ true ↦ ok passedProved | false ↦ refuse doesNotPass 0 ]
+passedOf D (saysRefuted w) = elim (passes D (saysRefuted w)) [ true ↦ ok passedRefuted | false ↦ refuse doesNotPass 0 ]
 
--- the sheet read by the claim's kind, and then tested ("Refusals with an example each")
+-- the sheet read, and then tested ("Refusals with an example each")
 unfoldable pub checked : Decision → List ℕ → Result Passed
-checked D bs =
-    elim (D .ring) [
-      | false ↦ onward (sheetIn (pathSystem D) (pathOf D) (wordOf D) bs) (passedOf (pathSystem D))
-      | true ↦ onward (sheetIn (ringSystem D) (ringOf D) (wordOf D) bs) (passedOf (ringSystem D))
-    ]
+checked D bs = onward (sheetIn D bs) (passedOf D)
 
 -- the sheet check: refusals 1 to 8, 13 and 14; it is lent nothing that it could change ("Refusals with an example each")
 unfoldable pub check-call : List ℕ → List ℕ → Result Passed

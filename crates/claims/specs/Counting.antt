@@ -8,7 +8,7 @@ use lib.Dec.{leb}
 use Rattle.claims.specs.Tree.{Tree, name, tested, union, sequence, star, plus, opt, Claim, includes, empty, irreflexive}
 use Rattle.claims.specs.Query.{Query, Bound, lookup, each, names, assumedEmpty, assumedIrreflexive}
 use Rattle.claims.specs.Expanded.{standsFor, countExpanded}
-use Rattle.claims.specs.SheetBytes.{width}
+use Rattle.claims.specs.Width.{width}
 
 -- what an expression counts, where each bracketed test counts t and each name what it is bound to ("Standings")
 unfoldable pub count : ℕ → List (Bound ℕ) → Tree → ℕ

@@ -3,22 +3,16 @@
 use Prim.Native.Nat.{ℕ, _≤_, _<_}
 use mathlib.Core.Path.{_≡_}
 use mathlib.Core.Logic.{_⊎_, _↔_}
-use mathlib.Core.Bool.{Bool, true, false}
 use mathlib.Core.List.{List}
 use lib.ListN.{length}
 use Rattle.kat.specs.Lists.{In}
 use Rattle.kat.specs.Word.{Word, size, numbers}
 use Rattle.claims.specs.Sides.{Decision}
-use Rattle.claims.specs.Standings.{System, pathSystem, ringSystem}
+use Rattle.claims.specs.Standings.{System}
 use Rattle.claims.specs.Words.{Refutes}
 use Rattle.claims.specs.Verdicts.{Distinct, NotAfter, Holds, AtMost, MoreThan, FreshAt}
 use Rattle.claims.specs.Refusals.{spentAllowance, Result, ok, refused, refuse}
 use Rattle.claims.specs.Calls.{Answer, provedWith, refutedBy, Given}
-
--- the kind of standing of a decision
-abbrev pub systemOf : Bool → Decision → System
-systemOf false D = pathSystem D
-systemOf true D = ringSystem D
 
 -- proved, with the count c
 pub record MeansProved (D : Decision) (S : System) (allowance c : ℕ) : Type 0 where

@@ -58,3 +58,8 @@ afterField (whole tag contents rest) = rest
 abbrev pub provided : {A : Type 0} → Bool → A → Option A
 provided true a = some a
 provided false a = none
+
+-- field k is the first wrong one: the bytes begin with k - 1 good fields and not with k, and they are not all of it ("Sheet and graph bytes")
+abbrev pub FirstWrong : (ℕ → Type 0) → Type 0 → ℕ → Type 0
+FirstWrong good all zero = ⊥
+FirstWrong good all (suc n) = good n × (good (suc n) → ⊥) × (all → ⊥)

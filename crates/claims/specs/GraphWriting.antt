@@ -1,12 +1,14 @@
--- The bytes of a graph, and what holds of a graph that is read. (Document 01, "Sheet and graph bytes".)
+-- The bytes of a graph, what holds of a graph that is read, and which field is the first wrong one, in plain words. (Document 01, "Sheet and
+-- graph bytes" and refusal 12.)
 -- Assumes nothing.
-use Prim.Native.Nat.{ℕ, _≤_, _<_}
+use Prim.Native.Nat.{ℕ, _+_, _≤_, _<_}
+use mathlib.Core.Path.{_≡_}
 use mathlib.Core.Bool.{Bool}
 use mathlib.Core.List.{List, [], _∷_, _++_, map, flatMap}
 use lib.ListN.{length}
 use Rattle.kat.specs.Lists.{In, upto, filter}
 use Rattle.kat.specs.Graph.{Finite}
-use Rattle.claims.specs.Fields.{field}
+use Rattle.claims.specs.Fields.{field, FirstWrong}
 use Rattle.claims.specs.Verdicts.{Distinct}
 use Rattle.claims.specs.GraphBytes.{Edge, Listed, Ranges}
 use Rattle.claims.specs.Query.{atoms, relations}
@@ -34,6 +36,29 @@ pub record WellListed (R : Ranges) (L : Listed) : Type 0 where
   pub to-event : (e : Edge) → In e (L .edges) → e .to < length (L .atoms)
   pub at-most-64 : length (L .atoms) ≤ 64
   pub once-each : Distinct (L .edges)
+
+-- how many fields a graph has
+abbrev pub graphFields : Listed → ℕ
+graphFields L = length (L .atoms) + length (L .edges)
+
+-- the bytes are a graph
+pub record IsGraph (R : Ranges) (bs : List ℕ) : Type 0 where
+  pub listed : Listed
+  pub good : WellListed R listed
+  pub bytes : bs ≡ graphBytes listed
+
+-- the bytes begin with n good fields
+pub record GoodGraphFields (R : Ranges) (bs : List ℕ) (n : ℕ) : Type 0 where
+  pub listed : Listed
+  pub rest : List ℕ
+  pub good : WellListed R listed
+  pub fields : graphFields listed ≡ n
+  pub bytes : bs ≡ graphBytes listed ++ rest
+
+-- field k of a graph is its first wrong one: cut, of a wrong tag, an event after an edge, of a wrong length, a number too large, a 65th
+-- event, an edge repeated
+abbrev pub WrongGraphField : Ranges → List ℕ → ℕ → Type 0
+WrongGraphField R bs = FirstWrong (GoodGraphFields R bs) (IsGraph R bs)
 
 -- the edge of relation r from x to y
 abbrev pub edgeOf : ℕ → ℕ → ℕ → Edge

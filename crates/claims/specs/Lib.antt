@@ -9,6 +9,7 @@ pub mod Lines
 pub mod Refusals
 pub mod Names
 pub mod Query
+pub mod Width
 pub mod Expanded
 pub mod Counting
 pub mod Decisions
@@ -32,6 +33,8 @@ pub mod Alike
 pub mod Verdicts
 pub mod Orders
 pub mod Lawful
+-- What a sheet may say, its bytes, and its first wrong field, in plain words.
+pub mod SheetWriting
 -- Graph bytes, the judgement, the relational meaning, the drawn graph.
 pub mod GraphBytes
 pub mod GraphWriting

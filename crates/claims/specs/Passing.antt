@@ -6,7 +6,8 @@ use mathlib.Core.Bool.{Bool, not, _&&_, _||_}
 use mathlib.Core.List.{List}
 use Rattle.kat.specs.Lists.{some, every, member, isEmpty}
 use Rattle.kat.specs.Word.{Word, end, at}
-use Rattle.claims.specs.Standings.{System, letters}
+use Rattle.claims.specs.Sides.{Decision}
+use Rattle.claims.specs.Standings.{System, letters, claimSystem}
 use Rattle.claims.specs.SheetReading.{Said, saysProved, saysRefuted}
 
 module _ (S : System) where
@@ -24,11 +25,15 @@ module _ (S : System) where
   unfoldable pub listed : List (S .Standing) → S .Standing → Bool
   listed ss s = not (S .possible s) || some (S .equal s) ss
 
-  -- what a sheet says passes ("Sheet and graph bytes")
-  unfoldable pub passes : Said S → Bool
-  passes (saysRefuted w) = refuting w
-  passes (saysProved ss) =
+  -- the standings listed prove: no length-0 word refutes, level 1 and every step from one of them is listed, none completes ("Sheet and graph bytes")
+  unfoldable pub proving : List (S .Standing) → Bool
+  proving ss =
       isEmpty (S .alone)
       && every (λ l. listed ss (S .begin l)) (letters S)
       && every (λ s. every (λ l. listed ss (S .onward s l)) (letters S)) ss
       && every (λ s. isEmpty (S .finals s)) ss
+
+-- what a sheet says passes ("Sheet and graph bytes")
+unfoldable pub passes : (D : Decision) → Said D → Bool
+passes D (saysProved ss) = proving (claimSystem D) ss
+passes D (saysRefuted w) = refuting (claimSystem D) w

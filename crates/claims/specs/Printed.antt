@@ -8,6 +8,8 @@ use lib.Dec.{leb, ltb}
 use lib.ListN.{replicate}
 use Rattle.kat.specs.Word.{numbers}
 use Rattle.claims.specs.Bytes.{text}
+use Rattle.claims.specs.Width.{ringWords}
+use Rattle.claims.specs.Sheets.{sheetLength}
 use Rattle.claims.specs.Refusals.{Refusal, number, Result, ok, refused, refuse, onward, badAllowance}
 use Rattle.claims.specs.Calls.{Answer, provedWith, refutedBy, Given, searched, asked, Lent, search-call}
 
@@ -50,13 +52,13 @@ answered allowance bs =
 unfoldable pub programAllowance : Bool → ℕ
 programAllowance ring = cond ring 200 200
 
--- memory, and a sheet buffer for any answer, at an allowance ("The desk's cases")
+-- memory, and a sheet buffer for any answer, at an allowance: the longest sheet is a ring's with as many standings ("The desk's cases")
 unfoldable pub memoryFor : ℕ → Lent
 memoryFor n =
     record {
       records = replicate n (record { P = 0; S = 0; parent = 0; letter = 0 });
-      words = replicate (40 * n) 0;
-      buffer = replicate (4 + 269 * n) 0;
+      words = replicate (ringWords * n) 0;
+      buffer = replicate (sheetLength (provedWith n) true) 0;
     }
 
 -- the claim is one of rings; a query that is refused has no claim ("The desk's cases")

@@ -1,5 +1,6 @@
--- The reading of a sheet, with refusal 13 and its field. (Document 01, "Sheet and graph bytes" and refusal 13.) The first wrong field
--- decides; a missing field is placed where it would stand.
+-- The reading of a sheet, with refusal 13 and its field. (Document 01, "Sheet and graph bytes" and refusal 13.) One part, a verdict with
+-- its standings or its word, is read from where the bytes before it ended; a sheet is one part and nothing behind it. The first wrong
+-- field decides.
 -- Assumes nothing.
 use Prim.Native.Nat.{ℕ, zero, suc, _+_, _*_, _^_, _%_}
 use mathlib.Core.Bool.{Bool, true, false, not, cond, _&&_}
@@ -12,15 +13,11 @@ use Rattle.kat.specs.Tables.{occurrences}
 use Rattle.kat.specs.Word.{Word, end, at}
 use Rattle.claims.specs.Bytes.{same}
 use Rattle.claims.specs.Sides.{Decision}
-use Rattle.claims.specs.Standings.{System, Path, Ring}
+use Rattle.claims.specs.Standings.{Path, Ring, systemOf, claimSystem}
 use Rattle.claims.specs.Fields.{Field, whole, cut, nextField, afterField, provided, fromBytes, numberSet}
-use Rattle.claims.specs.SheetBytes.{width}
-use Rattle.claims.specs.Refusals.{sheetField, Result, ok, refuse}
-
--- what a sheet says ("Sheet and graph bytes")
-pub data Said (S : System) : Type 0 where
-  saysProved : List (S .Standing) → Said S
-  saysRefuted : Word → Said S
+use Rattle.claims.specs.Width.{width, rowLength}
+use Rattle.claims.specs.SheetBytes.{contentsLength}
+use Rattle.claims.specs.Refusals.{sheetField, Result, ok, refuse, onward}
 
 -- a set of 8 bytes over n occurrences ("Sheet and graph bytes")
 unfoldable pub setOf : ℕ → List ℕ → List ℕ
@@ -35,13 +32,13 @@ unfoldable pub pathOf : Decision → List ℕ → Option Path
 pathOf D bs =
     let l : ℕ = occurrences (D .left) in
     let r : ℕ = occurrences (D .right) in
-    provided (eqb (length bs) 16 && setFits l (take 8 bs) && setFits r (drop 8 bs))
+    provided (eqb (length bs) (contentsLength false) && setFits l (take 8 bs) && setFits r (drop 8 bs))
     (record { P = setOf l (take 8 bs); S = setOf r (drop 8 bs) })
 
--- n rows of 4 bytes each, as numbers ("Sheet and graph bytes")
-unfoldable pub rowNumbers : ℕ → List ℕ → List ℕ
-rowNumbers zero bs = []
-rowNumbers (suc n) bs = fromBytes 0 (take 4 bs) ∷ rowNumbers n (drop 4 bs)
+-- n rows of b bytes each, as numbers ("Sheet and graph bytes")
+unfoldable pub rowNumbers : ℕ → ℕ → List ℕ → List ℕ
+rowNumbers b zero bs = []
+rowNumbers b (suc n) bs = fromBytes 0 (take b bs) ∷ rowNumbers b n (drop b bs)
 
 -- each row, by its number from p on, passes the test ("Sheet and graph bytes")
 unfoldable pub rowsPass : (ℕ → ℕ → Bool) → ℕ → List ℕ → Bool
@@ -66,10 +63,10 @@ ringOf D bs =
     let l : ℕ = occurrences (D .left) in
     let r : ℕ = occurrences (D .right) in
     let p : List ℕ = take 8 (drop 2 bs) in
-    let m : List ℕ = rowNumbers width (drop 10 bs) in
-    let n : List ℕ = rowNumbers width (drop (10 + 4 * width) bs) in
+    let m : List ℕ = rowNumbers rowLength width (drop (2 + 8) bs) in
+    let n : List ℕ = rowNumbers rowLength width (drop (2 + 8 + width * rowLength) bs) in
     provided
-    (eqb (length bs) (10 + 8 * width) && ltb (getD bs 0 0) (D .atoms) && leb (getD bs 1 0) 1 && setFits l p
+    (eqb (length bs) (contentsLength true) && ltb (getD bs 0 0) (D .atoms) && leb (getD bs 1 0) 1 && setFits l p
     && rowsPass (rowOfM r) 0 m && rowsPass (rowOfN r) 0 n)
     (record { first = getD bs 0 0; Z = eqb (getD bs 1 0) 1; P = setOf l p; M = tableOf r m; N = tableOf r n })
 
@@ -80,49 +77,84 @@ wordOf D (a ∷ []) = provided (ltb a (D .atoms)) (end a)
 wordOf D (a ∷ r ∷ ns) =
     elim (wordOf D ns) [ none ↦ none | some w ↦ provided (ltb a (D .atoms) && ltb r (D .relations)) (at a r w) ]
 
-module _ (S : System) (standingOf : List ℕ → Option (S .Standing)) where
-  -- a standing's field: tag 3, contents as they should be, and none of those before it ("Sheet and graph bytes")
-  unfoldable pub standingIn : List (S .Standing) → Field → Option (S .Standing)
+-- the standing that the contents are, of a path claim (false) or of a ring claim (true) ("Sheet and graph bytes")
+abbrev pub standingOf : (ring : Bool) (D : Decision) → List ℕ → Option (systemOf ring D .Standing)
+standingOf false D = pathOf D
+standingOf true D = ringOf D
+
+-- what a part of a sheet says: proved with the standings listed, or refuted with a word ("Sheet and graph bytes")
+pub data Said (D : Decision) : Type 0 where
+  saysProved : List (claimSystem D .Standing) → Said D
+  saysRefuted : Word → Said D
+
+-- a part that was read: what it says, the number of the next field, and the bytes from there on ("Sheet and graph bytes")
+pub record Part (D : Decision) : Type 0 where
+  pub said : Said D
+  pub next : ℕ
+  pub rest : List ℕ
+
+-- the next field has the tag t ("Sheet and graph bytes")
+unfoldable pub tagged : ℕ → List ℕ → Bool
+tagged t [] = false
+tagged t (b ∷ bs) = eqb b t
+
+-- the verdict's field: tag 1, and v is 1 for proved, 2 for refuted ("Sheet and graph bytes")
+unfoldable pub verdictIs : ℕ → Field → Bool
+verdictIs v cut = false
+verdictIs v (whole tag contents rest) = eqb tag 1 && same contents (v ∷ [])
+
+module _ (D : Decision) where
+  -- the word's field: tag 2 ("Sheet and graph bytes")
+  unfoldable pub wordIn : Field → Option Word
+  wordIn cut = none
+  wordIn (whole tag contents rest) = elim (eqb tag 2) [ true ↦ wordOf D contents | false ↦ none ]
+
+  -- a standing's field: its contents as they should be, and none of those before it ("Sheet and graph bytes")
+  unfoldable pub standingIn : List (claimSystem D .Standing) → Field → Option (claimSystem D .Standing)
   standingIn listed cut = none
   standingIn listed (whole tag contents rest) =
-      elim (standingOf contents) [
+      elim (standingOf (D .ring) D contents) [
         | none ↦ none
-        | some s ↦ provided (eqb tag 3 && not (someOf (S .equal s) listed)) s
+        | some s ↦ provided (not (someOf (claimSystem D .equal s) listed)) s
       ]
 
-  -- the standings from field k on, at most n more ("Sheet and graph bytes")
-  unfoldable pub standingsIn : ℕ → ℕ → List (S .Standing) → List ℕ → Result (Said S)
-  standingsIn zero k listed bs = elim (isEmpty bs) [ true ↦ ok (saysProved listed) | false ↦ refuse sheetField k ]
+  -- the standings from field k on, at most n more, as long as the next field has tag 3 ("Sheet and graph bytes")
+  unfoldable pub standingsIn : ℕ → ℕ → List (claimSystem D .Standing) → List ℕ → Result (Part D)
+  standingsIn zero k listed bs =
+      elim (tagged 3 bs) [ true ↦ refuse sheetField k | false ↦ ok (record { said = saysProved listed; next = k; rest = bs }) ]
   standingsIn (suc n) k listed bs =
-      elim (isEmpty bs) [
-        | true ↦ ok (saysProved listed)
-        | false ↦ elim (standingIn listed (nextField bs)) [
+      elim (tagged 3 bs) [
+        | false ↦ ok (record { said = saysProved listed; next = k; rest = bs })
+        | true ↦ elim (standingIn listed (nextField bs)) [
           | none ↦ refuse sheetField k
           | some s ↦ standingsIn n (suc k) (listed ++ (s ∷ [])) (afterField (nextField bs))
         ]
       ]
 
-  -- the word's field, the second and last ("Sheet and graph bytes")
-  unfoldable pub wordIn : (List ℕ → Option Word) → Field → Result (Said S)
-  wordIn read cut = refuse sheetField 2
-  wordIn read (whole tag contents rest) =
-      elim (eqb tag 2) [
-        | false ↦ refuse sheetField 2
-        | true ↦ elim (read contents) [
-          | none ↦ refuse sheetField 2
-          | some w ↦ elim rest [ [] ↦ ok (saysRefuted w) | b ∷ bs ↦ refuse sheetField 3 ]
-        ]
+  -- a refuted part ends with its word, field k; a missing word is placed where it would stand ("Sheet and graph bytes")
+  unfoldable pub wordFrom : ℕ → Field → Result (Part D)
+  wordFrom k f =
+      elim (wordIn f) [
+        | none ↦ refuse sheetField k
+        | some w ↦ ok (record { said = saysRefuted w; next = suc k; rest = afterField f })
       ]
 
-  -- after the verdict's field: 1 proved, 2 refuted ("Sheet and graph bytes")
-  unfoldable pub verdictIn : (List ℕ → Option Word) → Field → Result (Said S)
-  verdictIn read cut = refuse sheetField 1
-  verdictIn read (whole tag contents rest) =
-      elim (eqb tag 1 && same contents (1 ∷ [])) [
-        | true ↦ standingsIn 4096 2 [] rest
-        | false ↦ elim (eqb tag 1 && same contents (2 ∷ [])) [ true ↦ wordIn read (nextField rest) | false ↦ refuse sheetField 1 ]
+  -- a part from its verdict, field k: the standings follow, or the word ("Sheet and graph bytes")
+  unfoldable pub partFrom : ℕ → Field → Result (Part D)
+  partFrom k f =
+      elim (verdictIs 1 f) [
+        | true ↦ standingsIn 4096 (suc k) [] (afterField f)
+        | false ↦ elim (verdictIs 2 f) [ true ↦ wordFrom (suc k) (nextField (afterField f)) | false ↦ refuse sheetField k ]
       ]
 
-  -- what a sheet says, or refusal 13 at its first wrong field ("Sheet and graph bytes")
-  unfoldable pub sheetIn : (List ℕ → Option Word) → List ℕ → Result (Said S)
-  sheetIn read bs = verdictIn read (nextField bs)
+  -- the part that the bytes begin with, its first field being field k, or refusal 13 at its first wrong field ("Sheet and graph bytes")
+  unfoldable pub partIn : ℕ → List ℕ → Result (Part D)
+  partIn k bs = partFrom k (nextField bs)
+
+  -- nothing follows: a field that does is wrong ("Sheet and graph bytes")
+  unfoldable pub onlyPart : Part D → Result (Said D)
+  onlyPart p = elim (isEmpty (p .rest)) [ true ↦ ok (p .said) | false ↦ refuse sheetField (p .next) ]
+
+  -- what a sheet says, one part from field 1 and nothing behind it, or refusal 13 at its first wrong field ("Sheet and graph bytes")
+  unfoldable pub sheetIn : List ℕ → Result (Said D)
+  sheetIn bs = onward (partIn 1 bs) onlyPart

@@ -3,14 +3,13 @@
 -- Assumes nothing.
 use Prim.Native.Nat.{ℕ, _+_, _*_, _≤_}
 use mathlib.Core.Path.{_≡_}
-use mathlib.Core.Bool.{Bool, true, false}
-use mathlib.Core.List.{List, [], _∷_, _++_}
+use mathlib.Core.Bool.{Bool}
+use mathlib.Core.List.{List, _++_}
 use lib.ListN.{length, drop}
-use Rattle.kat.specs.Word.{Word, size, numbers}
+use Rattle.kat.specs.Word.{Word, size}
 use Rattle.claims.specs.Sides.{Decision}
-use Rattle.claims.specs.Standings.{pathSystem, ringSystem}
-use Rattle.claims.specs.Fields.{field}
-use Rattle.claims.specs.SheetReading.{saysRefuted, sheetIn, pathOf, ringOf, wordOf}
+use Rattle.claims.specs.SheetBytes.{contentsLength}
+use Rattle.claims.specs.SheetReading.{saysRefuted, sheetIn}
 use Rattle.claims.specs.Refusals.{ok}
 use Rattle.claims.specs.Calls.{Answer, provedWith, refutedBy, searched, Asked, asked, Passed, passedProved, passedRefuted}
 
@@ -20,18 +19,12 @@ passedAs (provedWith c) = passedProved
 passedAs (refutedBy w) = passedRefuted
 
 -- the sheet says refuted, with the word
-abbrev pub SaysRefuted : Decision → Bool → List ℕ → Word → Type 0
-SaysRefuted D false bs w = sheetIn (pathSystem D) (pathOf D) (wordOf D) bs ≡ ok (saysRefuted w)
-SaysRefuted D true bs w = sheetIn (ringSystem D) (ringOf D) (wordOf D) bs ≡ ok (saysRefuted w)
-
--- the bytes of the refuted sheet of a word
-abbrev pub refutedSheet : Word → List ℕ
-refutedSheet w = field 1 (2 ∷ []) ++ field 2 (numbers w)
+abbrev pub SaysRefuted : Decision → List ℕ → Word → Type 0
+SaysRefuted D bs w = sheetIn D bs ≡ ok (saysRefuted w)
 
 -- how many bytes the sheet of an answer has, for a path claim (false) or a ring claim (true)
 abbrev pub sheetLength : Answer → Bool → ℕ
-sheetLength (provedWith c) false = 4 + 19 * c
-sheetLength (provedWith c) true = 4 + 269 * c
+sheetLength (provedWith c) ring = 4 + (3 + contentsLength ring) * c
 sheetLength (refutedBy w) ring = 8 + 2 * size w
 
 -- what an answer leaves of the buffer: the sheet that the search gives with it at the start, and past it what was there before

@@ -168,3 +168,12 @@ ringSystem D =
       live = D .live;
       relations = D .relations;
     }
+
+-- the kind of standing of a path claim (false) and of a ring claim (true) ("Standings")
+abbrev pub systemOf : Bool → Decision → System
+systemOf false D = pathSystem D
+systemOf true D = ringSystem D
+
+-- the kind of standing of a claim ("Standings")
+abbrev pub claimSystem : Decision → System
+claimSystem D = systemOf (D .ring) D

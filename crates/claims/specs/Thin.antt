@@ -1,5 +1,5 @@
 -- The search and the check of a proved sheet over fewer letters: those that pass a test. (Document 01, "Standings" and "Sheet and graph
--- bytes".) They are what runs; `proofs/ThinVerdict.antt` shows them equal to `verdict` and `passes` where the tests leave out only
+-- bytes".) They are what runs; `proofs/ThinVerdict.antt` shows them equal to `verdict` and `proving` where the tests leave out only
 -- letters that lead nowhere, or where a sooner letter leads. So nothing that is promised rests on them.
 -- Assumes nothing.
 use Prim.Native.Nat.{ℕ, zero, suc}
@@ -12,8 +12,7 @@ use Rattle.kat.specs.Lists.{filter, every, isEmpty}
 use Rattle.kat.specs.Word.{end}
 use Rattle.claims.specs.Standings.{System, Letter, letters}
 use Rattle.claims.specs.Search.{Entry, Verdict, proved, refuted, spent, firstLevel, grown, fresh, completed}
-use Rattle.claims.specs.SheetReading.{Said, saysProved, saysRefuted}
-use Rattle.claims.specs.Passing.{refuting, listed}
+use Rattle.claims.specs.Passing.{listed}
 
 -- first says which letters are tried at level 1, later which are tried after an entry
 module _ (S : System) (first : Letter → Bool) (later : Entry S → Letter → Bool) where
@@ -48,10 +47,9 @@ module _ (S : System) (first : Letter → Bool) (later : Entry S → Letter → 
 
 -- first says which letters are tried at level 1, later which are tried after a listed standing
 module _ (S : System) (first later : Letter → Bool) where
-  -- what a sheet says passes, as `passes`, with the letters that pass ("Sheet and graph bytes")
-  unfoldable pub thinPasses : Said S → Bool
-  thinPasses (saysRefuted w) = refuting S w
-  thinPasses (saysProved ss) =
+  -- the standings listed prove, as `proving`, with the letters that pass ("Sheet and graph bytes")
+  unfoldable pub thinProving : List (S .Standing) → Bool
+  thinProving ss =
       isEmpty (S .alone)
       && every (λ l. listed S ss (S .begin l)) (filter first (letters S))
       && every (λ s. every (λ l. listed S ss (S .onward s l)) (filter later (letters S))) ss

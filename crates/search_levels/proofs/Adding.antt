@@ -63,10 +63,10 @@ module _ (ring : Bool) (cap : ℕ) where
       record {
         allowance = r .allowance;
         room =
-          record {
-            path = λ e. omega (arith, r .room .path e, a .records-length);
-            turn = λ e. omega (arith, r .room .turn e, a .words-length);
-          };
+            record {
+              path = λ e. omega (arith, r .room .path e, a .records-length);
+              turn = λ e. omega (arith, r .room .turn e, a .words-length);
+            };
         counted = a .high;
       }
 

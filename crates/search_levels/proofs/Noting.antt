@@ -53,8 +53,10 @@ module _ (k : Shape) (left right : List ℕ) where
     note-spent ws z more h =
         ⊎-elim (λ p. absurd (omega (arith, p .0)))
         (λ p.
-          inr (p .0,
-          omega (arith, p .1, length-append (old ++ more) (fresh (wordSystem k left right) (old ++ more) (entryOf k left right old ws parent letter ∷ [])))))
+        inr (
+          p .0,
+          omega (arith, p .1, length-append (old ++ more) (fresh (wordSystem k left right) (old ++ more) (entryOf k left right old ws parent letter ∷ []))),
+        ))
         h
 
     pub note-found : (ws : List ℕ) (p : ℕ) → Place (standingAt (k .ring) (s .records) (s .words)) (s .count) ws p → p < s .count → s .count ≤ cap
@@ -92,9 +94,16 @@ module _ (k : Shape) (left right : List ℕ) where
       note-over c more h =
           ⊎-elim
           (λ q.
-            inr (omega arith,
-            omega (arith, ap length (new more (q .1)), length-append (old ++ more) (e ∷ []), q .1 .standings-count,
-            length-map (old ++ more) (λ f. f .standing))))
+          inr (
+            omega arith,
+            omega (
+              arith,
+              ap length (new more (q .1)),
+              length-append (old ++ more) (e ∷ []),
+              q .1 .standings-count,
+              length-map (old ++ more) (λ f. f .standing),
+            ),
+          ))
           (λ q. absurd (omega (arith, q .0))) h
 
       pub note-kept : parent ≤ length old → Room (k .ring) (s .records) (s .words) (s .count + 1) → s .count < cap
@@ -111,11 +120,13 @@ module _ (k : Shape) (left right : List ℕ) where
           kept : Keeps k left right s (old ++ more) → Kept k left right cap t (grow k left right (old ++ more) (e ∷ []))
           kept q =
               subst (Kept k left right cap t) (sym (new more q))
-              (inl (omega arith,
-              subst (λ ps. Holds (k .ring) (t .records) (t .words) (s .count + 1) (standings k left right ((old ++ more) ++ (e ∷ []))) ps)
-              (ap (λ r. prefixes k left right (old ++ more) ++ (then r (letter / 16) (letter % 16) ∷ [])) (old-prefix old more parent low)
-              ∙ sym (map-append (λ f. f .prefix) (old ++ more) (e ∷ [])))
-              (subst (λ ss. Holds (k .ring) (t .records) (t .words) (s .count + 1) ss (prefixes k left right (old ++ more) ++ (then (prefixAt (prefixes k left right (old ++ more)) parent) (letter / 16) (letter % 16) ∷ [])))
-              (sym (map-append (λ f. f .standing) (old ++ more) (e ∷ [])))
-              (holds-more (k .ring) (s .records) (s .words) (s .count) arr parent letter room (standings k left right (old ++ more)) (prefixes k left right (old ++ more))
-              (omega (arith, q .standings-count, length-map (old ++ more) (λ f. f .standing), length-append old more)) q))))
+              (inl (
+                omega arith,
+                subst (λ ps. Holds (k .ring) (t .records) (t .words) (s .count + 1) (standings k left right ((old ++ more) ++ (e ∷ []))) ps)
+                    (ap (λ r. prefixes k left right (old ++ more) ++ (then r (letter / 16) (letter % 16) ∷ [])) (old-prefix old more parent low)
+                    ∙ sym (map-append (λ f. f .prefix) (old ++ more) (e ∷ [])))
+                    (subst (λ ss. Holds (k .ring) (t .records) (t .words) (s .count + 1) ss (prefixes k left right (old ++ more) ++ (then (prefixAt (prefixes k left right (old ++ more)) parent) (letter / 16) (letter % 16) ∷ [])))
+                    (sym (map-append (λ f. f .standing) (old ++ more) (e ∷ [])))
+                    (holds-more (k .ring) (s .records) (s .words) (s .count) arr parent letter room (standings k left right (old ++ more)) (prefixes k left right (old ++ more))
+                    (omega (arith, q .standings-count, length-map (old ++ more) (λ f. f .standing), length-append old more)) q)),
+              ))

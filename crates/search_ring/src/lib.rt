@@ -109,7 +109,14 @@ fn lay_out(to: &mut [u64], p: u64, first: u64, z: u64)
 }
 
 // The standing of a prefix of one relation; n right occurrences.
-pub fn begin(left: &[u64; 4241], right: &[u64; 4241], n: usize, a: usize, r: usize, to: &mut [u64; 40])
+pub fn begin(
+    left: &[u64; 4241],
+    right: &[u64; 4241],
+    n: usize,
+    a: usize,
+    r: usize,
+    to: &mut [u64; 40],
+)
     ensures { λ x. ⌜ take 34 (now (to .exit)) ≡ ringBegin (now (left .entry)) (now (right .entry)) n (record { atom = a; relation = r }) ⌝ }
 {
     let p = step_from(left, 0, a, r);
@@ -121,7 +128,14 @@ pub fn begin(left: &[u64; 4241], right: &[u64; 4241], n: usize, a: usize, r: usi
 }
 
 // The standing of a prefix one relation longer.
-pub fn onward(left: &[u64; 4241], right: &[u64; 4241], from: &[u64; 40], a: usize, r: usize, to: &mut [u64; 40])
+pub fn onward(
+    left: &[u64; 4241],
+    right: &[u64; 4241],
+    from: &[u64; 40],
+    a: usize,
+    r: usize,
+    to: &mut [u64; 40],
+)
     ensures { λ x. ⌜ take 34 (now (to .exit))
         ≡ ringOnward (now (left .entry)) (now (right .entry)) (take 34 (now (from .entry))) (record { atom = a; relation = r }) ⌝ }
 {

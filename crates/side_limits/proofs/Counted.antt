@@ -14,7 +14,7 @@ use Rattle.claims.specs.Tree.{Tree, Claim, includes, empty, irreflexive, claimL
 use Rattle.claims.specs.Query.{Query, each, assumedEmpty, assumedIrreflexive, claimsOf}
 use Rattle.claims.specs.Expanded.{standsFor, countExpanded}
 use Rattle.claims.specs.Counting.{total, occurrencesOf, leavesOf, sizeOf, withAnys, leftSize, rightSize, rightLimit, withinLimits}
-use Rattle.claims.specs.SheetBytes.{width}
+use Rattle.claims.specs.Width.{width}
 use Rattle.claims.specs.Sides.{decision}
 use Rattle.claims.proofs.Results.{each-append}
 use Rattle.claims.proofs.Counts.{relation-occurs-once, relation-has-leaves}
