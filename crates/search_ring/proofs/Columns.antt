@@ -1,7 +1,7 @@
 -- Words joined into columns: one turn of the walk of a set, one column sent on, and what stands in each place in the end. Each law compares
 -- two memories place by place.
 -- Assumes nothing.
-use Prim.Native.Nat.{ℕ, zero, suc, _+_, _-_, _≤_, _<_}
+use Prim.Native.Nat.{ℕ, _+_, _-_, _≤_, _<_}
 use native.Mathlib.Omega.{arith}
 use mathlib.Core.Path.{_≡_, refl, sym, _∙_, ap, ap₂}
 use mathlib.Core.Logic.{⊎-elim}
@@ -9,12 +9,11 @@ use mathlib.Core.Bool.{Bool, true, false, cond, not, _&&_, and-true, and-false}
 use mathlib.Core.List.{List, [], _∷_}
 use lib.Bits.{bitAnd, bitOr, or-zero-r}
 use lib.Count.{trailingZeros}
-use lib.Dec.{eqb, ltb}
 use lib.ListN.{length, getD, set, take, length-set, length-take}
 use lib.Seq.{getD-take, getD-set-same, getD-set-other}
 use borrow.Author.Tests.{lt-ltb, le-ltb, eq-eqb, ne-eqb}
-use Rattle.kat.specs.Lists.{counted, upto}
-use Rattle.kat.proofs.Bools.{bool-cases, le-or-lt}
+use Rattle.kat.specs.Lists.{upto}
+use Rattle.kat.proofs.Bools.{le-or-lt}
 use Rattle.claims.specs.Query.{bit}
 use Rattle.claims.specs.Standings.{Letter}
 use Rattle.words.specs.Memory.{words, between, zeros}
@@ -25,17 +24,8 @@ use Rattle.bits.proofs.Lowest.{Lowest}
 use Rattle.search_words.specs.Steps.{stepFrom}
 use Rattle.search_words.specs.RingWords.{ringWords, leads, joined}
 use Rattle.search_words.proofs.RingLayout.{ring-is}
+use Rattle.search_words.proofs.Upto.{upto-more}
 use Rattle.search_ring.specs.inner.Columns.{columnJoined, columnOf, pushed, spreadOver, laidOut}
-
--- a range begins with its lowest number, and is empty past its end
-pub upto-more : (i e : ℕ) → i < e → upto i e ≡ i ∷ upto (i + 1) e
-upto-more i e h =
-    let z : e - i ≡ suc (e - (i + 1)) = omega arith in
-    let y : suc i ≡ i + 1 = omega arith in
-    ap (counted i) z ∙ ap (λ j. i ∷ counted j (e - (i + 1))) y
-
-pub upto-none : (i e : ℕ) → e ≤ i → upto i e ≡ []
-upto-none i e h = let z : e - i ≡ 0 = omega arith in ap (counted i) z
 
 -- one column joined, or none
 module _ (to : List ℕ) (k w : ℕ) where

@@ -1,8 +1,7 @@
 -- The words that begin and onward leave are those of the standing: the columns as they were joined, and the three other words in their places.
 -- Assumes nothing.
 use Prim.Native.Nat.{ℕ, suc, _^_, min}
-use native.Mathlib.Omega.{arith}
-use mathlib.Core.Path.{_≡_, refl, sym, _∙_, ap, ap₂}
+use mathlib.Core.Path.{_≡_, _∙_, ap, ap₂}
 use mathlib.Core.Bool.{cond, not, _||_}
 use mathlib.Core.List.{List}
 use lib.Bits.{bitOr}

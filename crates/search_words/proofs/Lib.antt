@@ -10,6 +10,7 @@ pub mod First
 pub mod OccurrenceWords
 pub mod PathShown
 -- Ring standings on words.
+pub mod Upto
 pub mod RingLayout
 pub mod RingColumns
 pub mod RingShown

@@ -26,20 +26,7 @@ use Rattle.bits.proofs.Members.{some-number}
 use Rattle.bits.proofs.Rows.{bit-union}
 use Rattle.search_words.specs.Steps.{enders}
 use Rattle.search_words.specs.RingWords.{leads, joined, beginColumn, opened, onwardColumn}
-
--- a test found in one range of numbers and a test found in another
-pub some-range : (p q : ℕ → Bool) (i e j f : ℕ) → ((k : ℕ) → i ≤ k → k < e → p k ≡ true → (j ≤ k) × (k < f) × (q k ≡ true))
-    → ((k : ℕ) → j ≤ k → k < f → q k ≡ true → (i ≤ k) × (k < e) × (p k ≡ true)) → some p (upto i e) ≡ some q (upto j f)
-some-range p q i e j f onto back =
-    bool-ext (some p (upto i e)) (some q (upto j f))
-    (λ s. let (k, m, t) = some-in p (upto i e) s in
-    let (a, b) = upto-in k i e m in
-    let (c, d, r) = onto k a b t in
-    in-some q (in-upto k j f c d) r)
-    (λ s. let (k, m, t) = some-in q (upto j f) s in
-    let (a, b) = upto-in k j f m in
-    let (c, d, r) = back k a b t in
-    in-some p (in-upto k i e c d) r)
+use Rattle.search_words.proofs.Upto.{some-higher}
 
 halved : (m w : ℕ) → m * 2 ^ suc w / 2 ≡ m * 2 ^ w
 halved m w = ap (λ k. m * k / 2) (pow-suc 2 w) ∙ omega arith
@@ -173,37 +160,21 @@ module _ (right s : List ℕ) (a : ℕ) where
   unfolding opened
   opened-low i h = bit-up-below 32 i (unionRows (take 31 (drop 1 s)) (enders right a) % 2 ^ 32) h
 
-  module _ (p : ℕ) where
-    abbrev below : ℕ → Bool
-    below k = bit (k - 0) (enders right a) && bit p (row (take 31 (drop 1 s)) k)
-
-    abbrev above : ℕ → Bool
-    above q = bit (q - 1) (enders right a) && bit p (getD s q 0)
-
-    below-above : (k : ℕ) → k < 31 → below k ≡ above (suc k)
-    below-above k l = ap₂ _&&_ (ap (λ i. bit i (enders right a)) (omega arith)) (ap (bit p) (column-row s k l))
-
-    forth : some below (upto 0 64) ≡ true → some above (upto 1 32) ≡ true
-    forth e =
-        let (k, i, t) = some-in below (upto 0 64) e in
-        let (u, v) = upto-in k 0 64 i in
-        ⊎-elim
-        (λ l. absurd (true-not-false (and-right (bit (k - 0) (enders right a)) (bit p (row (take 31 (drop 1 s)) k)) t)
-        (ap (bit p) (column-past s k l) ∙ bit-none p)))
-        (λ l. in-some above (in-upto (suc k) 1 32 (omega arith) (omega arith)) (sym (below-above k l) ∙ t)) (le-or-lt 31 k)
-
-    back : some above (upto 1 32) ≡ true → some below (upto 0 64) ≡ true
-    back e =
-        let (q, i, t) = some-in above (upto 1 32) e in
-        let (u, v) = upto-in q 1 32 i in
-        let z : suc (q - 1) ≡ q = omega arith in
-        in-some below (in-upto (q - 1) 0 64 (omega arith) (omega arith)) (below-above (q - 1) (omega arith) ∙ ap above z ∙ t)
-
-    pub opened-high : p < 32 → bit (32 + p) (opened right s a) ≡ some (λ q. bit (q - 1) (enders right a) && bit p (getD s q 0)) (upto 1 32)
-    unfolding opened
-    opened-high h =
-        bit-up 32 p (unionRows (take 31 (drop 1 s)) (enders right a) % 2 ^ 32)
-        ∙ bit-cut 32 p (unionRows (take 31 (drop 1 s)) (enders right a)) h
-        ∙ bit-union (take 31 (drop 1 s)) (enders right a) p
-        ∙ some-number (λ k. bit p (row (take 31 (drop 1 s)) k)) 0 64 (enders right a)
-        ∙ bool-ext (some below (upto 0 64)) (some above (upto 1 32)) forth back
+  pub opened-high : (p : ℕ) → p < 32
+      → bit (32 + p) (opened right s a) ≡ some (λ q. bit (q - 1) (enders right a) && bit p (getD s q 0)) (upto 1 32)
+  unfolding opened
+  opened-high p h =
+      bit-up 32 p (unionRows (take 31 (drop 1 s)) (enders right a) % 2 ^ 32)
+      ∙ bit-cut 32 p (unionRows (take 31 (drop 1 s)) (enders right a)) h
+      ∙ bit-union (take 31 (drop 1 s)) (enders right a) p
+      ∙ some-number (λ k. bit p (row (take 31 (drop 1 s)) k)) 0 64 (enders right a)
+      ∙ some-higher (λ k. bit (k - 0) (enders right a) && bit p (row (take 31 (drop 1 s)) k))
+      (λ q. bit (q - 1) (enders right a) && bit p (getD s q 0)) 64 32
+      (λ k i e. ⊎-elim
+      (λ l. absurd (true-not-false (and-right (bit (k - 0) (enders right a)) _ e) (ap (bit p) (column-past s k l) ∙ bit-none p)))
+      (λ l. (omega arith, sym (at k l) ∙ e)) (le-or-lt 31 k))
+      (λ k i e. (omega arith, at k (omega arith) ∙ e))
+    where
+      at : (k : ℕ) → k < 31
+          → (bit (k - 0) (enders right a) && bit p (row (take 31 (drop 1 s)) k)) ≡ (bit (suc k - 1) (enders right a) && bit p (getD s (suc k) 0))
+      at k l = ap₂ _&&_ (ap (λ i. bit i (enders right a)) (omega arith)) (ap (bit p) (column-row s k l))

@@ -29,7 +29,7 @@ use Rattle.side_turned.specs.SideTable.{sideTable}
 use Rattle.search_words.specs.Steps.{enders}
 use Rattle.search_words.specs.RingWords.{inM, inN, turnEnds, pairTurns, ringCovered, ringFinals}
 use Rattle.search_words.proofs.Tables.{ends-bit, ends-shown}
-use Rattle.search_words.proofs.RingColumns.{some-range}
+use Rattle.search_words.proofs.Upto.{some-range}
 use Rattle.search_words.proofs.RingShown.{rowM, rowN, ringShown, GoodRing, map-same, inN-from}
 use Rattle.search_words.proofs.RingRows.{inM-none, rowM-states}
 

@@ -29,7 +29,8 @@ use Rattle.search_words.specs.Steps.{stepFrom, stepSet, enders, nullAt}
 use Rattle.search_words.specs.RingWords.{leads, beginColumn, opened, onwardColumn, flag, ringBegin, ringOnward, inN}
 use Rattle.search_words.proofs.Tables.{null-shown, ends-bit, from-small, from-bit, from-shown, set-step-small, set-step-shown}
 use Rattle.search_words.proofs.RingLayout.{ring-length, ring-P, ring-column, ring-first, ring-Z}
-use Rattle.search_words.proofs.RingColumns.{some-range, begin-bit, begin-past, begin-small, begin-none, onward-bit, onward-small, onward-none, opened-low, opened-high}
+use Rattle.search_words.proofs.Upto.{some-range}
+use Rattle.search_words.proofs.RingColumns.{begin-bit, begin-past, begin-small, begin-none, onward-bit, onward-small, onward-none, opened-low, opened-high}
 
 -- row p of M and row q of N, for n right occurrences
 unfoldable pub rowM : ℕ → List ℕ → ℕ → List ℕ

@@ -8,8 +8,9 @@ use mathlib.Core.List.{List}
 use lib.ListN.{length, getD}
 use Rattle.kat.specs.Lists.{upto}
 use Rattle.claims.specs.Standings.{Letter}
+use Rattle.search_words.proofs.Upto.{upto-none}
 use Rattle.search_ring.specs.inner.Columns.{spreadOver}
-use Rattle.search_ring.proofs.Columns.{upto-none, spread-more, spread-end}
+use Rattle.search_ring.proofs.Columns.{spread-more, spread-end}
 use borrow.Author.Needs.{needs}
 use Rattle.search_ring.proofs.spread.Statement.{statement}
 use Rattle.search_ring.proofs.spread.Tie as tie

@@ -9,8 +9,9 @@ use lib.ListN.{length}
 use Rattle.kat.specs.Lists.{upto}
 use Rattle.claims.specs.Standings.{Letter}
 use Rattle.bits.proofs.Rows.{shifted-one}
+use Rattle.search_words.proofs.Upto.{upto-none}
 use Rattle.search_ring.specs.inner.Columns.{spreadOver}
-use Rattle.search_ring.proofs.Columns.{upto-none, spread-more, spread-end}
+use Rattle.search_ring.proofs.Columns.{spread-more, spread-end}
 use borrow.Author.Needs.{needs}
 use Rattle.search_ring.proofs.spread_single.Statement.{statement}
 use Rattle.search_ring.proofs.spread_single.Tie as tie
