@@ -4,7 +4,6 @@ use mathlib.Core.Path.{sym, ap, ap₂}
 use mathlib.Core.Bool.{not, _||_}
 use borrow.Author.Tests.{eq-eqb, ne-eqb}
 use Rattle.search_words.specs.RingWords.{flag}
-use borrow.Author.Needs.{needs}
 use Rattle.search_ring.proofs.flagged.Statement.{statement}
 use Rattle.search_ring.proofs.flagged.Tie as tie
 

@@ -9,7 +9,7 @@ use lib.Count.{ones, trailing-le}
 use lib.ListN.{length}
 use Rattle.bits.proofs.Lowest.{Lowest, lowest}
 use Rattle.search_ring.specs.inner.Columns.{pushed}
-use Rattle.search_ring.proofs.Columns.{join-length, pushed-more, pushed-end}
+use Rattle.search_ring.proofs.Columns.{pushed-more, pushed-end}
 use borrow.Author.Needs.{needs}
 use Rattle.search_ring.proofs.push.Statement.{statement}
 use Rattle.search_ring.proofs.push.Tie as tie
