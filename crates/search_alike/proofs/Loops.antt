@@ -3,17 +3,19 @@
 -- Assumes nothing.
 use Prim.Native.Nat.{ℕ, suc, _+_, _-_, _≤_, _<_}
 use native.Mathlib.Omega.{arith}
-use mathlib.Core.Path.{_≡_, refl, sym, _∙_, ap}
-use mathlib.Core.Bool.{Bool, true, false, cond, _&&_}
-use mathlib.Core.List.{[], _∷_}
+use mathlib.Core.Path.{_≡_, sym, _∙_, ap}
+use mathlib.Core.Bool.{Bool, true, false, cond, not, _&&_}
+use mathlib.Core.List.{_∷_}
 use lib.Bits.{bitAnd}
 use lib.Count.{trailingZeros}
 use Rattle.kat.specs.Lists.{counted, upto, every}
+use Rattle.kat.proofs.Bools.{not-true-false}
 use Rattle.claims.specs.Fields.{numberSet}
 use Rattle.bits.specs.Sets.{including}
 use Rattle.bits.proofs.Members.{number-none}
 use Rattle.bits.proofs.Lowest.{Lowest}
 use Rattle.search_alike.specs.Masks.{gathered}
+use Rattle.search_alike.proofs.Tests.{not-false-true}
 
 upto-next : (i e : ℕ) → i < e → upto i e ≡ i ∷ upto (i + 1) e
 upto-next i e h =
@@ -26,12 +28,14 @@ module _ (p : ℕ → Bool) where
   pub every-end : (i e : ℕ) → e ≤ i → every p (upto i e) ≡ true
   every-end i e h = let z : e - i ≡ 0 = omega arith in ap (λ n. every p (counted i n)) z
 
-  -- the lowest does not pass, or the rest decides
-  pub every-fails : (i e : ℕ) → i < e → p i ≡ false → every p (upto i e) ≡ false
-  every-fails i e h f = ap (every p) (upto-next i e h) ∙ ap (λ b. b && every p (upto (i + 1) e)) f
+  -- the code's test of the lowest fails, or the rest decides
+  pub every-fails : (i e : ℕ) → i < e → (x : Bool) → x ≡ p i → not x ≡ true → every p (upto i e) ≡ false
+  every-fails i e h x f k =
+      ap (every p) (upto-next i e h) ∙ ap (λ b. b && every p (upto (i + 1) e)) (sym f ∙ not-true-false x k)
 
-  pub every-passes : (i e : ℕ) → i < e → p i ≡ true → every p (upto (i + 1) e) ≡ every p (upto i e)
-  every-passes i e h f = sym (ap (every p) (upto-next i e h) ∙ ap (λ b. b && every p (upto (i + 1) e)) f)
+  pub every-passes : (i e : ℕ) → i < e → (x : Bool) → x ≡ p i → not x ≡ false → every p (upto (i + 1) e) ≡ every p (upto i e)
+  every-passes i e h x f k =
+      sym (ap (every p) (upto-next i e h) ∙ ap (λ b. b && every p (upto (i + 1) e)) (sym f ∙ not-false-true x k))
 
 module _ (p : ℕ → Bool) (w : ℕ) where
   -- nothing left

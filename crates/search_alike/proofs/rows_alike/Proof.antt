@@ -5,9 +5,7 @@ use native.Mathlib.Omega.{arith}
 use mathlib.Core.Path.{_≡_, sym, _∙_, ap}
 use borrow.Author.Needs.{needs}
 use Rattle.kat.specs.Lists.{upto, every}
-use Rattle.kat.proofs.Bools.{not-true-false}
 use Rattle.search_alike.specs.Masks.{rowAlike, rowsAlike}
-use Rattle.search_alike.proofs.Tests.{not-false-true}
 use Rattle.search_alike.proofs.Loops.{every-end, every-fails, every-passes}
 use Rattle.search_alike.proofs.rows_alike.Statement.{statement}
 use Rattle.search_alike.proofs.rows_alike.Tie as tie
@@ -39,8 +37,8 @@ returns c =
     let a = c .before .before .before .before .before .args in
     let l = c .before .before .before .loop in
     sym
-    (every-fails (rowAlike (a .table .now) (a .r) (a .a) (a .b)) (l .p) _ (omega arith)
-    (sym (c .before .row-alike .ensures) ∙ not-true-false _ (c .if1 .taken)))
+    (every-fails (rowAlike (a .table .now) (a .r) (a .a) (a .b)) (l .p) _ (omega arith) (c .before .row-alike .result)
+    (c .before .row-alike .ensures) (c .if1 .taken))
     ∙ l .inv
 
 add-p : tie.Need-add-p Inv-loop μ-loop
@@ -53,8 +51,8 @@ loop-again : tie.Need-loop-again Inv-loop μ-loop
 loop-again c =
     let a = c .before .before .before .before .before .args in
     let l = c .before .before .before .loop in
-    every-passes (rowAlike (a .table .now) (a .r) (a .a) (a .b)) (l .p) _ (omega arith)
-    (sym (c .before .row-alike .ensures) ∙ not-false-true _ (c .if1 .left))
+    every-passes (rowAlike (a .table .now) (a .r) (a .a) (a .b)) (l .p) _ (omega arith) (c .before .row-alike .result)
+    (c .before .row-alike .ensures) (c .if1 .left)
     ∙ l .inv
 
 returns-2 : tie.Need-returns-2 Inv-loop μ-loop
