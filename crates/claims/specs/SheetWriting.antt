@@ -16,11 +16,11 @@ use Rattle.claims.specs.SheetBytes.{standingBytes, standingFields}
 use Rattle.claims.specs.SheetReading.{Said, saysProved, saysRefuted, tagged}
 use Rattle.claims.specs.Verdicts.{Distinct}
 
--- each number of the list is a byte
+-- each number of the list is a byte ("Sheet and graph bytes")
 abbrev pub AllBytes : List ℕ → Type 0
 AllBytes bs = (b : ℕ) → In b bs → b < 256
 
--- the list rises strictly, from lo or above to below hi
+-- a set as a list: it rises strictly, from lo or above to below hi ("Sheet and graph bytes")
 abbrev pub RisingWithin : ℕ → ℕ → List ℕ → Type 0
 RisingWithin lo hi [] = Unit {0}
 RisingWithin lo hi (k ∷ ks) = (lo ≤ k) × (k < hi) × RisingWithin (suc k) hi ks
@@ -61,11 +61,12 @@ MaySay D (saysRefuted w) = InRange D w × (length (numbers w) < 65536)
 abbrev pub refutedSheet : Word → List ℕ
 refutedSheet w = field 1 (2 ∷ []) ++ field 2 (numbers w)
 
--- the bytes of a part, and how many fields it has ("Sheet and graph bytes")
+-- the bytes of a part ("Sheet and graph bytes")
 abbrev pub partBytes : (D : Decision) → Said D → List ℕ
 partBytes D (saysProved ss) = field 1 (1 ∷ []) ++ standingFields (claimSystem D) (standingBytes (D .ring) D) ss
 partBytes D (saysRefuted w) = refutedSheet w
 
+-- how many fields it has ("Sheet and graph bytes")
 abbrev pub partFields : (D : Decision) → Said D → ℕ
 partFields D (saysProved ss) = suc (length ss)
 partFields D (saysRefuted w) = 2
@@ -76,11 +77,12 @@ pub record IsSheet (D : Decision) (bs : List ℕ) : Type 0 where
   pub good : MaySay D said
   pub bytes : bs ≡ partBytes D said
 
--- the bytes begin with a part, and after a proved part no further standing comes ("Sheet and graph bytes")
+-- the bytes behind a part do not go on with it: after a proved part no further standing comes ("Sheet and graph bytes")
 abbrev pub Ends : (D : Decision) → Said D → List ℕ → Type 0
 Ends D (saysProved ss) rest = tagged 3 rest ≡ false
 Ends D (saysRefuted w) rest = Unit {0}
 
+-- the bytes begin with a part, and the rest stands behind it ("Sheet and graph bytes")
 pub record IsPart (D : Decision) (bs : List ℕ) (said : Said D) (rest : List ℕ) : Type 0 where
   pub good : MaySay D said
   pub bytes : bs ≡ partBytes D said ++ rest
@@ -93,16 +95,19 @@ pub data Begun (D : Decision) : Type 0 where
   refutedOnly : Begun D
   saying : Said D → Begun D
 
+-- the bytes of a beginning ("Sheet and graph bytes")
 abbrev pub begunBytes : (D : Decision) → Begun D → List ℕ
 begunBytes D nothing = []
 begunBytes D refutedOnly = field 1 (2 ∷ [])
 begunBytes D (saying s) = partBytes D s
 
+-- how many fields it has ("Sheet and graph bytes")
 abbrev pub begunFields : (D : Decision) → Begun D → ℕ
 begunFields D nothing = 0
 begunFields D refutedOnly = 1
 begunFields D (saying s) = partFields D s
 
+-- what it says, a part may say ("Sheet and graph bytes")
 abbrev pub MayBegin : (D : Decision) → Begun D → Type 0
 MayBegin D nothing = Unit {0}
 MayBegin D refutedOnly = Unit {0}

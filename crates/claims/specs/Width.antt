@@ -11,10 +11,10 @@ width = 32
 unfoldable pub rowLength : ℕ
 rowLength = width / 8
 
--- a ring standing takes a word for each number, a column of its tables, and words beside them: P, first atom, Z, parent, letter and three
--- to spare ("Standings")
+-- the words of a ring standing beside the columns of its tables: P, first atom, Z, parent, letter and three to spare ("Standings")
 unfoldable pub besideColumns : ℕ
 besideColumns = 8
 
+-- the words of a ring standing: a column of its tables for each number, and those beside them ("Standings")
 unfoldable pub ringWords : ℕ
 ringWords = width + besideColumns
