@@ -17,3 +17,4 @@ pub mod RingShown
 pub mod RingEqual
 pub mod RingRows
 pub mod RingFinals
+pub mod RingVerdict

@@ -5,8 +5,9 @@ use Prim.Native.Nat.{ℕ, zero, suc, _-_, _/_, _^_, _≤_, _<_}
 use native.Mathlib.Omega.{arith}
 use mathlib.Core.Path.{_≡_, refl, sym, _∙_, ap}
 use mathlib.Core.Logic.{⊎-elim}
-use mathlib.Core.Bool.{Bool, false, cond}
+use mathlib.Core.Bool.{Bool, false, cond, not}
 use mathlib.Core.List.{List, []}
+use lib.Dec.{eqb}
 use lib.ListN.{getD}
 use lib.Pow.{pow-pos, shr-lt}
 use native.Mathlib.Nat.{pow-le-pow-right, lt-of-lt-of-le}
@@ -94,3 +95,12 @@ module _ (l n : ℕ) (few : n ≤ 31) (u : List ℕ) (good : GoodRing l n u) whe
       ∙ inN-some u q i h ∙ sym (bit-down 32 i (getD u q 0))))
       (λ a. ap (setNumber 0) (past-upto (rowN n u) [] (suc n) q (omega arith)) ∙ sym (ap (λ w. w / 2 ^ 32) (good .column-past q a k)))
       (le-or-lt q n)
+
+  -- Z as the sheet has it
+  pub flag-byte : cond (ringShown l n u .Z) 1 0 ≡ getD u 33 0
+  unfolding ringShown
+  flag-byte = go (getD u 33 0) (good .flag-small)
+    where
+      go : (z : ℕ) → z < 2 → cond (not (eqb z 0)) 1 0 ≡ z
+      go zero h = refl
+      go (suc z) h = ap (λ b. cond (not b) 1 0) (ne-eqb (suc z) 0 (λ e. omega arith)) ∙ omega arith
