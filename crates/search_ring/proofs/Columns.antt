@@ -6,11 +6,11 @@ use native.Mathlib.Omega.{arith}
 use mathlib.Core.Path.{_≡_, refl, sym, _∙_, ap, ap₂}
 use mathlib.Core.Logic.{⊎-elim}
 use mathlib.Core.Bool.{Bool, true, false, cond, not, _&&_, and-true, and-false}
-use mathlib.Core.List.{List, [], _∷_}
+use mathlib.Core.List.{List, [], _∷_, _++_}
 use lib.Bits.{bitAnd, bitOr, or-zero-r}
 use lib.Count.{trailingZeros}
-use lib.ListN.{length, getD, set, take, length-set, length-take}
-use lib.Seq.{getD-take, getD-set-same, getD-set-other}
+use lib.ListN.{length, getD, set, take, drop, length-set, length-take, length-drop, length-append, length-replicate, getD-replicate, List·getD-append}
+use lib.Seq.{ext-getD, drop-at, drop-set-lt, getD-take, getD-drop, getD-set-same, getD-set-other}
 use borrow.Author.Tests.{lt-ltb, le-ltb, eq-eqb, ne-eqb}
 use Rattle.kat.specs.Lists.{upto}
 use Rattle.kat.proofs.Bools.{le-or-lt}
@@ -18,7 +18,6 @@ use Rattle.claims.specs.Query.{bit}
 use Rattle.claims.specs.Standings.{Letter}
 use Rattle.words.specs.Memory.{words, between, zeros}
 use Rattle.words.proofs.Words.{words-length, words-at, words-ext, words-same, same-or-not, inside, above, inside-out}
-use Rattle.words.proofs.Zeros.{zeros-words}
 use Rattle.bits.proofs.Bit.{bit-none, or-assoc}
 use Rattle.bits.proofs.Lowest.{Lowest}
 use Rattle.search_words.specs.Steps.{stepFrom}
@@ -26,6 +25,30 @@ use Rattle.search_words.specs.RingWords.{ringWords, leads, joined}
 use Rattle.search_words.proofs.RingLayout.{ring-is}
 use Rattle.search_words.proofs.Upto.{upto-more}
 use Rattle.search_ring.specs.inner.Columns.{columnJoined, columnOf, pushed, spreadOver, laidOut}
+
+-- two memories that agree behind the standing
+behind-same : (u v : List ℕ) → length u ≡ 40 → length v ≡ 40 → ((i : ℕ) → 34 ≤ i → i < 40 → getD u i 0 ≡ getD v i 0) → drop 34 u ≡ drop 34 v
+behind-same u v e f h =
+    ext-getD 0 (drop 34 u) (drop 34 v) (length-drop 34 u ∙ ap (λ n. n - 34) (e ∙ sym f) ∙ sym (length-drop 34 v))
+    (λ i l. getD-drop 34 u i 0 ∙ h (34 + i) (omega arith) (omega (arith, length-drop 34 u)) ∙ sym (getD-drop 34 v i 0))
+
+zeros-length : (n : ℕ) → length (zeros n) ≡ n
+unfolding zeros
+zeros-length n = length-replicate n 0
+
+-- a memory with the words of the standing 0
+module _ (to : List ℕ) (full : length to ≡ 40) where
+  pub wiped-length : length (zeros 34 ++ drop 34 to) ≡ 40
+  wiped-length =
+      length-append (zeros 34) (drop 34 to) ∙ omega (arith, zeros-length 34, length-drop 34 to)
+
+  pub wiped-column : (q : ℕ) → q < 34 → getD (zeros 34 ++ drop 34 to) q 0 ≡ 0
+  unfolding zeros
+  wiped-column q h =
+      List·getD-append (zeros 34) (drop 34 to) 0 q (omega (arith, zeros-length 34)) ∙ getD-replicate 34 q 0 0 h
+
+  pub wiped-behind : drop 34 (zeros 34 ++ drop 34 to) ≡ drop 34 to
+  wiped-behind = drop-at (zeros 34) (drop 34 to) 34 (zeros-length 34)
 
 -- one column joined, or none
 module _ (to : List ℕ) (k w : ℕ) where
@@ -176,13 +199,21 @@ module _ (right : List ℕ) (l : Letter) (w : ℕ → ℕ) where
       ap (λ x. spreadOver right l w (upto (o + 1) e) (pushed to (stepFrom right o (l .atom) (l .relation)) x)) z
       ∙ spread-cons o (upto (o + 1) e) to ∙ ap (λ os. spreadOver right l w os to) (sym (upto-more o e h))
 
-  -- in a memory that was empty
-  pub spread-column : (os : List ℕ) (q : ℕ) → 1 ≤ q → q < 32 → getD (spreadOver right l w os (zeros 40)) q 0 ≡ joined right l w q os
+  -- in a column that was empty
+  pub spread-column : (os to : List ℕ) (q : ℕ) → 1 ≤ q → q < 32 → getD to q 0 ≡ 0
+      → getD (spreadOver right l w os to) q 0 ≡ joined right l w q os
   unfolding spreadOver
-  spread-column os q h k =
-      words-at 40 (spreadAt os (zeros 40)) q (omega arith)
-      ∙ ap₂ (λ x b. bitOr x (cond b (joined right l w q os) 0))
-      (ap (λ t. getD t q 0) (zeros-words 40) ∙ words-at 40 (λ i. 0) q (omega arith)) (inside 1 32 q h k)
+  spread-column os to q h k e =
+      words-at 40 (spreadAt os to) q (omega arith)
+      ∙ ap₂ (λ x b. bitOr x (cond b (joined right l w q os) 0)) e (inside 1 32 q h k)
+
+  -- the words behind the standing
+  pub spread-behind : (os to : List ℕ) → length to ≡ 40 → drop 34 (spreadOver right l w os to) ≡ drop 34 to
+  unfolding spreadOver
+  spread-behind os to e =
+      behind-same (words 40 (spreadAt os to)) to (words-length 40 (spreadAt os to)) e
+      (λ i h k. words-at 40 (spreadAt os to) i k
+      ∙ ap (λ b. bitOr (getD to i 0) (cond b (joined right l w i os) 0)) (above 1 32 i (omega arith)) ∙ or-zero-r (getD to i 0))
 
 -- a set sent into columns that are there
 pub pushed-column : (to : List ℕ) (s w q : ℕ) → 1 ≤ q → q < 32 → getD (pushed to s w) q 0 ≡ bitOr (getD to q 0) (cond (bit (q - 1) s) w 0)
@@ -190,6 +221,18 @@ unfolding pushed columnOf
 pushed-column to s w q h k =
     words-at 40 (λ i. bitOr (getD to i 0) (cond (columnOf s i) w 0)) q (omega arith)
     ∙ ap (λ b. bitOr (getD to q 0) (cond (b && bit (q - 1) s) w 0)) (inside 1 32 q h k)
+
+pub pushed-behind : (to : List ℕ) (s w : ℕ) → length to ≡ 40 → drop 34 (pushed to s w) ≡ drop 34 to
+unfolding pushed
+pushed-behind to s w e =
+    behind-same (words 40 (pushedAt to w s)) to (words-length 40 (pushedAt to w s)) e
+    (λ i h k. words-at 40 (pushedAt to w s) i k ∙ ap (λ b. bitOr (getD to i 0) (cond b w 0)) (column-out s i (omega arith)) ∙ or-zero-r (getD to i 0))
+
+pub laid-behind : (to : List ℕ) (p first z : ℕ) → drop 34 (laidOut to p first z) ≡ drop 34 to
+unfolding laidOut
+laid-behind to p first z =
+    drop-set-lt 34 (set (set to 0 p) 32 first) 33 z (omega arith) ∙ drop-set-lt 34 (set to 0 p) 32 first (omega arith)
+    ∙ drop-set-lt 34 to 0 p (omega arith)
 
 -- the words of a standing, once P, the first atom and Z are in their places
 pub laid-words : (to : List ℕ) (p first z : ℕ) (column : ℕ → ℕ) → length to ≡ 40

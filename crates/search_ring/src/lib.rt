@@ -11,8 +11,10 @@ ghost use Prim.Native.Nat.{suc, _≤_, _^_};
 ghost use mathlib.Core.Path.{_≡_};
 ghost use mathlib.Core.Bool.{not, _||_};
 ghost use lib.Dec.{eqb};
-ghost use lib.ListN.{length, getD, take};
+ghost use mathlib.Core.List.{_++_};
+ghost use lib.ListN.{length, getD, take, drop};
 ghost use Rattle.kat.specs.Lists.{upto};
+ghost use Rattle.words.specs.Memory.{zeros};
 ghost use Rattle.search_words.specs.Steps.{stepFrom};
 ghost use Rattle.search_words.specs.RingWords.{opened, flag, ringBegin, ringOnward};
 ghost use Rattle.search_ring.specs.inner.Columns.{columnJoined, pushed, spreadOver, laidOut};
@@ -99,6 +101,14 @@ fn flagged(z: u64, null: bool) -> u64
     if null { 1 } else { 0 }
 }
 
+// The 34 words of a standing, all 0.
+fn wipe(to: &mut [u64])
+    requires { ⌜ length (now to) ≡ 40 ⌝ }
+    ensures { λ r. ⌜ now (to .exit) ≡ zeros 34 ++ drop 34 (now (to .entry)) ⌝ }
+{
+    clear(&mut to[0..34]);
+}
+
 // P, the first atom and Z in their places.
 fn lay_out(to: &mut [u64], p: u64, first: u64, z: u64)
     ensures { λ r. ⌜ now (to .exit) ≡ laidOut (now (to .entry)) p first z ⌝ }
@@ -117,12 +127,13 @@ pub fn begin(
     r: usize,
     to: &mut [u64; 40],
 )
-    ensures { λ x. ⌜ take 34 (now (to .exit)) ≡ ringBegin (now (left .entry)) (now (right .entry)) n (record { atom = a; relation = r }) ⌝ }
+    ensures { λ x. ⌜ (take 34 (now (to .exit)) ≡ ringBegin (now (left .entry)) (now (right .entry)) n (record { atom = a; relation = r }))
+        × (drop 34 (now (to .exit)) ≡ drop 34 (now (to .entry))) ⌝ }
 {
     let p = step_from(left, 0, a, r);
     let z = flagged(0, null_at(right, a));
     let m = words::least(n, 31);
-    clear(to);
+    wipe(to);
     spread_single(right, m, a, r, to);
     lay_out(to, p, a as u64, z);
 }
@@ -136,15 +147,16 @@ pub fn onward(
     r: usize,
     to: &mut [u64; 40],
 )
-    ensures { λ x. ⌜ take 34 (now (to .exit))
-        ≡ ringOnward (now (left .entry)) (now (right .entry)) (take 34 (now (from .entry))) (record { atom = a; relation = r }) ⌝ }
+    ensures { λ x. ⌜ (take 34 (now (to .exit))
+        ≡ ringOnward (now (left .entry)) (now (right .entry)) (take 34 (now (from .entry))) (record { atom = a; relation = r }))
+        × (drop 34 (now (to .exit)) ≡ drop 34 (now (to .entry))) ⌝ }
 {
     let all = &from[..];
     let s = &all[0..34];
     let p = step_set(left, s[0], a, r);
     let z = flagged(s[33], null_at(right, a));
     let fresh = opened_at(right, s, a);
-    clear(to);
+    wipe(to);
     spread(right, s, a, r, to);
     send(right, 0, a, r, fresh, to);
     lay_out(to, p, s[32], z);

@@ -5,8 +5,10 @@ use mathlib.Core.Path.{_≡_, _∙_, ap}
 use mathlib.Core.Bool.{not, _||_}
 use lib.Dec.{eqb}
 use lib.ListN.{length, getD, take}
-use Rattle.words.specs.Memory.{zeros}
+use Rattle.kat.specs.Lists.{upto}
+use Rattle.claims.specs.Standings.{Letter}
 use Rattle.search_words.specs.RingWords.{flag}
+use Rattle.search_ring.specs.inner.Columns.{spreadOver}
 use Rattle.search_ring.proofs.Standing.{onward-laid}
 use borrow.Author.Needs.{needs}
 use Rattle.search_ring.proofs.onward.Statement.{statement}
@@ -39,8 +41,8 @@ flagged-requires c κs = search needs
 opened-at-requires : tie.Need-opened-at-requires
 opened-at-requires c κs = search needs
 
-clear-requires : tie.Need-clear-requires
-clear-requires c κs = search needs
+wipe-requires : tie.Need-wipe-requires
+wipe-requires c κs = search needs
 
 spread-requires : tie.Need-spread-requires
 spread-requires c κs = search needs
@@ -61,10 +63,11 @@ returns c =
     let e = d .before .before .before in
     let a = e .before .before .before .before .args in
     let s = take 34 (a .from .now) in
-    let len : length (a .to .now) ≡ 40 = omega arith in
-    onward-laid (a .left .now) (a .right .now) (record { atom = a .a; relation = a .r }) _ _ (b .before .before .opened-at .result) s _ _ _ _
-    (b .clear .ensures ∙ ap zeros len) (c .before .before .before .before .before .spread .ensures) (b .before .before .opened-at .ensures)
-    (c .before .before .before .send .ensures) (e .step-set .ensures)
+    let full : length (a .to .now) ≡ 40 = omega arith in
+    let l : Letter = record { atom = a .a; relation = a .r } in
+    onward-laid (a .left .now) (a .right .now) l (a .to .now) full _ _ (b .before .before .opened-at .result) s _ _ _
+    (c .before .before .before .before .before .spread .ensures ∙ ap (spreadOver (a .right .now) l (λ o. getD s o 0) (upto 1 32)) (b .wipe .ensures))
+    (b .before .before .opened-at .ensures) (c .before .before .before .send .ensures) (e .step-set .ensures)
     (d .flagged .ensures ∙ ap (λ n. flag (not (eqb (getD s 33 0) 0) || n)) (d .before .null-at .ensures)) (c .lay-out .ensures)
 
 pub onward-spec : {M : Type 1} → statement M
@@ -80,7 +83,7 @@ onward-spec =
     null-at-requires
     flagged-requires
     opened-at-requires
-    clear-requires
+    wipe-requires
     spread-requires
     send-requires
     shared-slice-read-lay-out
