@@ -43,7 +43,7 @@ unfolding field
 field-of tag n contents e = ap (λ k. tag ∷ (bigEndian 2 k ++ contents)) (sym e)
 
 -- a row, and then the others
-upto-more : (i e : ℕ) → i < e → upto i e ≡ i ∷ upto (i + 1) e
+pub upto-more : (i e : ℕ) → i < e → upto i e ≡ i ∷ upto (i + 1) e
 upto-more i e h =
     let y : e - i ≡ suc (e - (i + 1)) = omega arith in
     let z : suc i ≡ i + 1 = omega arith in

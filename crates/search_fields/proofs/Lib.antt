@@ -4,5 +4,7 @@ pub mod Written
 pub mod Rows
 -- The parts of a field are the field.
 pub mod Fields
+-- The field looks at the first words only.
+pub mod FirstWords
 -- The field of words is the field of the standing that they show.
 pub mod FieldShown

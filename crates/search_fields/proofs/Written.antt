@@ -4,9 +4,9 @@ use Prim.Native.Nat.{ℕ, zero, suc, _+_, _-_, _/_, _%_, _^_, _≤_, _<_}
 use native.Mathlib.Nat.{div-one, div-div-eq-div-mul, pow-succ'}
 use native.Mathlib.Omega.{arith}
 use mathlib.Core.Path.{_≡_, refl, sym, _∙_, ap, ap₂}
-use mathlib.Core.List.{List, [], _∷_, _++_, append-assoc}
-use lib.ListN.{length, take, drop, set, take-append-drop, length-append, length-drop}
-use lib.Seq.{take-at, drop-at, drop-drop, length-take-le, set-split, take-set-le, drop-set-add, append-snoc}
+use mathlib.Core.List.{List, [], _∷_, _++_, append-assoc, append-nil}
+use lib.ListN.{length, take, drop, set, take-append-drop, length-append, length-drop, drop-of-length-le}
+use lib.Seq.{take-at, drop-at, drop-drop, take-take, take-all, take-append-le, drop-append-le, length-take-le, set-split, take-set-le, drop-set-add, append-snoc}
 use Rattle.claims.specs.Fields.{bigEndian}
 use Rattle.claims.proofs.Bytes.{bigEndian-length}
 use Rattle.search_fields.specs.Written.{written, over}
@@ -106,3 +106,37 @@ unfolding bigEndian
 number-end at k m xs h =
     let z : 0 ≡ k = omega arith in
     sym (over-none at xs) ∙ ap (λ n. over at (bigEndian n m) xs) z
+
+-- the bytes ds from place at + n on, and then the n bytes bs before them
+pub over-before : (at n : ℕ) (bs ds xs : List ℕ) → at + n ≤ length xs → length bs ≡ n → over at bs (over (at + n) ds xs) ≡ over at (bs ++ ds) xs
+unfolding over written
+over-before at n bs ds xs h e =
+    ap₂ (λ l r. l ++ (bs ++ drop (length bs) r))
+    (take-append-le at front behind (omega (arith, front-length)) ∙ take-take at (at + n) xs (omega arith))
+    (drop-append-le at front behind (omega (arith, front-length)))
+    ∙ ap (λ r. take at xs ++ (bs ++ r)) (drop-at (drop at front) behind (length bs) (omega (arith, length-drop at front, front-length)))
+    ∙ ap (λ r. take at xs ++ (bs ++ (ds ++ r))) rest
+    ∙ ap (λ l. take at xs ++ l) (sym (append-assoc bs ds (drop (length (bs ++ ds)) (drop at xs))))
+  where
+    front : List ℕ
+    front = take (at + n) xs
+
+    behind : List ℕ
+    behind = ds ++ drop (length ds) (drop (at + n) xs)
+
+    front-length : length front ≡ at + n
+    front-length = length-take-le (at + n) xs h
+
+    rest : drop (length ds) (drop (at + n) xs) ≡ drop (length (bs ++ ds)) (drop at xs)
+    rest =
+        let z : at + n + length ds ≡ at + length (bs ++ ds) = omega (arith, length-append bs ds) in
+        drop-drop (length ds) (at + n) xs ∙ ap (λ k. drop k xs) z ∙ sym (drop-drop (length (bs ++ ds)) at xs)
+
+-- a part of a slice, from a place to its end, comes back with bytes put at its start
+pub part-written : (at : ℕ) (bs xs ys : List ℕ) → at ≤ length xs → ys ≡ written bs (take (length xs - at) (drop at xs))
+    → take at xs ++ (ys ++ drop (length xs - at) (drop at xs)) ≡ over at bs xs
+unfolding over
+part-written at bs xs ys h e =
+    let z : length (drop at xs) ≤ length xs - at = omega (arith, length-drop at xs) in
+    ap₂ (λ l r. take at xs ++ (l ++ r)) (e ∙ ap (written bs) (take-all (length xs - at) (drop at xs) z)) (drop-of-length-le (drop at xs) z)
+    ∙ ap (λ l. take at xs ++ l) (append-nil (written bs (drop at xs)))
