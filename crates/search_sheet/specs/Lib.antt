@@ -1,0 +1,2 @@
+-- The sheet of a verdict from the memory of standings.
+pub mod SheetWords
