@@ -15,11 +15,10 @@ use borrow.Author.Tests.{ltb-true, lt-ltb, eqb-true, eq-eqb, ne-eqb}
 use Rattle.kat.specs.Lists.{upto, some}
 use Rattle.kat.specs.Closure.{Table, entry, closure}
 use Rattle.kat.proofs.Bools.{true-not-false, or-cases, or-left, or-right, and-left, and-right, and-both}
-use Rattle.kat.proofs.Sets.{in-some, in-upto, upto-in}
+use Rattle.kat.proofs.Sets.{in-some, in-upto, upto-in, some-same}
 use Rattle.claims.specs.Query.{bit}
 use Rattle.bits.specs.Sets.{allBelow, row, anyMember}
 use Rattle.bits.proofs.Bit.{bit-and, bit-none}
-use Rattle.bits.proofs.Lists.{some-same}
 use Rattle.bits.proofs.Members.{some-number}
 use Rattle.bits.proofs.Rows.{bit-all}
 use Rattle.search_words.specs.Steps.{enders}
