@@ -45,14 +45,14 @@ rowM-states n u p =
     ∙ ap (λ k. filter (inM u p) (counted 0 k)) (sym y)
 
 -- bit k of the number of those below m that pass a test
-number-bit : (f : ℕ → Bool) (m k : ℕ) → ((i : ℕ) → m ≤ i → i < 32 → f i ≡ false) → k < 32 → bit k (setNumber 0 (filter f (upto 0 m))) ≡ f k
+pub number-bit : (f : ℕ → Bool) (m k : ℕ) → ((i : ℕ) → m ≤ i → i < 32 → f i ≡ false) → k < 32 → bit k (setNumber 0 (filter f (upto 0 m))) ≡ f k
 number-bit f m k h l =
     ⊎-elim
     (λ a. bit-above (m - 0) k (setNumber 0 (filter f (upto 0 m))) (number-small f 0 m (omega arith)) (omega arith) ∙ sym (h k a l))
     (λ a. ap (λ i. bit i (setNumber 0 (filter f (upto 0 m)))) (omega arith) ∙ bit-of f 0 m k (omega arith) (omega arith) a)
     (le-or-lt m k)
 
-number-below : (f : ℕ → Bool) (m : ℕ) → m ≤ 32 → setNumber 0 (filter f (upto 0 m)) < 2 ^ 32
+pub number-below : (f : ℕ → Bool) (m : ℕ) → m ≤ 32 → setNumber 0 (filter f (upto 0 m)) < 2 ^ 32
 number-below f m h =
     lt-of-lt-of-le (number-small f 0 m (omega arith)) (pow-le-pow-right {n = 2} (omega arith) {i = m - 0} {j = 32} (omega arith))
 
