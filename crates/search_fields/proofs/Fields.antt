@@ -1,7 +1,7 @@
 -- The parts of a field put one behind the other are the field: header and contents of a path standing and of a ring standing, and the rows
 -- of a table one after the other.
 -- Assumes nothing.
-use Prim.Native.Nat.{ℕ, suc, _+_, _-_, _*_, _≤_, _<_}
+use Prim.Native.Nat.{ℕ, _+_, _-_, _*_, _≤_, _<_}
 use native.Mathlib.Omega.{arith}
 use mathlib.Core.Path.{_≡_, refl, sym, _∙_, ap, ap₂}
 use mathlib.Core.Bool.{Bool, true, false, cond}
@@ -11,6 +11,7 @@ use Rattle.kat.specs.Lists.{counted, upto}
 use Rattle.kat.proofs.Sets.{counted-length}
 use Rattle.claims.specs.Fields.{bigEndian, field}
 use Rattle.claims.proofs.Bytes.{bigEndian-length}
+use Rattle.search_words.proofs.Upto.{upto-more}
 use Rattle.search_fields.specs.Written.{written, over}
 use Rattle.search_fields.specs.FieldWords.{rowNumber, rowsFrom, rowsBytes, contentsWords, fieldWords, fieldLength}
 use Rattle.search_fields.proofs.Written.{written-next, written-set, over-none, over-next}
@@ -43,12 +44,6 @@ unfolding field
 field-of tag n contents e = ap (λ k. tag ∷ (bigEndian 2 k ++ contents)) (sym e)
 
 -- a row, and then the others
-pub upto-more : (i e : ℕ) → i < e → upto i e ≡ i ∷ upto (i + 1) e
-upto-more i e h =
-    let y : e - i ≡ suc (e - (i + 1)) = omega arith in
-    let z : suc i ≡ i + 1 = omega arith in
-    ap (counted i) y ∙ ap (λ k. i ∷ counted k (e - (i + 1))) z
-
 module _ (upper : Bool) (s : List ℕ) where
   pub rows-more : (at p : ℕ) (xs : List ℕ) → p < 32 → at ≤ length xs
       → over (at + 4) (rowsFrom upper s (upto (p + 1) 32)) (over at (bigEndian 4 (rowNumber upper s p)) xs)

@@ -12,11 +12,12 @@ use Rattle.kat.specs.Ring.{Prefix, nothing, then}
 use Rattle.claims.specs.Fields.{bigEndian, field}
 use Rattle.claims.specs.Verdicts.{relationsIn}
 use Rattle.claims.proofs.Bytes.{bigEndian-length}
+use Rattle.search_words.proofs.Upto.{upto-more}
 use Rattle.search_store.specs.Store.{standingAt, parentAt, letterAt, Room}
 use Rattle.search_fields.specs.Written.{written, over}
 use Rattle.search_fields.specs.FieldWords.{fieldWords, fieldLength}
 use Rattle.search_fields.proofs.Written.{written-next, over-none, over-next, over-before}
-use Rattle.search_fields.proofs.Fields.{upto-more, field-of, field-count}
+use Rattle.search_fields.proofs.Fields.{field-of, field-count}
 use Rattle.search_sheet.specs.SheetWords.{Falling, prefixWithin, prefixIn, letterBytes, prefixBytes, wordBytes, fieldsFrom}
 use Rattle.search_sheet.proofs.PrefixIn.{prefix-more}
 

@@ -36,10 +36,10 @@ pub fn word_length(ring: bool, records: &[[u64; 4]], words: &[u64], place: usize
     requires { ⌜ Falling ring (now records) (now words) place ⌝ }
     ensures { λ r. ⌜ (r ≤ place) × (r ≡ relationsIn (prefixIn ring (now (records .entry)) (now (words .entry)) place)) ⌝ }
 {
-    let mut p = place;
+    let mut here = place;
     let mut k: usize = 0;
-    while p != 0 {
-        p = parent(ring, records, words, p - 1) as usize;
+    while here != 0 {
+        here = parent(ring, records, words, here - 1) as usize;
         k += 1;
     }
     k

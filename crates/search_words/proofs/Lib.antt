@@ -16,6 +16,5 @@ pub mod RingColumns
 pub mod RingShown
 pub mod RingEqual
 pub mod RingRows
-pub mod RingBytes
 pub mod RingFinals
 pub mod RingVerdict

@@ -27,7 +27,7 @@ sub-parent c = omega arith
 parent-requires : tie.Need-parent-requires Inv-loop μ-loop
 parent-requires c κs =
     let l = c .before .loop in
-    room-below (l .p - 1 + 1) (omega arith) (c .before .before .before .pre .0)
+    room-below (l .here - 1 + 1) (omega arith) (c .before .before .before .pre .0)
 
 add-k : tie.Need-add-k Inv-loop μ-loop
 add-k c = omega arith
@@ -35,17 +35,17 @@ add-k c = omega arith
 loop-less : tie.Need-loop-less Inv-loop μ-loop
 loop-less c =
     let l = c .before .before .loop in
-    omega (arith, c .parent .ensures, c .before .before .before .before .pre .1 (l .p - 1) (omega arith))
+    omega (arith, c .parent .ensures, c .before .before .before .before .pre .1 (l .here - 1) (omega arith))
 
 loop-again : tie.Need-loop-again Inv-loop μ-loop
 loop-again c =
     let a = c .before .before .before .before .args in
     let falls = c .before .before .before .before .pre .1 in
     let l = c .before .before .loop in (
-      omega (arith, c .parent .ensures, falls (l .p - 1) (omega arith)),
+      omega (arith, c .parent .ensures, falls (l .here - 1) (omega arith)),
       omega (
         arith,
-        relations-more (a .ring) (a .records .now) (a .words .now) (a .place) falls (l .p) (omega arith) (omega arith),
+        relations-more (a .ring) (a .records .now) (a .words .now) (a .place) falls (l .here) (omega arith) (omega arith),
         ap (λ q. relationsIn (prefixIn (a .ring) (a .records .now) (a .words .now) q)) (c .parent .ensures),
       ),
     )
