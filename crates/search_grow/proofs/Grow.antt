@@ -1,7 +1,7 @@
 -- Candidates one behind the other: what is fresh of two lists in a row is what is fresh of the first, and then what is fresh of the second
 -- beside it. The order of what was seen does not matter. One candidate is kept or dropped.
 -- Assumes nothing.
-use mathlib.Core.Path.{_≡_, refl, sym, _∙_, ap, ap₂}
+use mathlib.Core.Path.{_≡_, refl, sym, _∙_, ap}
 use mathlib.Core.Bool.{Bool, true, false, not, _&&_, _||_}
 use mathlib.Core.List.{List, [], _∷_, _++_, append-assoc, append-nil}
 use Rattle.kat.specs.Lists.{some}

@@ -8,6 +8,7 @@ use mathlib.Core.Logic.{_⊎_}
 use mathlib.Core.Bool.{Bool, true, false}
 use mathlib.Core.List.{List, [], _∷_, _++_, map}
 use lib.ListN.{length, getD, drop}
+use Rattle.kat.specs.Lists.{upto}
 use Rattle.kat.specs.Ring.{Prefix, then}
 use Rattle.claims.specs.Standings.{Letter}
 use Rattle.claims.specs.Search.{Entry, fresh}
@@ -72,6 +73,11 @@ module _ (k : Shape) (left right : List ℕ) where
   wordsBehind ss place l =
       elim place [ zero ↦ beginWords k left right l | suc i ↦ onwardWords k left right (getD ss i []) l ]
 
+  -- the same, by what the memory has at the place
+  unfoldable pub wordsAt : List (List ℕ) → List ℕ → ℕ → Letter → List ℕ
+  wordsAt r w place l =
+      elim place [ zero ↦ beginWords k left right l | suc i ↦ onwardWords k left right (standingAt (k .ring) r w i) l ]
+
   -- the candidate one letter behind a place
   unfoldable pub candidate : Seen → ℕ → Letter → Entry (wordSystem k left right)
   candidate old place l =
@@ -96,3 +102,11 @@ module _ (k : Shape) (left right : List ℕ) where
   -- from one state to a later one the candidates were noted, where the entries so far begin with the old ones
   abbrev pub Adds : ℕ → Seen → State → State → Seen → Type 0
   Adds cap old s t cands = (more : Seen) → Kept cap s (old ++ more) → Kept cap t (grow (old ++ more) cands)
+
+  -- from one state to a later one the candidates behind a place were noted, by these letters
+  pub record NotedBehind (cap : ℕ) (s t : State) (place : ℕ) (ls : List Letter) : Type 0 where
+    pub adds : (old : Seen) → place ≤ length old → Adds cap old s t (candidates old place ls)
+
+  -- the same for the places from lo to below hi
+  pub record NotedFrom (cap : ℕ) (s t : State) (lo hi : ℕ) (ls : List Letter) : Type 0 where
+    pub adds : (old : Seen) → hi ≤ length old + 1 → Adds cap old s t (candidatesOf old ls (upto lo hi))

@@ -1,32 +1,56 @@
 -- One candidate: where no left occurrence is possible or its standing was seen, nothing is kept; else it is appended, or counted where the
 -- allowance is full.
 -- Assumes nothing.
-use Prim.Native.Nat.{ℕ, _+_, _/_, _%_, _≤_, _<_}
+use Prim.Native.Nat.{ℕ, _+_, _*_, _/_, _%_, _≤_, _<_}
 use native.Mathlib.Omega.{arith}
 use mathlib.Core.Path.{_≡_, refl, sym, _∙_, ap, ap₂, subst}
-use mathlib.Core.Logic.{_⊎_, ⊎-elim}
+use mathlib.Core.Logic.{⊎-elim}
 use mathlib.Core.Logic._⊎_.{inl, inr}
 use mathlib.Core.Bool.{Bool, true, false, not, _&&_}
-use mathlib.Core.List.{List, [], _∷_, _++_, map, map-append}
+use mathlib.Core.List.{List, [], _∷_, _++_, map-append}
 use lib.Dec.{eqb}
-use lib.ListN.{length, getD, length-append, length-map}
+use lib.ListN.{length, getD, drop, length-append, length-map}
 use borrow.Author.Tests.{eq-eqb, ne-eqb}
 use Rattle.kat.specs.Lists.{some}
-use Rattle.kat.specs.Ring.{Prefix, then}
-use Rattle.kat.proofs.Bools.{and-both, false-not-true}
+use Rattle.kat.specs.Ring.{then}
+use Rattle.kat.proofs.Bools.{and-both}
 use Rattle.claims.specs.Bytes.{same}
 use Rattle.claims.specs.Search.{Entry, seenIn, fresh}
 use Rattle.bits.proofs.Lists.{some-map}
 use Rattle.search_words.specs.declared.Shape.{Shape}
-use Rattle.search_words.specs.Systems.{wordSystem}
+use Rattle.words.specs.Memory.{words}
+use Rattle.search_words.specs.Systems.{width, wordSystem}
 use Rattle.search_store.specs.Store.{standingAt, standingIn, Room, Place, recordsAfter, wordsAfter, prefixAt, Holds}
+use Rattle.search_store.proofs.Appended.{records-length, words-length, records-past, words-past, other-records, other-words}
 use Rattle.search_store.proofs.Held.{holds-more, prefix-stays, found-kept, none-kept}
-use Rattle.search_levels.specs.Kept.{State, state, Inside, Ready, Seen, standings, prefixes, Keeps, Kept, grow, entryOf, Adds}
-use Rattle.search_levels.proofs.Grow.{grow-kept, grow-dropped}
+use Rattle.search_grow.specs.Kept.{State, state, Inside, Seen, standings, prefixes, Keeps, Kept, grow, entryOf, Adds}
+use Rattle.search_grow.proofs.Grow.{grow-kept, grow-dropped}
 
 and-false : (a b : Bool) → b ≡ false → (a && b) ≡ false
 and-false true b h = h
 and-false false b h = refl
+
+-- the first word of a standing on its way
+pub first-word : (ring : Bool) (s : List ℕ) → getD (standingIn ring s) 0 0 ≡ getD s 0 0
+unfolding standingIn width words
+first-word true s = refl
+first-word false s = refl
+
+-- a standing appended changes the memory inside
+pub inside-appended : (ring : Bool) (cap : ℕ) (r : List (List ℕ)) (w : List ℕ) (n : ℕ) (arr : List ℕ) (parent letter : ℕ)
+    (r′ : List (List ℕ)) (w′ : List ℕ) → r′ ≡ recordsAfter ring r n arr parent letter → w′ ≡ wordsAfter ring w n arr parent letter → n < cap
+    → Inside ring cap (state r w n) (state r′ w′ (n + 1))
+inside-appended ring cap r w n arr parent letter r′ w′ a b h =
+    record {
+      records-length = ap length a ∙ records-length r w n arr parent letter ring;
+      words-length = ap length b ∙ words-length r w n arr parent letter ring;
+      records-past = ap (drop cap) a ∙ records-past r w n arr parent letter ring cap h;
+      words-past = ap (drop (40 * cap)) b ∙ words-past r w n arr parent letter ring cap h;
+      other-records = λ e. a ∙ other-records r w n arr parent letter ring e;
+      other-words = λ e. b ∙ other-words r w n arr parent letter ring e;
+      low = omega arith;
+      high = omega arith;
+    }
 
 module _ (k : Shape) (left right : List ℕ) where
   -- a standing was seen where it stands among the words kept
@@ -106,11 +130,11 @@ module _ (k : Shape) (left right : List ℕ) where
           ))
           (λ q. absurd (omega (arith, q .0))) h
 
-      pub note-kept : parent ≤ length old → Room (k .ring) (s .records) (s .words) (s .count + 1) → s .count < cap
+      kept-after : parent ≤ length old → Room (k .ring) (s .records) (s .words) (s .count + 1) → s .count < cap
           → Adds k left right cap old s
           (state (recordsAfter (k .ring) (s .records) (s .count) arr parent letter) (wordsAfter (k .ring) (s .words) (s .count) arr parent letter)
           (s .count + 1)) (e ∷ [])
-      note-kept low room c more h = ⊎-elim (λ q. kept (q .1)) (λ q. absurd (omega (arith, q .0))) h
+      kept-after low room c more h = ⊎-elim (λ q. kept (q .1)) (λ q. absurd (omega (arith, q .0))) h
         where
           t : State
           t =
@@ -130,3 +154,9 @@ module _ (k : Shape) (left right : List ℕ) where
                     (holds-more (k .ring) (s .records) (s .words) (s .count) arr parent letter room (standings k left right (old ++ more)) (prefixes k left right (old ++ more))
                     (omega (arith, q .standings-count, length-map (old ++ more) (λ f. f .standing), length-append old more)) q)),
               ))
+
+      pub note-kept : parent ≤ length old → Room (k .ring) (s .records) (s .words) (s .count + 1) → s .count < cap
+          → (r : List (List ℕ)) (w : List ℕ) → r ≡ recordsAfter (k .ring) (s .records) (s .count) arr parent letter
+          → w ≡ wordsAfter (k .ring) (s .words) (s .count) arr parent letter → Adds k left right cap old s (state r w (s .count + 1)) (e ∷ [])
+      note-kept low room c r w a b =
+          subst (λ t. Adds k left right cap old s t (e ∷ [])) (sym (ap₂ (λ x y. state x y (s .count + 1)) a b)) (kept-after low room c)

@@ -3,18 +3,18 @@
 -- Assumes nothing.
 use Prim.Native.Nat.{ℕ, _+_, _≤_, _<_}
 use native.Mathlib.Omega.{arith}
-use mathlib.Core.Path.{_≡_, refl, sym, _∙_, ap, subst}
-use mathlib.Core.Logic.{_⊎_, ⊎-elim}
-use mathlib.Core.Logic._⊎_.{inl, inr}
-use mathlib.Core.Bool.{Bool, true, false}
-use mathlib.Core.List.{List, [], _∷_, _++_, append-assoc}
+use mathlib.Core.Path.{_≡_, refl, sym, _∙_, subst}
+use mathlib.Core.Logic.{⊎-elim}
+use mathlib.Core.Logic._⊎_.{inr}
+use mathlib.Core.Bool.{Bool}
+use mathlib.Core.List.{List, [], _++_, append-assoc}
 use lib.ListN.{length, length-append}
 use Rattle.claims.specs.Search.{fresh}
 use Rattle.search_words.specs.declared.Shape.{Shape}
 use Rattle.search_words.specs.Systems.{wordSystem}
 use Rattle.search_store.specs.Store.{Room}
-use Rattle.search_levels.specs.Kept.{State, Inside, Ready, Seen, Keeps, Kept, grow, Adds}
-use Rattle.search_levels.proofs.Grow.{grow-none, grow-append}
+use Rattle.search_grow.specs.Kept.{State, state, Inside, Ready, Seen, Keeps, Kept, grow, Adds}
+use Rattle.search_grow.proofs.Grow.{grow-none, grow-append}
 
 module _ (ring : Bool) (cap : ℕ) where
   pub inside-none : (s : State) → s .count ≤ cap + 1 → Inside ring cap s s
@@ -56,6 +56,21 @@ module _ (ring : Bool) (cap : ℕ) where
         other-words = λ e. b .other-words e ∙ a .other-words e;
         low = omega (arith, a .low, b .low);
         high = b .high;
+      }
+
+  -- of the memory alone, whatever the count
+  pub inside-memory : (s t : State) (m : ℕ) → m ≤ cap + 1 → Inside ring cap s t
+      → Inside ring cap (state (s .records) (s .words) m) (state (t .records) (t .words) m)
+  inside-memory s t m h a =
+      record {
+        records-length = a .records-length;
+        words-length = a .words-length;
+        records-past = a .records-past;
+        words-past = a .words-past;
+        other-records = a .other-records;
+        other-words = a .other-words;
+        low = omega arith;
+        high = h;
       }
 
   pub still-ready : (s t : State) → Inside ring cap s t → Ready ring cap s → Ready ring cap t

@@ -4,26 +4,25 @@
 use Prim.Native.Nat.{ℕ, zero, suc, _+_, _-_, _≤_, _<_}
 use native.Mathlib.Omega.{arith}
 use mathlib.Core.Path.{_≡_, refl, sym, _∙_, ap, ap₂}
-use mathlib.Core.Logic.{⊎-elim}
 use mathlib.Core.Bool.{Bool, true, false, cond}
-use mathlib.Core.List.{List, [], _∷_, _++_, map, map-append}
+use mathlib.Core.List.{List, [], _∷_, _++_, map}
 use lib.Bits.{bitAnd}
 use lib.Count.{trailingZeros}
 use lib.ListN.{length, getD, drop, drop-of-length-le, List·getD-map}
 use lib.Seq.{drop-cons}
 use Rattle.kat.specs.Lists.{counted, upto, filter}
 use Rattle.kat.specs.Ring.{nothing, then}
-use Rattle.kat.proofs.Bools.{lt-or-le}
 use Rattle.claims.specs.Standings.{Letter, lettersAt, lettersOf}
 use Rattle.claims.specs.Search.{Entry, firstLevel, grown}
 use Rattle.bits.specs.Sets.{members}
+use Rattle.bits.proofs.Members.{number-none}
 use Rattle.bits.proofs.Lowest.{Lowest}
 use Rattle.search_words.specs.declared.Shape.{Shape}
 use Rattle.search_words.specs.Systems.{onwardWords, wordSystem}
 use Rattle.search_words.specs.Over.{nextLevelOver}
 use Rattle.search_store.specs.Store.{prefixAt}
-use Rattle.search_levels.specs.Masks.{tried, lettersIn}
-use Rattle.search_levels.specs.Kept.{Seen, standings, prefixes, wordsBehind, candidate, candidates, candidatesOf}
+use Rattle.search_grow.specs.Masks.{tried}
+use Rattle.search_grow.specs.Kept.{Seen, standings, prefixes, wordsBehind, candidate, candidates, candidatesOf}
 
 -- a range, from its lower end on
 pub upto-more : (i e : ℕ) → i < e → upto i e ≡ i ∷ upto (i + 1) e
@@ -81,6 +80,12 @@ module _ (masks : List ℕ) (relations : ℕ) where
       ap (λ as′. filter (tried masks) (lettersOf as′ (upto 0 relations))) (l .members)
       ∙ filter-append (tried masks) (lettersAt (upto 0 relations) (trailingZeros 64 s))
       (lettersOf (members (bitAnd s (s - 1))) (upto 0 relations))
+
+  pub atoms-none : (s : ℕ) → s ≡ 0 → restOf masks relations s ≡ []
+  unfolding lettersOf
+  atoms-none s e =
+      ap (λ t. filter (tried masks) (lettersOf (members t) (upto 0 relations))) e
+      ∙ ap (λ as′. filter (tried masks) (lettersOf as′ (upto 0 relations))) (number-none 0 64)
 
 -- one letter is tried, or not
 module _ (masks : List ℕ) (l : Letter) where

@@ -1,0 +1,2 @@
+-- A standing by the kind of the claim.
+pub mod ByKind

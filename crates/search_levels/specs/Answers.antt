@@ -1,0 +1,60 @@
+-- What a level completes, and what the search answers. (Document 01, "Standings".) A word is given by the place of its prefix and its last atom.
+-- Assumes nothing.
+use Prim.Native.Nat.{ℕ, _+_, _≤_}
+use mathlib.Core.Path.{_≡_}
+use mathlib.Core.List.{List}
+use mathlib.Core.Option.{Option, some, none}
+use lib.ListN.{drop}
+use Rattle.kat.specs.Word.{Word, end}
+use Rattle.kat.specs.Ring.{onto}
+use Rattle.claims.specs.Standings.{Letter}
+use Rattle.claims.specs.Search.{proved, refuted, spent, completed}
+use Rattle.search_words.specs.declared.Shape.{Shape}
+use Rattle.search_words.specs.Systems.{wordSystem}
+use Rattle.search_words.specs.Over.{levelsOver, verdictOver}
+use Rattle.search_store.specs.Store.{prefixAt}
+use Rattle.search_levels.specs.declared.Hit.{Hit}
+use Rattle.search_levels.specs.declared.Hit.the-variants.{At, Nothing}
+use Rattle.search_levels.specs.declared.Answer.{Answer}
+use Rattle.search_levels.specs.declared.Answer.the-variants.{Proved, Refuted, Spent}
+use Rattle.search_grow.specs.Kept.{State, state, Seen, standings, prefixes, Keeps, Kept}
+
+-- the place of a hit
+abbrev pub hitPlace : Hit → ℕ
+hitPlace (At p a) = p
+hitPlace Nothing = 0
+
+module _ (k : Shape) (left right : List ℕ) where
+  -- the word of a place's prefix and a last atom
+  abbrev pub wordAt : Seen k left right → ℕ → ℕ → Word
+  wordAt seen place a = onto (prefixAt (prefixes k left right seen) place) (end a)
+
+  -- the word of a hit
+  abbrev pub hitWord : Seen k left right → Hit → Option Word
+  hitWord seen (At p a) = some (wordAt seen p a)
+  hitWord seen Nothing = none
+
+  -- the hit is the first refuting word that the entries from lo on complete
+  pub record Completes (s : State) (lo : ℕ) (h : Hit) : Type 0 where
+    pub word : (seen : Seen k left right) → Keeps k left right s seen → completed (wordSystem k left right) (drop lo seen) ≡ hitWord seen h
+    pub within : hitPlace h ≤ s .count
+
+  -- a state in the course of the search: level by level from here on, with the entries from lo on as the last level, gives the verdict
+  pub record Running (ls ms : List Letter) (fuel cap : ℕ) (s : State) (lo : ℕ) : Type 0 where
+    pub seen : Seen k left right
+    pub left-over : ℕ
+    pub enough : cap + 2 ≤ left-over + lo
+    pub kept : Kept k left right cap s seen
+    pub verdict :
+        levelsOver (wordSystem k left right) ms left-over cap seen (drop lo seen) ≡ verdictOver (wordSystem k left right) ls ms fuel cap
+
+  -- the answer is the verdict over the letters ls and ms; where it names standings, the memory keeps them ("Standings")
+  abbrev pub Answered : List Letter → List Letter → ℕ → ℕ → List (List ℕ) → List ℕ → Answer → Type 0
+  Answered ls ms fuel cap r w (Proved n) =
+      (seen : Seen k left right) × (verdictOver (wordSystem k left right) ls ms fuel cap ≡ proved (standings k left right seen))
+      × Keeps k left right (state r w n) seen × (n ≤ cap)
+  Answered ls ms fuel cap r w (Refuted place a) =
+      (seen : Seen k left right) × (n : ℕ)
+      × (verdictOver (wordSystem k left right) ls ms fuel cap ≡ refuted (wordAt seen place a))
+      × Keeps k left right (state r w n) seen × (place ≤ n) × (n ≤ cap)
+  Answered ls ms fuel cap r w Spent = verdictOver (wordSystem k left right) ls ms fuel cap ≡ spent
