@@ -13,7 +13,7 @@ use Rattle.kat.specs.Word.{Word, end, at, size}
 use Rattle.claims.specs.Query.{Query, relations, closed}
 use Rattle.claims.specs.GraphBytes.{Edge, Listed, finite}
 
--- the atoms of a line of events, and of a ring of them ("Words")
+-- the atoms of a line of events ("Words")
 unfoldable pub lineAtoms : Word → List ℕ
 lineAtoms (end a) = a ∷ []
 lineAtoms (at a r w) = a ∷ lineAtoms w

@@ -78,7 +78,7 @@ unfoldable pub lowestEvent : (ℕ → Bool) → List ℕ → Outcome
 lowestEvent f [] = holdsIn
 lowestEvent f (x ∷ xs) = elim (f x) [ true ↦ breaksAt x | false ↦ lowestEvent f xs ]
 
--- the lowest y with which x passes the test, and then the lowest pair by from, then to ("Sheet and graph bytes")
+-- the lowest y with which x passes the test ("Sheet and graph bytes")
 unfoldable pub lowestTo : (ℕ → ℕ → Bool) → ℕ → List ℕ → Outcome
 lowestTo f x [] = holdsIn
 lowestTo f x (y ∷ ys) = elim (f x y) [ true ↦ breaksFrom x y | false ↦ lowestTo f x ys ]

@@ -14,12 +14,13 @@ use Rattle.claims.specs.Judgement.{Outcome, holdsIn, breaksAt, breaksFro
 use Rattle.claims.specs.Meaning.{Related, MeetsAll, ClaimHolds, Meets}
 
 module _ (G : Graph) (q : Query) where
-  -- the event breaks the claim, and so the pair
+  -- the event breaks the claim
   abbrev pub BrokenAt : Claim → G .Event → Type 0
   BrokenAt (includes e f) x = ⊥
   BrokenAt (empty e) x = ⊥
   BrokenAt (irreflexive e) x = Related G q e x x
 
+  -- the pair breaks the claim
   abbrev pub BrokenFrom : Claim → G .Event → G .Event → Type 0
   BrokenFrom (includes e f) x y = Related G q e x y × (Related G q f x y → ⊥)
   BrokenFrom (empty e) x y = Related G q e x y
