@@ -13,7 +13,7 @@ use Rattle.kat.specs.Word.{Word, end}
 use Rattle.kat.specs.Ring.{onto}
 use Rattle.kat.proofs.Sets.{in-map, map-in}
 use Rattle.claims.specs.Standings.{System, Letter, letters}
-use Rattle.claims.specs.Search.{Entry, firstLevel, grown, nextLevel, completed}
+use Rattle.claims.specs.Search.{Entry, firstLevel, lengthened, nextLevel, completed}
 use Rattle.claims.proofs.Pairwise.{pairwise-map, in-rows, rows-in, pairwise-rows}
 use Rattle.claims.specs.Orders.{Pairwise, Rising, Sooner}
 use Rattle.claims.proofs.Letters.{Fits, in-letters, letters-in, letters-sooner}
@@ -25,8 +25,8 @@ module _ (S : System) where
   first-map [] = refl
   first-map (l ∷ ls) = ap (λ es. entryOf S l ∷ es) (first-map ls)
 
-  pub grown-map : (e : Entry S) (ls : List Letter) → grown S e ls ≡ map (entryAfter S e) ls
-  unfolding grown
+  pub grown-map : (e : Entry S) (ls : List Letter) → lengthened S e ls ≡ map (entryAfter S e) ls
+  unfolding lengthened
   grown-map e [] = refl
   grown-map e (l ∷ ls) = ap (λ es. entryAfter S e l ∷ es) (grown-map e ls)
 

@@ -10,7 +10,7 @@ use mathlib.Core.Logic._⊎_.{inl, inr}
 use mathlib.Core.Bool.{Bool, true, false}
 use mathlib.Core.List.{List}
 use Rattle.claims.specs.Query.{Query}
-use Rattle.claims.specs.Refusals.{Cause, number, graphField, sheetField, doesNotPass, Refusal, Result, ok, refused, refuse, onward}
+use Rattle.claims.specs.Refusals.{Cause, number, graphField, sheetField, doesNotPass, Refusal, Result, ok, refused, refuse, afterwards}
 use Rattle.claims.specs.Reading.{read}
 use Rattle.claims.specs.Sides.{Decision}
 use Rattle.claims.specs.SheetReading.{Said, saysProved, saysRefuted, sheetIn}
@@ -43,7 +43,7 @@ passing D (saysRefuted w) e = (passedRefuted, rw (e, passedOf))
 module _ (D : Decision) (within : WithinLimits D) (sheet : List ℕ) where
   well-formed : (s : Said D) → sheet ≡ partBytes D s → MaySay D s → checked D sheet ≡ passedOf D s
   unfolding checked
-  well-formed s p m = ap (λ r. onward r (passedOf D)) (ap (sheetIn D) p ∙ sheet-written D within s m)
+  well-formed s p m = ap (λ r. afterwards r (passedOf D)) (ap (sheetIn D) p ∙ sheet-written D within s m)
 
   not-passing : WellFormed D sheet false → checked D sheet ≡ refuse doesNotPass 0
   not-passing (s, p, m, g) = well-formed s p m ∙ fails D s g
@@ -54,7 +54,7 @@ module _ (D : Decision) (within : WithinLimits D) (sheet : List ℕ) where
   module _ (bytes : AllBytes sheet) where
     wrong-field : (k : ℕ) → WrongSheetField D sheet k → checked D sheet ≡ refuse sheetField k
     unfolding checked
-    wrong-field k w = ap (λ r. onward r (passedOf D)) (sheet-refused D within sheet bytes k .1 w)
+    wrong-field k w = ap (λ r. afterwards r (passedOf D)) (sheet-refused D within sheet bytes k .1 w)
 
     -- one of the three holds of every sheet
     pub sheet-fate : ((k : ℕ) × WrongSheetField D sheet k) ⊎ (WellFormed D sheet false ⊎ WellFormed D sheet true)
@@ -74,7 +74,7 @@ module _ (D : Decision) (within : WithinLimits D) (sheet : List ℕ) where
 -- 1 to 8 first: the reader's refusal, whatever the sheet or the graph is
 pub check-reads-first : (bs sheet : List ℕ) (r : Refusal) → read bs ≡ refused r → check-call bs sheet ≡ refused r
 unfolding check-call
-check-reads-first bs sheet r e = ap (λ x. onward x (λ a. checked (a .decided) sheet)) (asked-refused bs r e)
+check-reads-first bs sheet r e = ap (λ x. afterwards x (λ a. checked (a .decided) sheet)) (asked-refused bs r e)
 
 pub judge-reads-first : (bs graph : List ℕ) (r : Refusal) → read bs ≡ refused r → judge-call bs graph ≡ refused r
 unfolding judge-call
@@ -83,7 +83,7 @@ judge-reads-first bs graph r e = rw (asked-refused bs r e)
 module _ (bs sheet : List ℕ) (q : Query) (a : Accepted bs q) where
   check-accepted : check-call bs sheet ≡ checked (sought a) sheet
   unfolding check-call
-  check-accepted = ap (λ x. onward x (λ b. checked (b .decided) sheet)) (asked-accepted bs q a)
+  check-accepted = ap (λ x. afterwards x (λ b. checked (b .decided) sheet)) (asked-accepted bs q a)
 
   accepted-within : WithinLimits (sought a)
   accepted-within = asked-within-limits bs (asked-accepted bs q a)
@@ -143,7 +143,7 @@ module _ (bs sheet : List ℕ) (bytes : AllBytes sheet) where
 
 module _ (bs graph : List ℕ) (q : Query) (a : Accepted bs q) where
   judge-accepted : judge-call bs graph
-      ≡ onward (graphIn (rangesOf (sought a)) graph) (λ G. ok (judgement (finite G) q (a .claim)))
+      ≡ afterwards (graphIn (rangesOf (sought a)) graph) (λ G. ok (judgement (finite G) q (a .claim)))
   unfolding judge-call
   judge-accepted = rw (asked-accepted bs q a)
 
@@ -156,7 +156,7 @@ pub judge-refused : (bs graph : List ℕ) (c : Cause) (p : ℕ) → judge-call b
 judge-refused bs graph c p e = reads (asked-fate bs)
   where
     goes : (q : Query) (a : Accepted bs q) (r : Result Listed) → graphIn (rangesOf (sought a)) graph ≡ r
-        → onward r (λ G. ok (judgement (finite G) q (a .claim))) ≡ refuse c p → JudgeRefused bs graph c p
+        → afterwards r (λ G. ok (judgement (finite G) q (a .claim))) ≡ refuse c p → JudgeRefused bs graph c p
     goes q a (ok G) f h = absurd (ok-not-refused _ _ h)
     goes q a (refused r) f h =
         let (s, at) = same-refusal h in
@@ -182,7 +182,7 @@ graph-field-next bs graph k = (
   (λ e. go (judge-refused bs graph graphField k e)),
   (λ (q, a, w).
       judge-accepted bs graph q a
-      ∙ ap (λ r. onward r (λ G. ok (judgement (finite G) q (a .claim)))) (graph-refused (rangesOf (sought a)) graph k .1 w)),
+      ∙ ap (λ r. afterwards r (λ G. ok (judgement (finite G) q (a .claim)))) (graph-refused (rangesOf (sought a)) graph k .1 w)),
 )
   where
     go : JudgeRefused bs graph graphField k → (q : Query) × (a : Accepted bs q) × WrongGraphField (rangesOf (sought a)) graph k

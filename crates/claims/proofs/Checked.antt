@@ -12,7 +12,7 @@ use Rattle.kat.proofs.Bools.{and-left, and-right, true-not-false}
 use Rattle.kat.proofs.Sets.{member-in, in-member}
 use Rattle.claims.specs.Sides.{Decision}
 use Rattle.claims.specs.Standings.{System, Letter, claimSystem}
-use Rattle.claims.specs.Refusals.{Refusal, doesNotPass, Result, ok, refused, onward}
+use Rattle.claims.specs.Refusals.{Refusal, doesNotPass, Result, ok, refused, afterwards}
 use Rattle.claims.specs.SheetReading.{Said, saysProved, saysRefuted, sheetIn}
 use Rattle.claims.specs.SheetWriting.{InRange}
 use Rattle.claims.specs.Passing.{passes, proving, refuting, completes}
@@ -36,7 +36,7 @@ fails = record { cause = doesNotPass; place = 0 }
 
 module _ (D : Decision) where
   -- a sheet that passes as proved says proved, and its standings pass
-  pub passed-proved : (r : Result (Said D)) → onward r (passedOf D) ≡ ok passedProved
+  pub passed-proved : (r : Result (Said D)) → afterwards r (passedOf D) ≡ ok passedProved
       → (ss : List (claimSystem D .Standing)) × (r ≡ ok (saysProved ss)) × (proving (claimSystem D) ss ≡ true)
   unfolding passedOf passes
   passed-proved (refused r) e = absurd (let z : _≡_ {A = ℕ} 0 1 = cc in omega arith)
@@ -46,7 +46,7 @@ module _ (D : Decision) where
       absurd (let z : _≡_ {A = ℕ} 0 1 = cc in omega arith)
 
   -- one that passes as refuted says refuted, and its word refutes
-  passed-refuted : (r : Result (Said D)) → onward r (passedOf D) ≡ ok passedRefuted
+  passed-refuted : (r : Result (Said D)) → afterwards r (passedOf D) ≡ ok passedRefuted
       → (w : Word) × (r ≡ ok (saysRefuted w)) × (refuting (claimSystem D) w ≡ true)
   unfolding passedOf passes
   passed-refuted (refused r) e = absurd (let z : _≡_ {A = ℕ} 0 1 = cc in omega arith)

@@ -89,11 +89,11 @@ unfolding Sides.expand Sides.meant Sides.single Sides.exprOf Sides.replaced Side
 open-Sides = tt
 
 unfoldable pub open-Standings : Unit {0}
-unfolding Standings.lettersAt Standings.lettersOf Standings.letters Standings.alone Standings.pathStep Standings.pathFinals Standings.states Standings.moves Standings.ringBegin Standings.pairs Standings.ringStep Standings.covered Standings.ringFinals
+unfolding Standings.lettersAt Standings.lettersOf Standings.letters Standings.refutingAtoms Standings.pathStep Standings.pathFinals Standings.states Standings.moves Standings.ringBegin Standings.pairs Standings.ringStep Standings.covered Standings.ringFinals
 open-Standings = tt
 
 unfoldable pub open-Search : Unit {0}
-unfolding Search.firstLevel Search.grown Search.nextLevel Search.seenIn Search.fresh Search.completed Search.levels Search.verdictWithin Search.verdict
+unfolding Search.firstLevel Search.lengthened Search.nextLevel Search.seenIn Search.fresh Search.completed Search.levels Search.verdictWithin Search.verdict
 open-Search = tt
 
 unfoldable pub open-Fields : Unit {0}

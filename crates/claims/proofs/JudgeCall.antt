@@ -11,7 +11,7 @@ use Rattle.claims.specs.Tree.{Claim, includes, empty, irreflexive}
 use Rattle.claims.specs.Query.{Query, atoms, relations}
 use Rattle.claims.specs.Sides.{Decision, decision}
 use Rattle.claims.specs.Reading.{read, claimOf}
-use Rattle.claims.specs.Refusals.{Result, ok, onward}
+use Rattle.claims.specs.Refusals.{Result, ok, afterwards}
 use Rattle.claims.specs.Meaning.{Execution}
 use Rattle.claims.specs.GraphBytes.{Listed, Ranges, graphIn, finite}
 use Rattle.claims.specs.Judgement.{Judgement, judgement}
@@ -92,12 +92,12 @@ pub meaning-is-judge-call : (bs gs : List ℕ) (j : Judgement) → Judged bs gs 
 unfolding judge-call
 meaning-is-judge-call bs gs j J =
     let a : Asked = record { query = J .query; claim = J .claim; decided = decision (J .query) (J .claim) } in
-    ap (λ m. onward m judgedBy) (J .asks)
-    ∙ ap (λ R. onward (graphIn R gs) (answerOf a)) (decided-ranges (J .query) (J .claim))
-    ∙ ap (λ m. onward m (answerOf a)) (J .lists) ∙ ap ok (sym (J .answer))
+    ap (λ m. afterwards m judgedBy) (J .asks)
+    ∙ ap (λ R. afterwards (graphIn R gs) (answerOf a)) (decided-ranges (J .query) (J .claim))
+    ∙ ap (λ m. afterwards m (answerOf a)) (J .lists) ∙ ap ok (sym (J .answer))
   where
     answerOf : Asked → Listed → Result Judgement
     answerOf a G = ok (judgement (finite G) (a .query) (a .claim))
 
     judgedBy : Asked → Result Judgement
-    judgedBy a = onward (graphIn (decidedRanges (a .decided)) gs) (answerOf a)
+    judgedBy a = afterwards (graphIn (decidedRanges (a .decided)) gs) (answerOf a)

@@ -18,7 +18,7 @@ use Rattle.claims.proofs.Results.{same-is-equal, same-self}
 use Rattle.claims.specs.Query.{Query, atoms, removed, live}
 use Rattle.claims.specs.Sides.{Decision, decision}
 use Rattle.claims.specs.Tree.{Claim, includes, empty, irreflexive}
-use Rattle.claims.specs.Standings.{alone, Path, pathStep, pathFinals, pathSystem, Ring, ringStep, ringFinals, covered, sameRows, ringSystem}
+use Rattle.claims.specs.Standings.{refutingAtoms, Path, pathStep, pathFinals, pathSystem, Ring, ringStep, ringFinals, covered, sameRows, ringSystem}
 use Rattle.claims.proofs.Pairwise.{pairwise-filter, rising-upto}
 use Rattle.claims.specs.Orders.{Rising}
 use Rattle.claims.specs.Lawful.{Lawful}
@@ -63,12 +63,12 @@ none-ends : (E : Expr) (P : List ℕ) (a : ℕ) → not (isEmpty P) ≡ false �
 unfolding ends
 none-ends E P a e = rw (empty-nil P e) refl
 
-alone-rises : (D : Decision) → Rising (D .live) → Rising (alone D)
-unfolding alone
+alone-rises : (D : Decision) → Rising (D .live) → Rising (refutingAtoms D)
+unfolding refutingAtoms
 alone-rises D h = pairwise-filter _<_ (λ a. null (D .left) a && not (null (D .right) a)) (D .live) h
 
-alone-lives : (D : Decision) (a : ℕ) → In a (alone D) → In a (D .live)
-unfolding alone
+alone-lives : (D : Decision) (a : ℕ) → In a (refutingAtoms D) → In a (D .live)
+unfolding refutingAtoms
 alone-lives D a i = filter-in (λ b. null (D .left) b && not (null (D .right) b)) (D .live) i .0
 
 pub path-sound : (D : Decision) (s t : Path) → pathSystem D .equal s t ≡ true → s ≡ t

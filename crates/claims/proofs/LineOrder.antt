@@ -19,7 +19,7 @@ use Rattle.claims.specs.Grammar.{Found, got, wrong, deep, andThen}
 use Rattle.claims.specs.Lines.{line, lineBy, choose, lineKinds, atEnd}
 use Rattle.claims.specs.Names.{uses, firstSlip}
 use Rattle.claims.specs.Query.{Query}
-use Rattle.claims.specs.Refusals.{Cause, number, notation, tooDeep, tooMany, afterClaim, Refusal, Result, ok, refused, refuse, onward}
+use Rattle.claims.specs.Refusals.{Cause, number, notation, tooDeep, tooMany, afterClaim, Refusal, Result, ok, refused, refuse, afterwards}
 use Rattle.claims.specs.Reading.{crowded, claimOf, readLine, readLines}
 use Rattle.claims.proofs.FirstFault.{slips-have-number-five}
 use Rattle.claims.specs.RefusalOrder.{LineRefused, LineTaken, Taken, RefusedAmong, after-the-claim, not-in-notation, bracket-too-deep, name-slips, one-too-many}
@@ -216,10 +216,10 @@ lines-taken q n ls q′ = (
 
 -- the lines in two parts: the second is read after what the first gives, and its lines are numbered on
 pub lines-in-parts : (q : Query) (n : ℕ) (ls ms : List RawLine)
-    → readLines q n (ls ++ ms) ≡ onward (readLines q n ls) (λ q′. readLines q′ (n + length ls) ms)
+    → readLines q n (ls ++ ms) ≡ afterwards (readLines q n ls) (λ q′. readLines q′ (n + length ls) ms)
 lines-in-parts q n ls ms = go (readLines q n ls) refl
   where
-    go : (r : Result Query) → readLines q n ls ≡ r → readLines q n (ls ++ ms) ≡ onward r (λ q′. readLines q′ (n + length ls) ms)
+    go : (r : Result Query) → readLines q n ls ≡ r → readLines q n (ls ++ ms) ≡ afterwards r (λ q′. readLines q′ (n + length ls) ms)
     go (ok q′) e = taken-onward q n ls ms q′ (lines-taken q n ls q′ .0 e)
     go (refused r) e = whatever-follows q n ls ms (r .cause) (r .place) e
 

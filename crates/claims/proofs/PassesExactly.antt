@@ -17,7 +17,7 @@ use Rattle.claims.specs.SheetBytes.{sheetBytes}
 use Rattle.claims.specs.SheetReading.{saysProved, saysRefuted, sheetIn}
 use Rattle.claims.specs.SheetWriting.{AllBytes, InRange, MaySay, refutedSheet, partBytes}
 use Rattle.claims.specs.Passing.{passes, proving}
-use Rattle.claims.specs.Refusals.{ok, onward}
+use Rattle.claims.specs.Refusals.{ok, afterwards}
 use Rattle.claims.specs.Calls.{Asked, asked, passedProved, passedRefuted, passedOf, checked, check-call}
 use Rattle.claims.specs.Words.{Refutes}
 use Rattle.claims.proofs.ByKind.{same-relations, live-atoms, refutes-by-standings}
@@ -46,14 +46,14 @@ module _ (D : Decision) (within : WithinLimits D) where
   pub refuted-sheet-passes : (w : Word) → Refutes D w → length (numbers w) < 65536 → checked D (refutedSheet w) ≡ ok passedRefuted
   unfolding checked passedOf passes
   refuted-sheet-passes w h n =
-      ap (λ r. onward r (passedOf D)) (sheet-written D within (saysRefuted w) (refutes-in-range w h, n))
+      ap (λ r. afterwards r (passedOf D)) (sheet-written D within (saysRefuted w) (refutes-in-range w h, n))
       ∙ rw (passedOf, refutes-by-standings (D .ring) D refl w .0 h .1)
 
   -- a proved sheet whose standings pass, passes
   proved-sheet-passes : (ss : List (claimSystem D .Standing)) → MaySay D (saysProved ss) → proving (claimSystem D) ss ≡ true
       → checked D (partBytes D (saysProved ss)) ≡ ok passedProved
   unfolding checked passedOf passes
-  proved-sheet-passes ss m p = ap (λ r. onward r (passedOf D)) (sheet-written D within (saysProved ss) m) ∙ rw (passedOf, p)
+  proved-sheet-passes ss m p = ap (λ r. afterwards r (passedOf D)) (sheet-written D within (saysProved ss) m) ∙ rw (passedOf, p)
 
 module _ (bs : List ℕ) (a : Asked) (accepted : asked bs ≡ ok a) where
   -- bytes pass as refuted exactly when they are the refuted sheet of a word that refutes and whose numbers fit into a field

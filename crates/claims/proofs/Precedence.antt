@@ -20,7 +20,7 @@ use Rattle.claims.specs.Tree.{Claim, claimLine}
 use Rattle.claims.specs.Query.{Query, each, claimsOf}
 use Rattle.claims.specs.Counting.{withinLimits}
 use Rattle.claims.specs.Decisions.{claimAt, decisions}
-use Rattle.claims.specs.Refusals.{Cause, number, tooLong, badByte, noClaim, afterClaim, overLimit, Refusal, Result, ok, refused, refuse, onward}
+use Rattle.claims.specs.Refusals.{Cause, number, tooLong, badByte, noClaim, afterClaim, overLimit, Refusal, Result, ok, refused, refuse, afterwards}
 use Rattle.claims.specs.Reading.{badLine, claimOf, readLines, limited, read}
 use Rattle.claims.proofs.FirstFault.{bad-line, no-bad-line}
 use Rattle.claims.specs.RefusalOrder.{FirstBad, Taken, RefusedAmong, CleanBytes, ReadRefused, Accepted, OfALine, long, unclean, at-a-line, unclaimed, large}
@@ -44,12 +44,12 @@ read-unclean : (bs : List ℕ) (n : ℕ) → length bs ≤ 4096 → badLine 1 bs
 unfolding read
 read-unclean bs n h e = rw (le-leb (length bs) 4096 h, read, e)
 
-read-lines : (bs : List ℕ) → CleanBytes bs → read bs ≡ onward (readLines [] 1 (rawLines bs)) limited
+read-lines : (bs : List ℕ) → CleanBytes bs → read bs ≡ afterwards (readLines [] 1 (rawLines bs)) limited
 unfolding read
 read-lines bs o = rw (le-leb (length bs) 4096 (o .short), read, no-bad-line 1 bs .1 (o .clean))
 
 read-taken : (bs : List ℕ) (q : Query) → CleanBytes bs → Taken [] (rawLines bs) q → read bs ≡ limited q
-read-taken bs q o ts = read-lines bs o ∙ ap (λ r. onward r limited) (lines-taken [] 1 (rawLines bs) q .1 ts)
+read-taken bs q o ts = read-lines bs o ∙ ap (λ r. afterwards r limited) (lines-taken [] 1 (rawLines bs) q .1 ts)
 
 limited-unclaimed : (q : Query) → claimOf q ≡ none → limited q ≡ refuse noClaim 0
 unfolding limited
@@ -66,7 +66,7 @@ refused-read : (bs : List ℕ) {c : Cause} {p : ℕ} → ReadRefused bs c p → 
 refused-read bs (long h) = read-long bs h
 refused-read bs (unclean {n = n} h f) = read-unclean bs n h (bad-line 1 bs n .1 f)
 refused-read bs (at-a-line {c = c} {p = p} o r) =
-    read-lines bs o ∙ ap (λ s. onward s limited) (lines-from-the-top [] 1 (rawLines bs) c p .1 r)
+    read-lines bs o ∙ ap (λ s. afterwards s limited) (lines-from-the-top [] 1 (rawLines bs) c p .1 r)
 refused-read bs (unclaimed q o ts e) = read-taken bs q o ts ∙ limited-unclaimed q e
 refused-read bs (large q c o ts e f) = read-taken bs q o ts ∙ limited-large bs q ts c e f
 

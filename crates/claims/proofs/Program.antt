@@ -14,7 +14,7 @@ use Rattle.claims.specs.Width.{width, rowLength, besideColumns, ringWord
 use Rattle.claims.specs.SheetBytes.{contentsLength}
 use Rattle.claims.specs.Sides.{Decision}
 use Rattle.claims.specs.Standings.{systemOf}
-use Rattle.claims.specs.Refusals.{badAllowance, Result, ok, refused, refuse, onward}
+use Rattle.claims.specs.Refusals.{badAllowance, Result, ok, refused, refuse, afterwards}
 use Rattle.claims.specs.Calls.{provedWith, searched, Asked, asked, Lent, neededRecords, neededWords, searchAsked, search-call}
 use Rattle.claims.specs.CallOrder.{Ready}
 use Rattle.claims.specs.Demands.{FixedByWords, answerAlone}
@@ -85,7 +85,7 @@ program-is-answered allowance bs = read-cases (asked bs) refl
 
     read-cases : (r : Result Asked) → asked bs ≡ r
         → search-call bs n (memoryFor n) .result
-        ≡ answerAlone (onward (asked bs) (λ a.
+        ≡ answerAlone (afterwards (asked bs) (λ a.
         elim (leb 1 n && leb n 4096) [ true ↦ searched (a .decided) n | false ↦ refuse badAllowance 0 ]))
     read-cases (refused r) e = rw (e, search-call) refl
     read-cases (ok a) e = rw e (in-range a e (leb 1 n && leb n 4096) refl)

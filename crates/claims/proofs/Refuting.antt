@@ -17,7 +17,7 @@ use Rattle.kat.specs.Turns.{NonEmpty}
 use Rattle.kat.proofs.Growing.{start-own}
 use Rattle.kat.proofs.Words.{first-onto, last-onto, body-onto, atom-is-word, covered-nothing, covered-own}
 use Rattle.claims.specs.Sides.{Decision}
-use Rattle.claims.specs.Standings.{System, Letter, Path, Ring, alone, covered, pathSystem, pathFinals, ringSystem, ringFinals}
+use Rattle.claims.specs.Standings.{System, Letter, Path, Ring, refutingAtoms, covered, pathSystem, pathFinals, ringSystem, ringFinals}
 use Rattle.claims.specs.Passing.{refuting, completes}
 use Rattle.claims.specs.Verdicts.{StandingOf, begun, grown}
 use Rattle.claims.specs.Words.{Guarded, Uncovered, Refutes}
@@ -59,8 +59,8 @@ module _ (S : System) (Bad : Word → Type 0)
 
 module _ (D : Decision) where
   -- a single atom that refutes
-  alone-in : (a : ℕ) → In a (alone D) ↔ (In a (D .live) × (null (D .left) a ≡ true) × (null (D .right) a ≡ false))
-  unfolding alone
+  alone-in : (a : ℕ) → In a (refutingAtoms D) ↔ (In a (D .live) × (null (D .left) a ≡ true) × (null (D .right) a ≡ false))
+  unfolding refutingAtoms
   alone-in a =
       let f : ℕ → Bool = λ a. null (D .left) a && not (null (D .right) a) in (
         (λ i.
@@ -75,7 +75,7 @@ module _ (D : Decision) where
   abbrev PathBad : Word → Type 0
   PathBad w = Lang (D .left) w × Uncovered false (D .right) w
 
-  path-single : (a : ℕ) → In a (alone D) ↔ (In a (D .live) × PathBad (end a))
+  path-single : (a : ℕ) → In a (refutingAtoms D) ↔ (In a (D .live) × PathBad (end a))
   path-single a = (
     (λ i.
         let (j, n, m) = alone-in a .0 i in
@@ -97,7 +97,7 @@ module _ (D : Decision) where
   abbrev RingBad : Word → Type 0
   RingBad w = Lang (D .left) w × Uncovered true (D .right) w
 
-  ring-single : (a : ℕ) → In a (alone D) ↔ (In a (D .live) × RingBad (end a))
+  ring-single : (a : ℕ) → In a (refutingAtoms D) ↔ (In a (D .live) × RingBad (end a))
   ring-single a = (
     (λ i.
         let (j, n, m) = alone-in a .0 i in

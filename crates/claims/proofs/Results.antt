@@ -15,7 +15,7 @@ use Rattle.kat.proofs.Bools.{and-left, and-right, and-both}
 use Rattle.kat.proofs.Sets.{in-append}
 use Rattle.claims.specs.Bytes.{same}
 use Rattle.claims.specs.Fields.{provided}
-use Rattle.claims.specs.Refusals.{Refusal, Result, ok, refused, onward}
+use Rattle.claims.specs.Refusals.{Refusal, Result, ok, refused, afterwards}
 use Rattle.claims.specs.Tree.{Line}
 use Rattle.claims.specs.Query.{Query, each}
 
@@ -23,8 +23,8 @@ use Rattle.claims.specs.Query.{Query, each}
 pub refused-not-ok : {A : Type 0} {B : Type 0} {r : Refusal} {a : A} → _≡_ {A = Result A} (refused r) (ok a) → B
 refused-not-ok e = let z : _≡_ {A = ℕ} 0 1 = cc in absurd (omega arith)
 
--- an answer onward comes from an answer before
-pub onward-ok : {A B : Type 0} (x : Result A) (k : A → Result B) {b : B} → onward x k ≡ ok b → (a : A) × (x ≡ ok a) × (k a ≡ ok b)
+-- an answer afterwards comes from an answer before
+pub onward-ok : {A B : Type 0} (x : Result A) (k : A → Result B) {b : B} → afterwards x k ≡ ok b → (a : A) × (x ≡ ok a) × (k a ≡ ok b)
 onward-ok (ok a) k e = (a, refl, e)
 onward-ok (refused r) k e = refused-not-ok e
 

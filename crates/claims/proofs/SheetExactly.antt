@@ -19,7 +19,7 @@ use Rattle.claims.specs.Width.{width}
 use Rattle.claims.specs.Sides.{Decision}
 use Rattle.claims.specs.Standings.{claimSystem}
 use Rattle.claims.specs.Fields.{field, nextField, whole}
-use Rattle.claims.specs.Refusals.{sheetField, ok, refuse, onward}
+use Rattle.claims.specs.Refusals.{sheetField, ok, refuse, afterwards}
 use Rattle.claims.specs.SheetBytes.{contentsLength, standingBytes, standingFields}
 use Rattle.claims.specs.SheetReading.{Said, saysProved, saysRefuted, Part, wordOf, tagged, partIn, onlyPart, sheetIn}
 use Rattle.claims.specs.SheetWriting.{AllBytes, MayList, MaySay, partBytes, partFields, IsPart, Ends}
@@ -172,7 +172,7 @@ module _ (D : Decision) (within : WithinLimits D) where
   pub sheet-written : (s : Said D) → MaySay D s → sheetIn D (partBytes D s) ≡ ok s
   unfolding sheetIn onlyPart
   sheet-written s m =
-      ap (λ r. onward r (onlyPart D))
+      ap (λ r. afterwards r (onlyPart D))
       (part-written 1 (partBytes D s) s [] (record { good = m; bytes = sym (append-nil (partBytes D s)); ends = none-behind s }))
 
   -- a sheet is read exactly where the bytes are that sheet's

@@ -11,7 +11,7 @@ use lib.ListN.{length, drop}
 use Rattle.kat.specs.Graph.{Graph, graph}
 use Rattle.kat.specs.Word.{Word}
 use Rattle.claims.specs.Sides.{Decision, decision}
-use Rattle.claims.specs.Refusals.{Refusal, Result, ok, refused, onward}
+use Rattle.claims.specs.Refusals.{Refusal, Result, ok, refused, afterwards}
 use Rattle.claims.specs.Calls.{Answer, Given, searched, Asked, asked, Lent, Done, leftBehind, search-call, passedProved, passedRefuted, checked, check-call}
 use Rattle.claims.specs.Words.{Refutes}
 use Rattle.claims.specs.Drawn.{drawn}
@@ -38,7 +38,7 @@ module _ (bs : List ℕ) (a : Asked) (accepted : asked bs ≡ ok a) where
 
   pub check-is : (sheet : List ℕ) → check-call bs sheet ≡ checked (a .decided) sheet
   unfolding check-call
-  check-is sheet = ap (λ r. onward r (λ b. checked (b .decided) sheet)) accepted
+  check-is sheet = ap (λ r. afterwards r (λ b. checked (b .decided) sheet)) accepted
 
   -- a passing sheet that says proved: the claim holds in every graph that meets the query's lines
   pub passing-proved-holds : (sheet : List ℕ) → check-call bs sheet ≡ ok passedProved

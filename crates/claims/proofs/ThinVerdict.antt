@@ -16,7 +16,7 @@ use lib.ListN.{length}
 use Rattle.kat.specs.Lists.{In, here, there, filter, every}
 use Rattle.kat.specs.Word.{end}
 use Rattle.claims.specs.Standings.{System, Letter, letters}
-use Rattle.claims.specs.Search.{Entry, refuted, spent, firstLevel, grown, nextLevel, fresh, completed, levels, verdictWithin, verdict}
+use Rattle.claims.specs.Search.{Entry, refuted, spent, firstLevel, lengthened, nextLevel, fresh, completed, levels, verdictWithin, verdict}
 use Rattle.claims.specs.Passing.{listed, proving}
 use Rattle.claims.specs.Thin.{thinNextLevel, thinLevels, thinVerdict, thinProving}
 use Rattle.claims.specs.Verdicts.{StandingOf, begun, grown as more-grown}
@@ -90,7 +90,7 @@ module _ (S : System) (laws : Lawful S) where
         (thinned-map S (S .begin) (λ e. e .standing) (entryOf S) (λ l. refl) (letters-thinned (S .begin) first (thins .begins)))
 
     grown-thinned : (e : Entry S) → StandingOf S (e .prefix) (e .standing)
-        → Thinned S (λ x. x .standing) [] (grown S e (letters S)) (grown S e (filter (later e) (letters S)))
+        → Thinned S (λ x. x .standing) [] (lengthened S e (letters S)) (lengthened S e (filter (later e) (letters S)))
     grown-thinned e h =
         rw (grown-map S e (letters S), grown-map S e (filter (later e) (letters S)))
         (thinned-map S (S .onward (e .standing)) (λ x. x .standing) (entryAfter S e) (λ l. refl)

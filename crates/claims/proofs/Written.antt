@@ -13,7 +13,7 @@ use Rattle.claims.specs.SheetBytes.{standingBytes, sheetBytes}
 use Rattle.claims.specs.SheetReading.{saysProved, saysRefuted}
 use Rattle.claims.specs.SheetWriting.{MaySay}
 use Rattle.claims.specs.Passing.{passes}
-use Rattle.claims.specs.Refusals.{ok, onward}
+use Rattle.claims.specs.Refusals.{ok, afterwards}
 use Rattle.claims.specs.Calls.{Given, answerOf, searched, passedOf, checked}
 use Rattle.claims.specs.Orders.{Rising}
 use Rattle.claims.specs.Sheets.{passedAs}
@@ -49,11 +49,11 @@ module _ (D : Decision) (rising : Rising (D .live)) (within : WithinLimits D) (a
   unfolding answerOf sheetBytes checked passedOf passes
   answer-passes (proved ss) e g h =
       subst (λ (z : Given). checked D (z .sheet) ≡ ok (passedAs (z .answer))) (same-value _ g h)
-      (ap (λ r. onward r (passedOf D)) (sheet-written D within (saysProved ss) (proved-may-say ss e))
+      (ap (λ r. afterwards r (passedOf D)) (sheet-written D within (saysProved ss) (proved-may-say ss e))
       ∙ rw (passedOf, search-proved-passes (claimSystem D) (lawful (D .ring) D rising) allowance ss e))
   answer-passes (refuted w) e g h =
       subst (λ (z : Given). checked D (z .sheet) ≡ ok (passedAs (z .answer))) (same-value _ g h)
-      (ap (λ r. onward r (passedOf D)) (sheet-written D within (saysRefuted w) (refuted-may-say w e))
+      (ap (λ r. afterwards r (passedOf D)) (sheet-written D within (saysRefuted w) (refuted-may-say w e))
       ∙ rw (passedOf, search-refuted-passes (claimSystem D) (lawful (D .ring) D rising) allowance w e))
   answer-passes spent e g h = refused-not-ok h
 

@@ -16,7 +16,7 @@ use Rattle.kat.proofs.Sets.{in-append-left}
 use Rattle.claims.specs.Sides.{Decision}
 use Rattle.claims.specs.Standings.{claimSystem}
 use Rattle.claims.specs.Fields.{Field, field, nextField, afterField, FirstWrong}
-use Rattle.claims.specs.Refusals.{sheetField, Refusal, Result, ok, refused, refuse, onward}
+use Rattle.claims.specs.Refusals.{sheetField, Refusal, Result, ok, refused, refuse, afterwards}
 use Rattle.claims.specs.SheetBytes.{standingBytes, standingFields}
 use Rattle.claims.specs.SheetReading.{Said, saysProved, saysRefuted, Part, wordIn, wordFrom, standingsIn, partIn, onlyPart, sheetIn}
 use Rattle.claims.specs.SheetWriting.{AllBytes, MaySay, partBytes, partFields, IsSheet, IsPart, Begun, nothing, refutedOnly, saying, begunBytes, begunFields, MayBegin, GoodSheetFields, WrongSheetField, WrongPart}
@@ -197,12 +197,12 @@ module _ (D : Decision) (within : WithinLimits D) where
         go (y ∷ ys) e = refl
 
     -- a sheet that is refused is refused behind good fields, where the reading of its part came to
-    stops-at : (r : Result (Part D)) → partIn D 1 bs ≡ r → (x : Refusal) → onward r (onlyPart D) ≡ refused x
-        → (n : ℕ) × (onward r (onlyPart D) ≡ refuse sheetField (1 + n)) × GoodSheetFields D bs n × (placeOf D r ≡ 1 + n)
+    stops-at : (r : Result (Part D)) → partIn D 1 bs ≡ r → (x : Refusal) → afterwards r (onlyPart D) ≡ refused x
+        → (n : ℕ) × (afterwards r (onlyPart D) ≡ refuse sheetField (1 + n)) × GoodSheetFields D bs n × (placeOf D r ≡ 1 + n)
     stops-at (refused y) f x e =
         let (n, g, h) = part-stops 1 y f in
         let z : _≡_ {A = Result (Part D)} (refused y) (refuse sheetField (1 + n)) = sym f ∙ g in
-        (n, ap (λ r. onward r (onlyPart D)) z, h, ap (placeOf D) z)
+        (n, ap (λ r. afterwards r (onlyPart D)) z, h, ap (placeOf D) z)
     stops-at (ok p) f x e =
         let (n, g) = part-good p f in
         (partFields D (p .said), only-refused p x e ∙ ap (refuse sheetField) n, g, n)

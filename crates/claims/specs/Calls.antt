@@ -22,7 +22,7 @@ use Rattle.claims.specs.SheetReading.{Said, saysProved, saysRefuted, she
 use Rattle.claims.specs.Passing.{passes}
 use Rattle.claims.specs.GraphBytes.{graphIn, finite}
 use Rattle.claims.specs.Judgement.{Judgement, judgement}
-use Rattle.claims.specs.Refusals.{noClaim, badAllowance, shortMemory, spentAllowance, shortBuffer, doesNotPass, Result, ok, refused, refuse, onward}
+use Rattle.claims.specs.Refusals.{noClaim, badAllowance, shortMemory, spentAllowance, shortBuffer, doesNotPass, Result, ok, refused, refuse, afterwards}
 
 -- proved with the count of standings, or refuted with the first word ("Refusals with an example each")
 pub data Answer : Type 0 where
@@ -58,7 +58,7 @@ pub record Asked : Type 0 where
 -- the query that the bytes are, or the reader's refusal ("Refusals with an example each")
 unfoldable pub asked : List ℕ → Result Asked
 asked bs =
-    onward (read bs) (λ q.
+    afterwards (read bs) (λ q.
     elim (lastOf (decisions q)) [
       | some d ↦ ok (record { query = q; claim = d .claim; decided = decision (d .over) (d .claim) })
       | none ↦ refuse noClaim 0
@@ -144,15 +144,15 @@ passedOf D (saysRefuted w) = elim (passes D (saysRefuted w)) [ true ↦ ok passe
 
 -- the sheet read, and then tested ("Refusals with an example each")
 unfoldable pub checked : Decision → List ℕ → Result Passed
-checked D bs = onward (sheetIn D bs) (passedOf D)
+checked D bs = afterwards (sheetIn D bs) (passedOf D)
 
 -- the sheet check: refusals 1 to 8, 13 and 14; it is lent nothing that it could change ("Refusals with an example each")
 unfoldable pub check-call : List ℕ → List ℕ → Result Passed
-check-call bs sheet = onward (asked bs) (λ a. checked (a .decided) sheet)
+check-call bs sheet = afterwards (asked bs) (λ a. checked (a .decided) sheet)
 
 -- the judge: refusals 1 to 8 and 12 ("Refusals with an example each")
 unfoldable pub judge-call : List ℕ → List ℕ → Result Judgement
 judge-call bs graph =
-    onward (asked bs) (λ a.
-    onward (graphIn (record { atoms = a .decided .atoms; relations = a .decided .relations }) graph) (λ G.
+    afterwards (asked bs) (λ a.
+    afterwards (graphIn (record { atoms = a .decided .atoms; relations = a .decided .relations }) graph) (λ G.
     ok (judgement (finite G) (a .query) (a .claim))))

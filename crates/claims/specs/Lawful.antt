@@ -7,7 +7,7 @@ use mathlib.Core.Bool.{true, false}
 use mathlib.Core.List.{[]}
 use Rattle.kat.specs.Lists.{In}
 use Rattle.claims.specs.Query.{live}
-use Rattle.claims.specs.Standings.{System, Letter, alone}
+use Rattle.claims.specs.Standings.{System, Letter, refutingAtoms}
 use Rattle.claims.specs.Orders.{Rising}
 
 -- the laws of a kind of standing

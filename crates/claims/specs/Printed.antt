@@ -10,7 +10,7 @@ use Rattle.kat.specs.Word.{numbers}
 use Rattle.claims.specs.Bytes.{text}
 use Rattle.claims.specs.Width.{ringWords}
 use Rattle.claims.specs.Sheets.{sheetLength}
-use Rattle.claims.specs.Refusals.{Refusal, number, Result, ok, refused, refuse, onward, badAllowance}
+use Rattle.claims.specs.Refusals.{Refusal, number, Result, ok, refused, refuse, afterwards, badAllowance}
 use Rattle.claims.specs.Calls.{Answer, provedWith, refutedBy, Given, searched, asked, Lent, search-call}
 
 -- a number in decimal digits, before what stands behind it; f bounds the number of digits ("The desk's cases")
@@ -45,7 +45,7 @@ lineOf (refused r) = refusalLine r ++ (10 ∷ [])
 -- the answer of a query at an allowance with its sheet, where memory and buffer suffice ("The desk's cases")
 unfoldable pub answered : ℕ → List ℕ → Result Given
 answered allowance bs =
-    onward (asked bs) (λ a.
+    afterwards (asked bs) (λ a.
     elim (leb 1 allowance && leb allowance 4096) [ true ↦ searched (a .decided) allowance | false ↦ refuse badAllowance 0 ])
 
 -- the allowance of the query program, for path claims (false) and for ring claims (true) ("The desk's cases")

@@ -15,7 +15,7 @@ use Rattle.claims.specs.Lines.{line}
 use Rattle.claims.specs.Names.{Kind, aTest, aRelation, aLet, declaredAs, uses, firstSlip}
 use Rattle.claims.specs.Query.{Query, each, tests, relations, lets, claimsOf}
 use Rattle.claims.specs.Decisions.{decisions, firstOver}
-use Rattle.claims.specs.Refusals.{tooLong, badByte, notation, tooDeep, tooMany, noClaim, afterClaim, overLimit, Result, ok, refuse, onward}
+use Rattle.claims.specs.Refusals.{tooLong, badByte, notation, tooDeep, tooMany, noClaim, afterClaim, overLimit, Result, ok, refuse, afterwards}
 
 -- the line of the first byte that is neither printable nor byte 10; n is the line of the first byte ("Refusals with an example each")
 unfoldable pub badLine : ℕ → List ℕ → Option ℕ
@@ -59,7 +59,7 @@ readLines q n [] = ok q
 readLines q n (l ∷ ls) =
     elim (claimOf q) [
       | some c ↦ refuse afterClaim n
-      | none ↦ onward (readLine q n (line l)) (λ x. readLines (q ++ (x ∷ [])) (suc n) ls)
+      | none ↦ afterwards (readLine q n (line l)) (λ x. readLines (q ++ (x ∷ [])) (suc n) ls)
     ]
 
 -- a claim there must be, and then all that is to be decided within the limits; 8 is placed at the first line over them ("Refusals with an example each")
@@ -77,6 +77,6 @@ read bs =
       | false ↦ refuse tooLong 0
       | true ↦ elim (badLine 1 bs) [
         | some n ↦ refuse badByte n
-        | none ↦ onward (readLines [] 1 (rawLines bs)) limited
+        | none ↦ afterwards (readLines [] 1 (rawLines bs)) limited
       ]
     ]

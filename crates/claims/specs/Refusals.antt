@@ -55,6 +55,6 @@ refuse c p = refused (record { cause = c; place = p })
 
 module _ {A B : Type 0} where
   -- what is asked of the value comes after what refused it ("Refusals with an example each")
-  abbrev pub onward : Result A → (A → Result B) → Result B
-  onward (ok a) k = k a
-  onward (refused r) k = refused r
+  abbrev pub afterwards : Result A → (A → Result B) → Result B
+  afterwards (ok a) k = k a
+  afterwards (refused r) k = refused r

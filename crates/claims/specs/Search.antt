@@ -32,15 +32,15 @@ module _ (S : System) where
       record { standing = S .begin l; prefix = then nothing (l .atom) (l .relation) } ∷ firstLevel ls
 
   -- one relation more, for each letter ("Standings")
-  unfoldable pub grown : Entry S → List Letter → List (Entry S)
-  grown e [] = []
-  grown e (l ∷ ls) =
-      record { standing = S .onward (e .standing) l; prefix = then (e .prefix) (l .atom) (l .relation) } ∷ grown e ls
+  unfoldable pub lengthened : Entry S → List Letter → List (Entry S)
+  lengthened e [] = []
+  lengthened e (l ∷ ls) =
+      record { standing = S .onward (e .standing) l; prefix = then (e .prefix) (l .atom) (l .relation) } ∷ lengthened e ls
 
   -- the next level, of what stands in this one ("Standings")
   unfoldable pub nextLevel : List (Entry S) → List (Entry S)
   nextLevel [] = []
-  nextLevel (e ∷ es) = grown e (letters S) ++ nextLevel es
+  nextLevel (e ∷ es) = lengthened e (letters S) ++ nextLevel es
 
   -- the standing is among those seen ("Standings")
   unfoldable pub seenIn : List (Entry S) → S .Standing → Bool

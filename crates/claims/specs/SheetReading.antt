@@ -17,7 +17,7 @@ use Rattle.claims.specs.Standings.{Path, Ring, systemOf, claimSystem}
 use Rattle.claims.specs.Fields.{Field, whole, cut, nextField, afterField, provided, fromBytes, numberSet}
 use Rattle.claims.specs.Width.{width, rowLength}
 use Rattle.claims.specs.SheetBytes.{contentsLength}
-use Rattle.claims.specs.Refusals.{sheetField, Result, ok, refuse, onward}
+use Rattle.claims.specs.Refusals.{sheetField, Result, ok, refuse, afterwards}
 
 -- a set of 8 bytes over n occurrences ("Sheet and graph bytes")
 unfoldable pub setOf : ℕ → List ℕ → List ℕ
@@ -157,4 +157,4 @@ module _ (D : Decision) where
 
   -- what a sheet says, one part from field 1 and nothing behind it, or refusal 13 at its first wrong field ("Sheet and graph bytes")
   unfoldable pub sheetIn : List ℕ → Result (Said D)
-  sheetIn bs = onward (partIn 1 bs) onlyPart
+  sheetIn bs = afterwards (partIn 1 bs) onlyPart

@@ -43,8 +43,8 @@ unfoldable pub letters : System → List Letter
 letters S = lettersOf (S .live) (upto 0 (S .relations))
 
 -- a single atom refutes where it is a left word and no right word, in a path and in a ring ("Standings")
-unfoldable pub alone : Decision → List ℕ
-alone D = filter (λ a. null (D .left) a && not (null (D .right) a)) (D .live)
+unfoldable pub refutingAtoms : Decision → List ℕ
+refutingAtoms D = filter (λ a. null (D .left) a && not (null (D .right) a)) (D .live)
 
 -- Path: the set P of left occurrences that the prefix may have just read, and the set S of right ones ("Standings")
 pub record Path : Type 0 where
@@ -73,7 +73,7 @@ pathSystem D =
       onward = pathStep D;
       possible = λ s. not (isEmpty (s .P));
       finals = pathFinals D;
-      alone = alone D;
+      alone = refutingAtoms D;
       live = D .live;
       relations = D .relations;
     }
@@ -164,7 +164,7 @@ ringSystem D =
       onward = ringStep D;
       possible = λ s. not (isEmpty (s .P));
       finals = ringFinals D;
-      alone = alone D;
+      alone = refutingAtoms D;
       live = D .live;
       relations = D .relations;
     }

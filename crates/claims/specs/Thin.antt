@@ -11,7 +11,7 @@ use lib.ListN.{length}
 use Rattle.kat.specs.Lists.{filter, every, isEmpty}
 use Rattle.kat.specs.Word.{end}
 use Rattle.claims.specs.Standings.{System, Letter, letters}
-use Rattle.claims.specs.Search.{Entry, Verdict, proved, refuted, spent, firstLevel, grown, fresh, completed}
+use Rattle.claims.specs.Search.{Entry, Verdict, proved, refuted, spent, firstLevel, lengthened, fresh, completed}
 use Rattle.claims.specs.Passing.{listed}
 
 -- first says which letters are tried at level 1, later which are tried after an entry
@@ -19,7 +19,7 @@ module _ (S : System) (first : Letter → Bool) (later : Entry S → Letter → 
   -- the next level, of what stands in this one, with the letters that pass ("Standings")
   unfoldable pub thinNextLevel : List (Entry S) → List (Entry S)
   thinNextLevel [] = []
-  thinNextLevel (e ∷ es) = grown S e (filter (later e) (letters S)) ++ thinNextLevel es
+  thinNextLevel (e ∷ es) = lengthened S e (filter (later e) (letters S)) ++ thinNextLevel es
 
   -- level n and on, as `levels`, with the letters that pass ("Standings")
   unfoldable pub thinLevels : ℕ → ℕ → List (Entry S) → List (Entry S) → Verdict S

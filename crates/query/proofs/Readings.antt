@@ -16,7 +16,7 @@ use Rattle.claims.specs.Query.{Query}
 use Rattle.claims.specs.Sides.{decision}
 use Rattle.claims.specs.Counting.{withinLimits}
 use Rattle.claims.specs.Reading.{badLine, claimOf, readLines, limited, read}
-use Rattle.claims.specs.Refusals.{tooLong, badByte, noClaim, overLimit, Refusal, Result, ok, refused, refuse, onward}
+use Rattle.claims.specs.Refusals.{tooLong, badByte, noClaim, overLimit, Refusal, Result, ok, refused, refuse, afterwards}
 use Rattle.claims.proofs.Decisions.{limited-by-the-claim}
 use Rattle.codes.specs.Codes.{queryCodes}
 use Rattle.read_text.specs.Reading.{claimed, inLines, readable, leftCodes, summaryOf, SaysSummary}
@@ -55,7 +55,7 @@ lines-taken : (bs : List ℕ) (q : Query) → inLines bs ≡ ok q → ReadAs bs 
 unfolding inLines
 lines-taken bs q e = go (readLines [] 1 (rawLines bs)) refl e
   where
-    go : (r : Result Query) → readLines [] 1 (rawLines bs) ≡ r → onward r claimed ≡ ok q → ReadAs bs q
+    go : (r : Result Query) → readLines [] 1 (rawLines bs) ≡ r → afterwards r claimed ≡ ok q → ReadAs bs q
     go (ok p) f h = claimed-taken bs p q f h
     go (refused r) f h = absurd (not-both r q h)
 
@@ -124,7 +124,7 @@ module _ (bs : List ℕ) (s : Summary) (out : List ℕ) (a : Accepts bs s out) w
   read-is : (b : Bool) → inLimits s out ≡ b → read bs ≡ elim b [ true ↦ ok (a .query) | false ↦ refuse overLimit (length (a .query)) ]
   read-is b e =
       let h = taken-claimed bs (a .query) (a .taken) in
-      readable-then-limits bs ∙ ap (λ r. onward r limited) (a .is-it)
+      readable-then-limits bs ∙ ap (λ r. afterwards r limited) (a .is-it)
       ∙ limited-by-the-claim (a .query) (a .taken .claim) (h .before, h .last, h .one) b (tested b e)
 
   pub read-within : inLimits s out ≡ true → (read bs ≡ ok (a .query)) × (withinLimits (a .query) (a .taken .claim) ≡ true)
@@ -135,4 +135,4 @@ module _ (bs : List ℕ) (s : Summary) (out : List ℕ) (a : Accepts bs s out) w
 
 -- a refusal of the reader is one of document 01's reading
 pub read-refused : (bs : List ℕ) (r : Refusal) → readable bs ≡ refused r → read bs ≡ refused r
-read-refused bs r e = readable-then-limits bs ∙ ap (λ x. onward x limited) e
+read-refused bs r e = readable-then-limits bs ∙ ap (λ x. afterwards x limited) e

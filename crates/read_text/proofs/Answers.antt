@@ -13,7 +13,7 @@ use Rattle.claims.specs.Bytes.{rawLines}
 use Rattle.claims.specs.Tree.{Claim}
 use Rattle.claims.specs.Query.{Query}
 use Rattle.claims.specs.Reading.{badLine, claimOf, readLines, limited, read}
-use Rattle.claims.specs.Refusals.{tooLong, badByte, noClaim, Result, ok, refused, refuse, onward}
+use Rattle.claims.specs.Refusals.{tooLong, badByte, noClaim, Result, ok, refused, refuse, afterwards}
 use Rattle.codes.specs.Codes.{queryCodes}
 use Rattle.read_text.specs.Reading.{claimed, inLines, readable, SaysSummary, leftCodes}
 use Rattle.read_text.specs.inner.Steps.{orZero, Written}
@@ -109,25 +109,25 @@ unfolding claimed
 claimed-some q c e = rw (e, claimed)
 
 -- the reading of document 01 is this one and then the limits
-limited-after : (q : Query) → limited q ≡ onward (claimed q) limited
+limited-after : (q : Query) → limited q ≡ afterwards (claimed q) limited
 unfolding limited
 limited-after q = go (claimOf q) refl
   where
-    go : (o : Option Claim) → claimOf q ≡ o → limited q ≡ onward (claimed q) limited
+    go : (o : Option Claim) → claimOf q ≡ o → limited q ≡ afterwards (claimed q) limited
     go none e = rw (claimed-none q e, e, limited)
     go (some c) e = rw (claimed-some q c e)
 
-pub readable-then-limits : (bs : List ℕ) → read bs ≡ onward (readable bs) limited
+pub readable-then-limits : (bs : List ℕ) → read bs ≡ afterwards (readable bs) limited
 unfolding read readable inLines
 readable-then-limits bs = go (leb (length bs) 4096) (badLine 1 bs) (readLines [] 1 (rawLines bs))
   where
-    lined : (r : Result Query) → onward r limited ≡ onward (onward r claimed) limited
+    lined : (r : Result Query) → afterwards r limited ≡ afterwards (afterwards r claimed) limited
     lined (ok q) = limited-after q
     lined (refused r) = refl
 
     go : (t : Bool) (o : Option ℕ) (r : Result Query)
-        → elim t [ false ↦ refuse tooLong 0 | true ↦ elim o [ some n ↦ refuse badByte n | none ↦ onward r limited ] ]
-        ≡ onward (elim t [ false ↦ refuse tooLong 0 | true ↦ elim o [ some n ↦ refuse badByte n | none ↦ onward r claimed ] ]) limited
+        → elim t [ false ↦ refuse tooLong 0 | true ↦ elim o [ some n ↦ refuse badByte n | none ↦ afterwards r limited ] ]
+        ≡ afterwards (elim t [ false ↦ refuse tooLong 0 | true ↦ elim o [ some n ↦ refuse badByte n | none ↦ afterwards r claimed ] ]) limited
     go false o r = refl
     go true (some n) r = refl
     go true none r = lined r

@@ -17,7 +17,7 @@ use Rattle.claims.specs.Tree.{Claim}
 use Rattle.claims.specs.Lines.{line}
 use Rattle.claims.specs.Query.{Query, tests, relations, lets}
 use Rattle.claims.specs.Reading.{claimOf, readLine, readLines}
-use Rattle.claims.specs.Refusals.{noClaim, afterClaim, Result, ok, refuse, onward}
+use Rattle.claims.specs.Refusals.{noClaim, afterClaim, Result, ok, refuse, afterwards}
 use Rattle.claims.specs.Names.{kindOf}
 use Rattle.codes.specs.Codes.{codeOf, kindCode, queryCodes, linesCodes}
 use Rattle.read_tokens.specs.Scan.{front}
@@ -38,13 +38,13 @@ use Rattle.read_text.proofs.Answers.{claimed-none, claimed-some}
 
 -- the lines go by the fate of the first
 pub lines-by-fate : (q : Query) (n : ℕ) (l : RawLine) (ls : List RawLine)
-    → readLines q n (l ∷ ls) ≡ onward (lineFate q n l) (λ x. readLines (q ++ (x ∷ [])) (suc n) ls)
+    → readLines q n (l ∷ ls) ≡ afterwards (lineFate q n l) (λ x. readLines (q ++ (x ∷ [])) (suc n) ls)
 unfolding readLines lineFate
 lines-by-fate q n l ls = go (claimOf q)
   where
     go : (o : Option Claim)
-        → elim o [ some c ↦ refuse afterClaim n | none ↦ onward (readLine q n (line l)) (λ x. readLines (q ++ (x ∷ [])) (suc n) ls) ]
-        ≡ onward (elim o [ some c ↦ refuse afterClaim n | none ↦ readLine q n (line l) ]) (λ x. readLines (q ++ (x ∷ [])) (suc n) ls)
+        → elim o [ some c ↦ refuse afterClaim n | none ↦ afterwards (readLine q n (line l)) (λ x. readLines (q ++ (x ∷ [])) (suc n) ls) ]
+        ≡ afterwards (elim o [ some c ↦ refuse afterClaim n | none ↦ readLine q n (line l) ]) (λ x. readLines (q ++ (x ∷ [])) (suc n) ls)
     go (some c) = refl
     go none = refl
 
@@ -101,7 +101,7 @@ module _ (text before : List ℕ) (st : State) (names out : List ℕ) (n at e : 
         query = g .query ++ (t .line ∷ []);
         left =
             ap (λ k. readLines (g .query ++ (t .line ∷ [])) k (rawLines (drop (e + 1) text))) (add-one n)
-            ∙ sym (ap (λ x. onward x (λ l. readLines (g .query ++ (l ∷ [])) (suc n) (rawLines (drop (e + 1) text)))) (t .fate n))
+            ∙ sym (ap (λ x. afterwards x (λ l. readLines (g .query ++ (l ∷ [])) (suc n) (rawLines (drop (e + 1) text)))) (t .fate n))
             ∙ sym (lines-by-fate (g .query) n (lineAt text at e) (rawLines (drop (e + 1) text)))
             ∙ next-line;
         after = t .after;
@@ -121,9 +121,9 @@ module _ (text before : List ℕ) (st : State) (names out : List ℕ) (n at e : 
   refused-here names′ out′ r c says same =
       let f : (k : ℕ) → lineFate (g .query) k (lineAt text at e) ≡ refuse (causeOf c) k =
       subst (LineSays (g .query) (lineAt text at e) st before names′ out′) same (says (g .query) before (g .after) (g .knows)) in
-      ap (λ x. onward x claimed)
+      ap (λ x. afterwards x claimed)
       (sym next-line ∙ lines-by-fate (g .query) n (lineAt text at e) (rawLines (drop (e + 1) text))
-      ∙ ap (λ x. onward x (λ l. readLines (g .query ++ (l ∷ [])) (suc n) (rawLines (drop (e + 1) text)))) (f n))
+      ∙ ap (λ x. afterwards x (λ l. readLines (g .query ++ (l ∷ [])) (suc n) (rawLines (drop (e + 1) text)))) (f n))
 
 -- a refusal's answer, with nothing said of the array
 pub refused-answer : (r : Result Query) (c : Reason) (p : ℕ) (before out : List ℕ) → r ≡ refuse (causeOf c) p
@@ -140,7 +140,7 @@ module _ (text before : List ℕ) (st : State) (names out : List ℕ) (n at : �
   unfolding inLines readLines rawLines
   all-read =
       let e : readLines (g .query) n (rawLines (drop at text)) ≡ ok (g .query) = rw (drop-of-length-le text h) in
-      ap (λ x. onward x claimed) (sym (g .left) ∙ e)
+      ap (λ x. afterwards x claimed) (sym (g .left) ∙ e)
 
   pub over-unclaimed : st .claimed ≡ false → SaysSummary (inLines text) (Refused NoClaim 0) × Written (inLines text) before out
   unfolding causeOf

@@ -11,7 +11,7 @@ use lib.ListN.{length}
 use Rattle.claims.specs.Bytes.{rawLines}
 use Rattle.claims.specs.Query.{Query, tests, relations}
 use Rattle.claims.specs.Reading.{badLine, claimOf, readLines}
-use Rattle.claims.specs.Refusals.{tooLong, badByte, noClaim, Result, ok, refused, refuse, onward}
+use Rattle.claims.specs.Refusals.{tooLong, badByte, noClaim, Result, ok, refused, refuse, afterwards}
 use Rattle.codes.specs.Codes.{queryCodes, claimKind}
 use Rattle.refusals.specs.Causes.{causeOf}
 use Rattle.read_text.specs.declared.Summary.{Summary}
@@ -25,7 +25,7 @@ claimed q = elim (claimOf q) [ none ↦ refuse noClaim 0 | some c ↦ ok q ]
 
 -- the lines from the top, and the claim that there must be: refusals 3 to 7
 unfoldable pub inLines : List ℕ → Result Query
-inLines bs = onward (readLines [] 1 (rawLines bs)) claimed
+inLines bs = afterwards (readLines [] 1 (rawLines bs)) claimed
 
 -- the query that the bytes are, or the first refusal of 1 to 7
 unfoldable pub readable : List ℕ → Result Query

@@ -12,7 +12,7 @@ use Rattle.kat.specs.Lists.{filter}
 use Rattle.kat.specs.Word.{end}
 use Rattle.claims.specs.Sides.{Decision}
 use Rattle.claims.specs.Standings.{System, Letter, letters, pathSystem, ringSystem}
-use Rattle.claims.specs.Search.{Entry, refuted, spent, firstLevel, grown, fresh, completed, verdict}
+use Rattle.claims.specs.Search.{Entry, refuted, spent, firstLevel, lengthened, fresh, completed, verdict}
 use Rattle.claims.specs.Thin.{thinNextLevel, thinLevels, thinVerdict}
 use Rattle.claims.specs.Alike.{pathLetter, ringLetter}
 use Rattle.claims.specs.Orders.{Rising}
@@ -26,7 +26,7 @@ module _ (S : System) (first later : Letter → Bool) where
   next-level-thin : (es : List (Entry S)) → nextLevelOver S (filter later (letters S)) es ≡ thinNextLevel S first (λ e. later) es
   unfolding nextLevelOver thinNextLevel
   next-level-thin [] = refl
-  next-level-thin (e ∷ es) = ap (λ fs. grown S e (filter later (letters S)) ++ fs) (next-level-thin es)
+  next-level-thin (e ∷ es) = ap (λ fs. lengthened S e (filter later (letters S)) ++ fs) (next-level-thin es)
 
   levels-thin : (f allowance : ℕ) (seen new : List (Entry S))
       → levelsOver S (filter later (letters S)) f allowance seen new ≡ thinLevels S first (λ e. later) f allowance seen new

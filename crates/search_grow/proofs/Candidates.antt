@@ -13,7 +13,7 @@ use lib.Seq.{drop-cons}
 use Rattle.kat.specs.Lists.{counted, upto, filter}
 use Rattle.kat.specs.Ring.{nothing, then}
 use Rattle.claims.specs.Standings.{Letter, lettersAt, lettersOf}
-use Rattle.claims.specs.Search.{Entry, firstLevel, grown}
+use Rattle.claims.specs.Search.{Entry, firstLevel, lengthened}
 use Rattle.bits.specs.Sets.{members}
 use Rattle.bits.proofs.Members.{number-none}
 use Rattle.bits.proofs.Lowest.{Lowest}
@@ -118,8 +118,8 @@ module _ (k : Shape) (left right : List ℕ) where
   -- behind entry i
   one-candidate : (old : Seen k left right) (i : ℕ) (e : Entry (wordSystem k left right)) (ls : List Letter)
       → getD (standings k left right old) i [] ≡ e .standing → getD (prefixes k left right old) i nothing ≡ e .prefix
-      → candidates k left right old (suc i) ls ≡ grown (wordSystem k left right) e ls
-  unfolding candidate wordsBehind prefixAt grown
+      → candidates k left right old (suc i) ls ≡ lengthened (wordSystem k left right) e ls
+  unfolding candidate wordsBehind prefixAt lengthened
   one-candidate old i e [] a b = refl
   one-candidate old i e (l ∷ ls) a b =
       ap₂ (λ s p. record { standing = onwardWords k left right s l; prefix = then p (l .atom) (l .relation) } ∷ candidates k left right old (suc i) ls) a b
@@ -140,7 +140,7 @@ module _ (k : Shape) (left right : List ℕ) where
       next : suc i ≡ i + 1
       next = omega arith
 
-      here : candidates k left right old (i + 1) ls ≡ grown (wordSystem k left right) (getD old i nowhere) ls
+      here : candidates k left right old (i + 1) ls ≡ lengthened (wordSystem k left right) (getD old i nowhere) ls
       here =
           ap (λ j. candidates k left right old j ls) (sym next)
           ∙ one-candidate old i (getD old i nowhere) ls (List·getD-map (λ e. e .standing) old i nowhere) (List·getD-map (λ e. e .prefix) old i nowhere)

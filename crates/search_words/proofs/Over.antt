@@ -9,7 +9,7 @@ use lib.Dec.{ltb}
 use lib.ListN.{length}
 use Rattle.kat.specs.Word.{Word, end}
 use Rattle.claims.specs.Standings.{System, Letter, letters}
-use Rattle.claims.specs.Search.{Entry, Verdict, proved, refuted, spent, firstLevel, grown, nextLevel, fresh, completed, levels, verdictWithin, verdict}
+use Rattle.claims.specs.Search.{Entry, Verdict, proved, refuted, spent, firstLevel, lengthened, nextLevel, fresh, completed, levels, verdictWithin, verdict}
 use Rattle.search_words.specs.Over.{nextLevelOver, levelsOver, verdictOver}
 
 module _ (S : System) where
@@ -39,7 +39,7 @@ module _ (S : System) where
   next-level-all : (es : List (Entry S)) → nextLevelOver S (letters S) es ≡ nextLevel S es
   unfolding nextLevelOver nextLevel
   next-level-all [] = refl
-  next-level-all (e ∷ es) = ap (λ fs. grown S e (letters S) ++ fs) (next-level-all es)
+  next-level-all (e ∷ es) = ap (λ fs. lengthened S e (letters S) ++ fs) (next-level-all es)
 
   pub levels-all : (f allowance : ℕ) (seen new : List (Entry S)) → levelsOver S (letters S) f allowance seen new ≡ levels S f allowance seen new
   unfolding levelsOver levels

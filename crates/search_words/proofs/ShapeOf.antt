@@ -10,7 +10,7 @@ use Rattle.kat.specs.Lists.{In, filter}
 use Rattle.kat.specs.Tables.{null}
 use Rattle.kat.proofs.Sets.{member-in, filter-same}
 use Rattle.claims.specs.Sides.{Decision}
-use Rattle.claims.specs.Standings.{Letter, alone}
+use Rattle.claims.specs.Standings.{Letter, refutingAtoms}
 use Rattle.claims.specs.Fields.{setNumber}
 use Rattle.claims.proofs.SetBytes.{RisingWithin, set-read-back}
 use Rattle.claims.proofs.Letters.{Fits}
@@ -49,8 +49,8 @@ module _ {k : Shape} {D : Decision} (h : ShapeOf k D) where
       omega arith
 
   -- the refuting words of length 0
-  pub alone-shown : alone D ≡ aloneWords k (sideTable (D .left)) (sideTable (D .right))
-  unfolding alone aloneWords
+  pub alone-shown : refutingAtoms D ≡ aloneWords k (sideTable (D .left)) (sideTable (D .right))
+  unfolding refutingAtoms aloneWords
   alone-shown =
       filter-same (λ a. null (D .left) a && not (null (D .right) a)) (λ a. nullAt (sideTable (D .left)) a && not (nullAt (sideTable (D .right)) a))
       (D .live)

@@ -16,7 +16,7 @@ use Rattle.kat.specs.Ring.{onto}
 use Rattle.kat.proofs.Bools.{bool-cases}
 use Rattle.kat.proofs.Sets.{in-append, some-same}
 use Rattle.claims.specs.Standings.{System, Letter, letters, lettersOf}
-use Rattle.claims.specs.Search.{Entry, Verdict, proved, refuted, firstLevel, grown, seenIn, fresh, completed, verdict}
+use Rattle.claims.specs.Search.{Entry, Verdict, proved, refuted, firstLevel, lengthened, seenIn, fresh, completed, verdict}
 use Rattle.claims.proofs.Letters.{Fits, letters-in}
 use Rattle.bits.proofs.Lists.{some-map}
 use Rattle.search_words.specs.Over.{nextLevelOver, levelsOver, verdictOver, shown}
@@ -86,15 +86,15 @@ module _ {S W : System} {show : W .Standing → S .Standing} {Good : W .Standing
   first-shown (l ∷ ls) h = rw (k .begins-shown l (h l (here refl)), first-shown ls (λ m i. h m (there i)))
 
   -- one entry and one letter more
-  grown-good : (e : Entry W) (ls : List Letter) → Good (e .standing) → AllFit W ls → Goods (grown W e ls)
-  unfolding grown
+  grown-good : (e : Entry W) (ls : List Letter) → Good (e .standing) → AllFit W ls → Goods (lengthened W e ls)
+  unfolding lengthened
   grown-good e [] g h = good-none S W show Good
   grown-good e (l ∷ ls) g h =
-      good-more S W show Good _ (grown W e ls) (k .goes-on (e .standing) l g (h l (here refl))) (grown-good e ls g (λ m i. h m (there i)))
+      good-more S W show Good _ (lengthened W e ls) (k .goes-on (e .standing) l g (h l (here refl))) (grown-good e ls g (λ m i. h m (there i)))
 
   grown-shown : (e : Entry W) (ls : List Letter) → Good (e .standing) → AllFit W ls
-      → grown S (shownEntry S W show Good e) ls ≡ entries (grown W e ls)
-  unfolding grown
+      → lengthened S (shownEntry S W show Good e) ls ≡ entries (lengthened W e ls)
+  unfolding lengthened
   grown-shown e [] g h = refl
   grown-shown e (l ∷ ls) g h =
       rw (k .goes-on-shown (e .standing) l g (h l (here refl)), grown-shown e ls g (λ m i. h m (there i)))
@@ -104,7 +104,7 @@ module _ {S W : System} {show : W .Standing → S .Standing} {Good : W .Standing
   unfolding nextLevelOver
   next-good ls [] h g = good-none S W show Good
   next-good ls (e ∷ es) h g =
-      good-append S W show Good (grown W e ls) (nextLevelOver W ls es) (grown-good e ls (g e (here refl)) h)
+      good-append S W show Good (lengthened W e ls) (nextLevelOver W ls es) (grown-good e ls (g e (here refl)) h)
       (next-good ls es h (λ x i. g x (there i)))
 
   next-shown : (ls : List Letter) (es : List (Entry W)) → AllFit W ls → Goods es
@@ -113,7 +113,7 @@ module _ {S W : System} {show : W .Standing → S .Standing} {Good : W .Standing
   next-shown ls [] h g = refl
   next-shown ls (e ∷ es) h g =
       ap₂ _++_ (grown-shown e ls (g e (here refl)) h) (next-shown ls es h (λ x i. g x (there i)))
-      ∙ sym (map-append S W show Good (grown W e ls) (nextLevelOver W ls es))
+      ∙ sym (map-append S W show Good (lengthened W e ls) (nextLevelOver W ls es))
 
   -- what was seen
   seen-shown : (seen : List (Entry W)) (s : W .Standing) → Goods seen → Good s → seenIn S (entries seen) (show s) ≡ seenIn W seen s

@@ -9,13 +9,13 @@ use lib.Dec.{ltb}
 use lib.ListN.{length}
 use Rattle.kat.specs.Word.{end}
 use Rattle.claims.specs.Standings.{System, Letter}
-use Rattle.claims.specs.Search.{Entry, Verdict, proved, refuted, spent, firstLevel, grown, fresh, completed}
+use Rattle.claims.specs.Search.{Entry, Verdict, proved, refuted, spent, firstLevel, lengthened, fresh, completed}
 
 module _ (S : System) where
   -- the next level, of what stands in this one, over the letters ls
   unfoldable pub nextLevelOver : List Letter → List (Entry S) → List (Entry S)
   nextLevelOver ls [] = []
-  nextLevelOver ls (e ∷ es) = grown S e ls ++ nextLevelOver ls es
+  nextLevelOver ls (e ∷ es) = lengthened S e ls ++ nextLevelOver ls es
 
   -- level n and on, n at least 1: at most f levels, seen are the standings of levels 1 to n, new those that are fresh in level n
   unfoldable pub levelsOver : List Letter → ℕ → ℕ → List (Entry S) → List (Entry S) → Verdict S
