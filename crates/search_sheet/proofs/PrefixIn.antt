@@ -12,6 +12,10 @@ use Rattle.search_store.specs.Store.{parentAt, letterAt, prefixAt, Holds}
 use Rattle.search_sheet.specs.SheetWords.{Falling, prefixWithin, prefixIn}
 
 module _ (ring : Bool) (r : List (List ℕ)) (w : List ℕ) (n : ℕ) (falls : Falling ring r w n) where
+  -- a parent is lower
+  pub parent-below : (i q p : ℕ) → q ≡ parentAt ring r w i → i < n → i < p → q < p
+  parent-below i q p e h l = omega (arith, falls i h, e)
+
   -- enough letters
   prefix-enough : (f g place : ℕ) → place ≤ n → place ≤ f → place ≤ g → prefixWithin ring r w f place ≡ prefixWithin ring r w g place
   unfolding prefixWithin

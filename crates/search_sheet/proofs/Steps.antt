@@ -21,8 +21,8 @@ use Rattle.search_fields.proofs.Fields.{field-of, field-count}
 use Rattle.search_sheet.specs.SheetWords.{Falling, prefixWithin, prefixIn, letterBytes, prefixBytes, wordBytes, fieldsFrom}
 use Rattle.search_sheet.proofs.PrefixIn.{prefix-more}
 
-pub room-below : {ring : Bool} {r : List (List ℕ)} {w : List ℕ} {n : ℕ} (m : ℕ) → m ≤ n → Room ring r w n → Room ring r w m
-room-below m h k = record { path = λ e. omega (arith, k .path e); turn = λ e. omega (arith, k .turn e) }
+pub room-below : {ring : Bool} {r : List (List ℕ)} {w : List ℕ} {m n : ℕ} → m ≤ n → Room ring r w n → Room ring r w m
+room-below h k = record { path = λ e. omega (arith, k .path e); turn = λ e. omega (arith, k .turn e) }
 
 -- i of n fields of f bytes each are written, behind 4 bytes
 module _ (f i at : ℕ) (e : at ≡ 4 + f * i) where

@@ -1,15 +1,17 @@
 -- `search_sheet::put_kept` meets its contract: the field looks at the words of the standing only, and these are in the memory.
 -- Assumes nothing.
+use native.Mathlib.Omega.{arith}
 use mathlib.Core.Path.{sym, _∙_, ap}
 use Rattle.search_fields.specs.Written.{written}
 use Rattle.search_fields.specs.FieldWords.{fieldWords}
 use Rattle.search_fields.proofs.FirstWords.{field-first}
+use Rattle.search_sheet.proofs.Steps.{room-below}
 use borrow.Author.Needs.{needs}
 use Rattle.search_sheet.proofs.put_kept.Statement.{statement}
 use Rattle.search_sheet.proofs.put_kept.Tie as tie
 
 load-requires : tie.Need-load-requires
-load-requires c κs = search needs
+load-requires c κs = room-below (omega arith) (c .before .before .before .pre .0)
 
 put-standing-requires : tie.Need-put-standing-requires
 put-standing-requires c κs = search needs

@@ -8,7 +8,7 @@ use lib.ListN.{length}
 use Rattle.claims.specs.Verdicts.{relationsIn}
 use Rattle.search_fields.specs.Written.{over}
 use Rattle.search_sheet.specs.SheetWords.{prefixIn, letterBytes, prefixBytes}
-use Rattle.search_sheet.proofs.PrefixIn.{relations-more}
+use Rattle.search_sheet.proofs.PrefixIn.{relations-more, parent-below}
 use Rattle.search_sheet.proofs.Steps.{room-below, letters-more, letters-end}
 use Rattle.search_sheet.proofs.put_prefix.Statement.{statement}
 use Rattle.search_sheet.proofs.put_prefix.Tie as tie
@@ -40,7 +40,7 @@ sub-letter : tie.Need-sub-letter Inv-loop μ-loop
 sub-letter c = omega arith
 
 letter-requires : tie.Need-letter-requires Inv-loop μ-loop
-letter-requires c κs = room-below (c .before .before .loop .p - 1 + 1) (omega arith) (c .before .before .before .before .before .pre .0 .room)
+letter-requires c κs = room-below (omega arith) (c .before .before .before .before .before .pre .0 .room)
 
 put-letter-requires : tie.Need-put-letter-requires Inv-loop μ-loop
 put-letter-requires c κs =
@@ -53,14 +53,14 @@ sub-parent c = omega arith
 
 parent-requires : tie.Need-parent-requires Inv-loop μ-loop
 parent-requires c κs =
-    room-below (c .before .before .before .before .before .before .loop .p - 1 + 1) (omega arith)
-    (c .before .before .before .before .before .before .before .before .before .pre .0 .room)
+    room-below (omega arith) (c .before .before .before .before .before .before .before .before .before .pre .0 .room)
 
 loop-less : tie.Need-loop-less Inv-loop μ-loop
 loop-less c =
     let l = c .before .before .before .before .before .before .before .loop in
     let s = c .before .before .before .before .before .before .before .before .before .before in
-    omega (arith, c .parent .ensures, s .pre .0 .falls (l .p - 1) (omega arith))
+    parent-below (s .args .ring) (s .args .records .now) (s .args .words .now) (s .args .place) (s .pre .0 .falls) _ _ (l .p)
+    (c .parent .ensures) (omega arith) (omega arith)
 
 loop-again : tie.Need-loop-again Inv-loop μ-loop
 loop-again c =
@@ -72,7 +72,7 @@ loop-again c =
     let before = ap (λ q. relationsIn (prefixIn (a .ring) (a .records .now) (a .words .now) q)) (c .parent .ensures) in
     let more = relations-more (a .ring) (a .records .now) (a .words .now) (a .place) falls (l .p) (omega arith) (omega arith) in (
       p .kept .0 ∙ l .inv .0,
-      omega (arith, c .parent .ensures, falls (l .p - 1) (omega arith)),
+      omega (arith, parent-below (a .ring) (a .records .now) (a .words .now) (a .place) falls _ _ (l .p) (c .parent .ensures) (omega arith) (omega arith)),
       omega arith,
       omega (arith, before, more),
       ap₂ (λ q xs. over 3 (prefixBytes (prefixIn (a .ring) (a .records .now) (a .words .now) q)) xs) (c .parent .ensures)

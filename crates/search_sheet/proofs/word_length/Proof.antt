@@ -6,7 +6,7 @@ use native.Mathlib.Omega.{arith}
 use mathlib.Core.Path.{_≡_, _∙_, ap}
 use Rattle.claims.specs.Verdicts.{relationsIn}
 use Rattle.search_sheet.specs.SheetWords.{prefixIn}
-use Rattle.search_sheet.proofs.PrefixIn.{prefix-none, relations-more}
+use Rattle.search_sheet.proofs.PrefixIn.{prefix-none, relations-more, parent-below}
 use Rattle.search_sheet.proofs.Steps.{room-below}
 use Rattle.search_sheet.proofs.word_length.Statement.{statement}
 use Rattle.search_sheet.proofs.word_length.Tie as tie
@@ -25,24 +25,23 @@ sub-parent : tie.Need-sub-parent Inv-loop μ-loop
 sub-parent c = omega arith
 
 parent-requires : tie.Need-parent-requires Inv-loop μ-loop
-parent-requires c κs =
-    let l = c .before .loop in
-    room-below (l .here - 1 + 1) (omega arith) (c .before .before .before .pre .0)
+parent-requires c κs = room-below (omega arith) (c .before .before .before .pre .0)
 
 add-k : tie.Need-add-k Inv-loop μ-loop
 add-k c = omega arith
 
 loop-less : tie.Need-loop-less Inv-loop μ-loop
 loop-less c =
-    let l = c .before .before .loop in
-    omega (arith, c .parent .ensures, c .before .before .before .before .pre .1 (l .here - 1) (omega arith))
+    let s = c .before .before .before .before in
+    parent-below (s .args .ring) (s .args .records .now) (s .args .words .now) (s .args .place) (s .pre .1) _ _
+    (c .before .before .loop .here) (c .parent .ensures) (omega arith) (omega arith)
 
 loop-again : tie.Need-loop-again Inv-loop μ-loop
 loop-again c =
     let a = c .before .before .before .before .args in
     let falls = c .before .before .before .before .pre .1 in
     let l = c .before .before .loop in (
-      omega (arith, c .parent .ensures, falls (l .here - 1) (omega arith)),
+      omega (arith, parent-below (a .ring) (a .records .now) (a .words .now) (a .place) falls _ _ (l .here) (c .parent .ensures) (omega arith) (omega arith)),
       omega (
         arith,
         relations-more (a .ring) (a .records .now) (a .words .now) (a .place) falls (l .here) (omega arith) (omega arith),

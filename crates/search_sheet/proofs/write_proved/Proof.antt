@@ -55,7 +55,7 @@ put-kept-requires c κs =
     let l = c .before .before .loop in
     let fits = place-fits (fieldLength (a .ring)) (l .i) (l .at) (l .inv .2) (a .n) (length (l .buffer)) (omega arith)
     (omega (arith, l .inv .0, c .before .before .before .before .before .put-verdict .kept .0)) in (
-      room-below (l .i + 1) (omega arith) (c .before .before .before .before .before .before .before .before .before .pre .0),
+      room-below (omega arith) (c .before .before .before .before .before .before .before .before .before .pre .0),
       omega (arith, length-take (length (l .buffer) - l .at) (drop (l .at) (l .buffer)), length-drop (l .at) (l .buffer), fits),
     )
 
