@@ -1,8 +1,34 @@
 // Runs the stored cases for reading. Standard input has one query a line, escaped as vectors/README.md says; for each the program writes
-// what the reader says of it.
-mod cases; // cases.rt: the lines of standard input
-mod escape; // escape.rt: the bytes that a line stands for
+// what the reader says of it. Of a query 4,097 bytes are kept: from there on it is too long, whatever follows.
+use case_lines::Case;
+use case_lines::Cases;
+
+// Writes what the reader says of the first n bytes of the text.
+fn answer(text: &[u8], n: usize) {
+    if n <= text.len() {
+        show::show(&text[..n]);
+    }
+}
+
+// Answers the cases of standard input, one after the other.
+fn run(part: &mut [u8], text: &mut [u8]) {
+    let mut used = Cases { at: 0, filled: 0 };
+    let mut left: u64 = 1048576;
+    while 0 < left {
+        let c = case_lines::next(part, used, text);
+        match c {
+            Case::Line(n, behind) => {
+                answer(text, n);
+                used = behind;
+            }
+            Case::End => return,
+        }
+        left -= 1;
+    }
+}
 
 fn main() {
-    cases::run();
+    let mut part = io::large_buffer();
+    let mut text = [0u8; 4097];
+    run(&mut part, &mut text);
 }

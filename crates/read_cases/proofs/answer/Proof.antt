@@ -4,8 +4,8 @@ use mathlib.Core.Path.{sym}
 use native.Mathlib.Omega.{arith}
 use lib.Seq.{length-take-le}
 use borrow.Author.Needs.{needs}
-use Rattle.read_cases.proofs.cases.answer.Statement.{statement}
-use Rattle.read_cases.proofs.cases.answer.Tie as tie
+use Rattle.read_cases.proofs.answer.Statement.{statement}
+use Rattle.read_cases.proofs.answer.Tie as tie
 
 slice-aggregate-show : tie.Need-slice-aggregate-show
 slice-aggregate-show c =

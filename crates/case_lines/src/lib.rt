@@ -1,0 +1,108 @@
+// Stored cases on standard input, one a line, escaped as vectors/README.md says. The programs that run them ask for one after the other.
+use escape::Place;
+use libc::STDIN_FILENO;
+ghost use Prim.Native.Nat.{_≤_};
+ghost use lib.ListN.{length};
+
+mod escape; // escape.rt: the bytes that a line stands for
+
+// How far the part of the input that was read last is used: the place of the next byte, and how many there are.
+pub struct Cases {
+    pub at: usize,
+    pub filled: usize,
+}
+
+// The next case: how many bytes of it stand in the text, and how far the input is used then; or the end of the input.
+pub enum Case {
+    Line(usize, Cases),
+    End,
+}
+
+// What a part of the input holds from a place on: the end of a line, with the bytes of the case and the place behind it, or more of the line.
+enum Found {
+    Line(usize, usize),
+    More(Place),
+}
+
+// A number in decimal digits at the start of a text, and how many bytes it has.
+pub struct Digits {
+    pub value: usize,
+    pub count: usize,
+}
+
+// Goes on in a line, up to its end or to the end of the part. What does not fit into the text is left out.
+fn scan(part: &[u8], from: usize, filled: usize, text: &mut [u8], start: Place) -> Found {
+    let mut at = from;
+    let mut place = start;
+    while at < filled {
+        if part.len() <= at {
+            return Found::More(place);
+        }
+        let b = part[at];
+        at += 1;
+        if b == 10 {
+            return Found::Line(place.used, at);
+        }
+        place = escape::step(text, place, b);
+    }
+    Found::More(place)
+}
+
+// The next case, its bytes in the text. A line of more than 1,024 parts is taken for the end.
+pub fn next(part: &mut [u8], used: Cases, text: &mut [u8]) -> Case {
+    let mut at = used.at;
+    let mut filled = used.filled;
+    let mut place = escape::start();
+    let mut left: u64 = 1024;
+    while 0 < left {
+        let s = scan(part, at, filled, text, place);
+        match s {
+            Found::Line(n, behind) => return Case::Line(n, Cases { at: behind, filled }),
+            Found::More(p) => place = p,
+        }
+        filled = io::read_full(STDIN_FILENO, part);
+        at = 0;
+        if filled == 0 {
+            return Case::End;
+        }
+        left -= 1;
+    }
+    Case::End
+}
+
+// A number with one more digit; one over 1,000,000,000 stays as it is.
+fn more(value: usize, digit: usize) -> usize
+    requires { ⌜ digit ≤ 255 ⌝ }
+    ensures { λ r. ⌜ (value ≤ 20000000000 → r ≤ 20000000000) ⌝ }
+{
+    if 1000000000 < value {
+        return value;
+    }
+    10 * value + digit
+}
+
+// The number at the start of the first n bytes of a text, of at most 20 digits.
+pub fn number(text: &[u8], n: usize) -> Digits
+    ensures { λ r. ⌜ r .count ≤ 20 ⌝ }
+{
+    let mut value: usize = 0;
+    let mut i = 0;
+    while i < 20 {
+        if n <= i {
+            return Digits { value, count: i };
+        }
+        if text.len() <= i {
+            return Digits { value, count: i };
+        }
+        let b = text[i];
+        if b < b'0' {
+            return Digits { value, count: i };
+        }
+        if b'9' < b {
+            return Digits { value, count: i };
+        }
+        value = more(value, (b - b'0') as usize);
+        i += 1;
+    }
+    Digits { value, count: i }
+}
