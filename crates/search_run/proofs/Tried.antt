@@ -1,0 +1,24 @@
+-- The letters of level 1, by the claim's kind.
+-- Assumes nothing.
+use Prim.Native.Nat.{ℕ}
+use mathlib.Core.Path.{_≡_, ap}
+use mathlib.Core.Bool.{true, false}
+use mathlib.Core.List.{List}
+use Rattle.words.specs.Memory.{words}
+use Rattle.query.specs.declared.Facts.{Facts}
+use Rattle.search_alike.specs.Masks.{masksOf}
+use Rattle.search_grow.specs.Masks.{lettersIn}
+use Rattle.search_run.specs.inner.Tried.{shapeOf, firstMasks, firstLetters, laterLetters}
+
+module _ (f : Facts) (left right : List ℕ) where
+  -- those of the later levels
+  pub path-first : f .ring ≡ false → firstLetters f left right ≡ laterLetters f left right
+  unfolding firstLetters laterLetters firstMasks
+  path-first path =
+      ap (λ b. lettersIn (elim b [ false ↦ masksOf (shapeOf f) (f .left) left right | true ↦ words 16 (λ r. f .live) ]) (f .live) (f .relations)) path
+
+  -- all
+  pub ring-first : f .ring ≡ true → firstLetters f left right ≡ lettersIn (words 16 (λ r. f .live)) (f .live) (f .relations)
+  unfolding firstLetters firstMasks
+  ring-first ring =
+      ap (λ b. lettersIn (elim b [ false ↦ masksOf (shapeOf f) (f .left) left right | true ↦ words 16 (λ r. f .live) ]) (f .live) (f .relations)) ring
