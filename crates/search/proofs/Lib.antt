@@ -1,0 +1,2 @@
+-- The two ways on from the reading of the query.
+pub mod Asking

@@ -1,0 +1,39 @@
+// The search call: a query, an allowance and lent memory give an answer with its sheet, or a refusal. (Document 01, "Standings", "Sheet and
+// graph bytes" and "Refusals with an example each".) The query is read first, refusals 1 to 8; then come 9, 10 and 11. For every input the
+// outcome is said, and every record, word and byte that was lent.
+use query::Answer;
+use search_run::Outcome;
+ghost use Rattle.claims.specs.Calls.{search-call};
+ghost use Rattle.search_run.specs.Outcomes.{lentOf, Gives};
+
+// Searches for the verdict of the query that the text is, within an allowance of standings. A path claim needs a record for each standing
+// of the allowance, a ring claim 40 words; the other kind of memory is not looked at. After an answer the sheet stands at the start of the
+// buffer.
+pub fn search(
+    text: &[u8],
+    allowance: usize,
+    records: &mut [[u64; 4]],
+    words: &mut [u64],
+    buffer: &mut [u8],
+) -> Outcome
+    ensures { λ r.
+        ⌜ Gives (search-call (now (text .entry)) allowance (lentOf (now (records .entry)) (now (words .entry)) (now (buffer .entry)))) r
+        (lentOf (now (records .exit)) (now (words .exit)) (now (buffer .exit))) ⌝ }
+{
+    let mut codes = [0u64; 4096];
+    let mut left = [0u64; 4241];
+    let mut right = [0u64; 4241];
+    let answer = query::read(text, &mut codes, &mut left, &mut right);
+    match answer {
+        Answer::Refused(why, place) => Outcome::Refused(why, place),
+        Answer::Accepted(f) => search_run::decide(
+            f,
+            &left,
+            &right,
+            allowance,
+            records,
+            words,
+            buffer,
+        ),
+    }
+}
