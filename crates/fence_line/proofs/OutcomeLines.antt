@@ -1,0 +1,84 @@
+-- The line of an outcome is the line of what it says, and the program's line is that of its call.
+-- Assumes nothing.
+use Prim.Native.Nat.{ℕ, zero, suc, _+_, _*_}
+use mathlib.Core.Path.{_≡_, refl, sym, _∙_, ap, ap₂, subst}
+use mathlib.Core.Bool.{Bool, true, false}
+use mathlib.Core.List.{List, [], _∷_, _++_, map, append-assoc}
+use lib.ListN.{take, drop, replicate}
+use Rattle.kat.specs.Word.{Word, size, numbers}
+use Rattle.claims.specs.Bytes.{text}
+use Rattle.claims.specs.Width.{width, rowLength, besideColumns, ringWords}
+use Rattle.claims.specs.SheetBytes.{contentsLength}
+use Rattle.claims.specs.Refusals.{Cause, number, Result, ok, refused}
+use Rattle.claims.specs.Calls.{Answer, provedWith, refutedBy, Slot, Lent, search-call}
+use Rattle.claims.specs.Printed.{spaced, answerLine, refusalLine, lineOf, programAllowance, memoryFor, asksRing, programResult, printed}
+use Rattle.refusals.specs.Causes.{causeOf}
+use Rattle.print_line.specs.Puts.{Puts}
+use Rattle.search_run.specs.declared.Outcome.{Outcome}
+use Rattle.search_run.specs.declared.Outcome.the-variants.{Proved, Refuted, Refused}
+use Rattle.search_run.specs.Outcomes.{Says, slotOf, lentOf}
+use Rattle.fence_line.specs.Shown.{outcomeLine}
+use Rattle.fence_line.proofs.WordInSheet.{word-stands}
+
+-- the line of what an outcome is
+pub as-outcome : {l m : List ℕ} {r x : Outcome} {to : ℕ} (sheet : List ℕ) → r ≡ x → Puts l 0 (outcomeLine x sheet) to m → Puts l 0 (outcomeLine r sheet) to m
+as-outcome {l} {m} {r} {x} {to} sheet e p = subst (λ (y : Outcome). Puts l 0 (outcomeLine y sheet) to m) (sym e) p
+
+pub as-refuted : {l m : List ℕ} {r : Outcome} {n to : ℕ} (sheet word : List ℕ) → r ≡ Refuted n → word ≡ take (2 * n + 1) (drop 7 sheet)
+    → Puts l 0 (text "refuted" ++ (spaced word ++ (10 ∷ []))) to m → Puts l 0 (outcomeLine r sheet) to m
+as-refuted {l} {m} {r} {n} {to} sheet word e w p =
+    as-outcome sheet e (subst (λ (x : List ℕ). Puts l 0 (text "refuted" ++ (spaced x ++ (10 ∷ []))) to m) w p)
+
+pub puts-same : {l m bs cs : List ℕ} {to : ℕ} → bs ≡ cs → Puts l 0 bs to m → Puts l 0 cs to m
+puts-same {l} {m} {bs} {cs} {to} e p = subst (λ (ds : List ℕ). Puts l 0 ds to m) e p
+
+-- the line of an outcome that says the result
+says-line : (x : Result Answer) (r : Outcome) (sheet : List ℕ) → Says x r
+    → ((w : Word) → x ≡ ok (refutedBy w) → take (2 * size w + 1) (drop 7 sheet) ≡ numbers w) → outcomeLine r sheet ≡ lineOf x
+unfolding lineOf answerLine refusalLine
+says-line (ok (provedWith c)) (Proved n) sheet e word = ap (λ (k : ℕ). text "proved" ++ (spaced (k ∷ []) ++ (10 ∷ []))) e
+says-line (ok (refutedBy w)) (Refuted n) sheet e word =
+    ap (λ (ns : List ℕ). text "refuted" ++ (spaced ns ++ (10 ∷ [])))
+    (ap (λ (k : ℕ). take (2 * k + 1) (drop 7 sheet)) e ∙ word w refl)
+says-line (refused q) (Refused why p) sheet (e, f) word =
+    ap₂ (λ (c : Cause) (k : ℕ). text "refusal" ++ (spaced (number c ∷ []) ++ (text " line" ++ (spaced (k ∷ []) ++ (10 ∷ []))))) e f
+    ∙ ap (λ (l : List ℕ). text "refusal" ++ l)
+    (sym (append-assoc (spaced (number (q .cause) ∷ [])) (text " line" ++ spaced (q .place ∷ [])) (10 ∷ [])))
+
+-- two hundred standings, whatever the kind of the claim
+allowance-200 : (k : Bool) → programAllowance k ≡ 200
+unfolding programAllowance
+allowance-200 false = refl
+allowance-200 true = refl
+
+zero-slots : (n : ℕ) → map slotOf (replicate n (0 ∷ 0 ∷ 0 ∷ 0 ∷ [])) ≡ replicate n (record { P = 0; S = 0; parent = 0; letter = 0 })
+unfolding slotOf
+zero-slots zero = refl
+zero-slots (suc n) = ap (λ (l : List Slot). record { P = 0; S = 0; parent = 0; letter = 0 } ∷ l) (zero-slots n)
+
+lent-200 : (records : List (List ℕ)) (words buffer : List ℕ) → records ≡ replicate 200 (0 ∷ 0 ∷ 0 ∷ 0 ∷ []) → words ≡ replicate 8000 0
+    → buffer ≡ replicate 53804 0 → lentOf records words buffer ≡ memoryFor 200
+unfolding lentOf slotOf memoryFor ringWords width besideColumns contentsLength rowLength
+lent-200 records words buffer e f g =
+    ap (λ (x : List (List ℕ)). lentOf x words buffer) e ∙ ap (λ (x : List ℕ). lentOf (replicate 200 (0 ∷ 0 ∷ 0 ∷ 0 ∷ [])) x buffer) f
+    ∙ ap (λ (x : List ℕ). lentOf (replicate 200 (0 ∷ 0 ∷ 0 ∷ 0 ∷ [])) (replicate 8000 0) x) g
+    ∙ ap (λ (x : List Slot). lent x (replicate 8000 0) (replicate 53804 0)) (zero-slots 200)
+  where
+    lent : List Slot → List ℕ → List ℕ → Lent
+    lent rs ws b = record { records = rs; words = ws; buffer = b }
+
+printed-200 : (bs : List ℕ) → printed programAllowance bs ≡ lineOf (search-call bs 200 (memoryFor 200) .result)
+unfolding printed programResult
+printed-200 bs = ap (λ (n : ℕ). lineOf (search-call bs n (memoryFor n) .result)) (allowance-200 (asksRing bs))
+
+-- the program's line is that of the outcome of its call
+pub program-line : (bs : List ℕ) (records : List (List ℕ)) (words buffer after : List ℕ) (r : Outcome)
+    → records ≡ replicate 200 (0 ∷ 0 ∷ 0 ∷ 0 ∷ []) → words ≡ replicate 8000 0 → buffer ≡ replicate 53804 0
+    → Says (search-call bs 200 (lentOf records words buffer) .result) r
+    → after ≡ search-call bs 200 (lentOf records words buffer) .lent .buffer
+    → outcomeLine r after ≡ printed programAllowance bs
+program-line bs records words buffer after r e f g s a =
+    let m : lentOf records words buffer ≡ memoryFor 200 = lent-200 records words buffer e f g in
+    says-line (search-call bs 200 (lentOf records words buffer) .result) r after s
+    (λ w h. ap (λ (b : List ℕ). take (2 * size w + 1) (drop 7 b)) a ∙ word-stands bs 200 (lentOf records words buffer) w h)
+    ∙ ap (λ (x : Lent). lineOf (search-call bs 200 x .result)) m ∙ sym (printed-200 bs)

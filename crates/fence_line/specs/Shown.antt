@@ -1,0 +1,19 @@
+-- The line of an outcome and the sheet that stands beside it. (Document 01, "The desk's cases".) `proofs/` shows that it is the line of what the
+-- outcome says, `lineOf`.
+-- Assumes nothing.
+use Prim.Native.Nat.{ℕ, _+_, _*_}
+use mathlib.Core.List.{List, [], _∷_, _++_}
+use lib.ListN.{take, drop}
+use Rattle.claims.specs.Bytes.{text}
+use Rattle.claims.specs.Refusals.{number}
+use Rattle.claims.specs.Printed.{spaced}
+use Rattle.refusals.specs.Causes.{causeOf}
+use Rattle.search_run.specs.declared.Outcome.{Outcome}
+use Rattle.search_run.specs.declared.Outcome.the-variants.{Proved, Refuted, Refused}
+
+-- `proved` and the count, `refuted` and the word, which stands in the sheet behind seven bytes, or `refusal`, number, `line`, place
+abbrev pub outcomeLine : Outcome → List ℕ → List ℕ
+outcomeLine (Proved c) sheet = text "proved" ++ (spaced (c ∷ []) ++ (10 ∷ []))
+outcomeLine (Refuted n) sheet = text "refuted" ++ (spaced (take (2 * n + 1) (drop 7 sheet)) ++ (10 ∷ []))
+outcomeLine (Refused why p) sheet =
+    text "refusal" ++ (spaced (number (causeOf why) ∷ []) ++ (text " line" ++ (spaced (p ∷ []) ++ (10 ∷ []))))

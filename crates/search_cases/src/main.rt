@@ -1,0 +1,154 @@
+// Runs the stored cases of the search at any allowance. Standard input has an allowance, a space and a query a line, escaped as
+// vectors/README.md says; for each the program writes the line of the query program. Behind a line that is the word `sheet` it writes the
+// bytes of the sheet in hex instead, or the refusal.
+use case_lines::Case;
+use case_lines::Cases;
+use libc::STDOUT_FILENO;
+use search_run::Outcome;
+
+// Whether the line is the one behind which sheets are asked for.
+fn asks_sheets(text: &[u8], n: usize) -> bool {
+    if text.len() == 0 {
+        return false;
+    }
+    if n != 5 {
+        return false;
+    }
+    text[0] == b's'
+}
+
+// Writes the line of an outcome.
+fn write_line(r: Outcome, buffer: &[u8], out: &mut [u8]) {
+    let m = fence_line::outcome_line(r, buffer, out);
+    if m <= out.len() {
+        io::write_all(STDOUT_FILENO, &out[..m]);
+    }
+}
+
+// Writes the first n bytes of the buffer in hex.
+fn write_hex(buffer: &[u8], n: usize) {
+    let mut i = 0;
+    while i < n {
+        if buffer.len() <= i {
+            return;
+        }
+        io::print_hex(STDOUT_FILENO, wide(buffer[i]), 2);
+        i += 1;
+    }
+    io::write_all(STDOUT_FILENO, b"\n");
+}
+
+// How many bytes the sheet of a proof with n standings has: a field says its length, 16 bytes for a path and 266 for a ring.
+fn proved_length(buffer: &[u8], n: usize) -> usize {
+    if buffer.len() < 7 {
+        return 4;
+    }
+    if 4096 < n {
+        return 4;
+    }
+    if buffer[5] == 1 {
+        return 4 + 269 * n;
+    }
+    4 + 19 * n
+}
+
+// A byte as a number.
+fn wide(b: u8) -> u64 {
+    b as u64
+}
+
+// Writes the sheet of an answer, or the line of a refusal.
+fn write_sheet(r: Outcome, buffer: &[u8], out: &mut [u8]) {
+    match r {
+        Outcome::Proved(n) => write_hex(buffer, proved_length(buffer, n)),
+        Outcome::Refuted(n) => {
+            if n <= 4096 {
+                write_hex(buffer, 8 + 2 * n);
+            }
+        }
+        Outcome::Refused(why, place) => write_line(Outcome::Refused(why, place), buffer, out),
+    }
+}
+
+// Searches the query that stands behind the allowance in the first n bytes of the text, and writes its line or its sheet.
+fn answer(
+    text: &[u8],
+    n: usize,
+    sheets: bool,
+    records: &mut [[u64; 4]],
+    words: &mut [u64],
+    buffer: &mut [u8],
+    out: &mut [u8],
+) {
+    let allowance = case_lines::number(text, n);
+    let from = allowance.count + 1;
+    if n <= text.len() {
+        if from <= n {
+            let r = search::search(&text[from..n], allowance.value, records, words, buffer);
+            if sheets {
+                write_sheet(r, buffer, out);
+                return;
+            }
+            write_line(r, buffer, out);
+        }
+    }
+}
+
+// Answers a case; whether sheets are asked for from then on.
+fn take(
+    text: &[u8],
+    n: usize,
+    sheets: bool,
+    records: &mut [[u64; 4]],
+    words: &mut [u64],
+    buffer: &mut [u8],
+    out: &mut [u8],
+) -> bool {
+    if asks_sheets(text, n) {
+        return true;
+    }
+    answer(text, n, sheets, records, words, buffer, out);
+    sheets
+}
+
+// Answers the cases of standard input, one after the other.
+fn run(
+    part: &mut [u8],
+    text: &mut [u8],
+    records: &mut [[u64; 4]],
+    words: &mut [u64],
+    buffer: &mut [u8],
+    out: &mut [u8],
+) {
+    let mut used = Cases { at: 0, filled: 0 };
+    let mut sheets = false;
+    let mut left: u64 = 1048576;
+    while 0 < left {
+        let c = case_lines::next(part, used, text);
+        match c {
+            Case::Line(n, behind) => {
+                sheets = take(text, n, sheets, records, words, buffer, out);
+                used = behind;
+            }
+            Case::End => return,
+        }
+        left -= 1;
+    }
+}
+
+fn main() {
+    let mut part = [0u8; 65536];
+    let mut text = [0u8; 4120];
+    let mut records = [[0u64; 4]; 4096];
+    let mut words = [0u64; 163840];
+    let mut buffer = [0u8; 1101828];
+    let mut out = [0u8; 32768];
+    run(
+        &mut part,
+        &mut text,
+        &mut records,
+        &mut words,
+        &mut buffer,
+        &mut out,
+    );
+}
