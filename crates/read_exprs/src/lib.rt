@@ -257,7 +257,8 @@ fn postfixes(s: &[u8], p: Place, out: &mut [u64; 4096]) -> Place
     }
 }
 
-// An E from the place p on, with no open bracket, and the same room.
+// An E from the place p on, with no open bracket. What is required of the room in `out` is no limit of its own: a code takes a byte of the
+// line at least, and a query has at most 4,096.
 pub fn expression(s: &[u8], names: &[u64], n: usize, p: Place, out: &mut [u64; 4096]) -> Parsed
     requires { ⌜ Room (now s) p ⌝ }
     ensures { λ r. ⌜ TreeOutcome (Is expression) (now (s .entry)) (now (names .entry)) n p (now (out .entry)) (now (out .exit)) r ⌝ }

@@ -144,7 +144,7 @@ pub fn find(names: &[u64], n: usize, k: Key) -> u64
     0
 }
 
-// The entry of a name behind n others.
+// The entry of a name behind n others. What is required is no limit: at most 54 names are declared, and the table has room for 64.
 pub fn enter(names: &mut [u64; 192], n: usize, k: Key, code: u64)
     requires { ⌜ n < 64 ⌝ }
     ensures { λ _. ⌜ now (names .exit) ≡ entered (now (names .entry)) n k code ⌝ }

@@ -72,7 +72,7 @@ fn marks_next(s: &[u8], at: usize, b: u8) -> Run
     }
 }
 
-// Writes the code `count` times.
+// Writes the code `count` times. The room is what the readers above have, since a code takes a byte of the line at least.
 pub fn write(out: &mut [u64; 4096], used: usize, count: usize, code: u64) -> usize
     requires { ⌜ used + count ≤ 4096 ⌝ }
     ensures { λ r. ⌜ (r ≡ used + count) × (now (out .exit) ≡ sets (now (out .entry)) used (replicate count code)) ⌝ }

@@ -11,7 +11,8 @@ ghost use Rattle.claims.specs.Fields.{bigEndian};
 ghost use Rattle.search_fields.specs.Written.{written, over};
 ghost use Rattle.search_fields.specs.FieldWords.{numberM, rowNumber, rowsBytes, fieldWords, fieldLength};
 
-// A number in n bytes, big-endian, from place `at` on; the place behind it.
+// A number in n bytes, big-endian, from place `at` on; the place behind it. The room is required because the length of a whole sheet is
+// tested before its first byte is written (refusal 11): a branch for a short buffer here could not be reached.
 pub fn put_number(out: &mut [u8], at: usize, n: usize, w: u64) -> usize
     requires { ⌜ at + n ≤ length (now out) ⌝ }
     ensures { λ r. ⌜ (r ≡ at + n) × (now (out .exit) ≡ over at (bigEndian n w) (now (out .entry))) ⌝ }
@@ -26,7 +27,7 @@ pub fn put_number(out: &mut [u8], at: usize, n: usize, w: u64) -> usize
     at + n
 }
 
-// A field's tag and its length.
+// A field's tag and its length, with the same room.
 pub fn put_header(out: &mut [u8], tag: u8, len: u64) -> usize
     requires { ⌜ 3 ≤ length (now out) ⌝ }
     ensures { λ r. ⌜ (r ≡ 3) × (now (out .exit) ≡ written (tag ∷ bigEndian 2 len) (now (out .entry))) ⌝ }
@@ -102,7 +103,7 @@ fn put_ring(out: &mut [u8], s: &[u64; 40]) -> usize
     put_rows(out, table_n, s, true)
 }
 
-// The field of a standing.
+// The field of a standing, with the same room.
 pub fn put_standing(ring: bool, s: &[u64; 40], out: &mut [u8]) -> usize
     requires { ⌜ fieldLength ring ≤ length (now out) ⌝ }
     ensures { λ n. ⌜ (n ≡ fieldLength ring) × (now (out .exit) ≡ written (fieldWords ring (now (s .entry))) (now (out .entry))) ⌝ }
