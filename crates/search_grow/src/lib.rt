@@ -1,5 +1,6 @@
 // The candidates of the search, noted one behind the other. (Document 01, "Standings".) Fresh standings are kept in the order of their least
 // prefix. Place 0 is the empty prefix, place i + 1 is standing i. The standing past the allowance is counted and not kept.
+// What is required of the room is what the search call has tested (refusal 9).
 use search_words::Shape;
 ghost use Prim.Native.Nat.{ℕ, _+_, _*_, _≤_, _<_};
 ghost use mathlib.Core.Path.{_≡_};

@@ -1,7 +1,8 @@
 // The sheet of a verdict, from the memory of standings: the verdict's field, and for a proved claim the field of each standing in the order
 // of the memory, for a refuted one the word, which is the prefix of a place by parents and letters and a last atom. (Document 01, "Sheet and
 // graph bytes".) Each field is put at the start of the part of the buffer that is not written yet, and its writer returns how many bytes it
-// put there; the buffer past the sheet is left as it is.
+// put there; the buffer past the sheet is left as it is. What is required of the room in it is what the search call has tested (refusal 11),
+// and of the memory what the search leaves there.
 use search_fields::put_header;
 use search_fields::put_number;
 use search_fields::put_standing;

@@ -1,7 +1,7 @@
 // The memory of standings. Two memories are lent, and only that of the claim's kind is used: records of four words for path claims
 // (P, S, parent, letter), 40 words a standing for ring claims (34 words, parent, letter, the rest unused). A parent is a place: 0 is the
 // empty prefix, i + 1 is standing i. A letter is 16 * atom + relation. A standing on its way is a local array of 40 words, of which
-// the first 2, or 34, count. (Document 01, "Standings".)
+// the first 2, or 34, count. (Document 01, "Standings".) What is required of the room is what the search call has tested (refusal 9).
 ghost use Prim.Native.Nat.{_+_, _*_, _≤_};
 ghost use mathlib.Core.Path.{_≡_};
 ghost use mathlib.Core.Bool.{true, false};
