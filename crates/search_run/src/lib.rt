@@ -189,7 +189,7 @@ fn run(
 }
 
 // The search on a decision, by its facts and the tables of its two sides: refusals 9, 10 and 11, or an answer with its sheet at the start of
-// the buffer.
+// the buffer. Every decision of the reader has at most 16 relations, which is what is required.
 pub fn decide(
     f: Facts,
     left: &[u64; 4241],
