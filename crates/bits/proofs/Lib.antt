@@ -1,5 +1,6 @@
 -- Single bits, and numbers by their bits.
 pub mod Bit
+pub mod Shifted
 -- The members of a set, as a rising list.
 pub mod Lists
 pub mod Members

@@ -2,3 +2,5 @@
 pub mod Readings
 pub mod Limits
 pub mod Outcomes
+-- The decision of an accepted query.
+pub mod Asked

@@ -21,8 +21,8 @@ use Rattle.claims.proofs.Results.{same-is-equal, same-self}
 use Rattle.bits.proofs.Members.{numbers-equal, number-filter}
 use Rattle.side_turned.specs.SideTable.{sideTable}
 use Rattle.search_words.specs.declared.Shape.{Shape}
-use Rattle.search_words.specs.Steps.{stepFrom, enders}
-use Rattle.search_words.proofs.Tables.{null-shown, ends-bit, enders-small, from-small, from-shown}
+use Rattle.standings.specs.Steps.{stepFrom, enders}
+use Rattle.standings.proofs.Tables.{null-shown, ends-bit, enders-small, from-small, from-shown}
 use Rattle.search_alike.specs.Masks.{rowAlike, rowsAlike, endsAlike, alikeWords}
 
 -- tests that agree on the list

@@ -6,7 +6,7 @@ use mathlib.Core.Bool.{Bool, true, false, not, _&&_, Bool·beq}
 use mathlib.Core.List.{List}
 use lib.Dec.{eqb}
 use Rattle.kat.proofs.Bools.{not-true-false}
-use Rattle.search_words.specs.Steps.{enders, nullAt}
+use Rattle.standings.specs.Steps.{enders, nullAt}
 use Rattle.search_alike.specs.Masks.{endsAlike}
 
 pub not-false-true : (b : Bool) → not b ≡ false → b ≡ true

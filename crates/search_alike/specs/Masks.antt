@@ -11,7 +11,7 @@ use Rattle.kat.specs.Lists.{upto, some, every}
 use Rattle.words.specs.Memory.{words}
 use Rattle.bits.specs.Sets.{including, allBelow, members}
 use Rattle.search_words.specs.declared.Shape.{Shape}
-use Rattle.search_words.specs.Steps.{stepFrom, enders, nullAt}
+use Rattle.standings.specs.Steps.{stepFrom, enders, nullAt}
 
 -- after p, the same occurrences that read r may come next at atom a and at atom b ("Standings")
 unfoldable pub rowAlike : List ℕ → ℕ → ℕ → ℕ → ℕ → Bool

@@ -8,7 +8,7 @@ use mathlib.Core.List.{List, [], _∷_}
 use lib.ListN.{getD, take}
 use lib.Seq.{getD-take}
 use Rattle.claims.specs.Query.{bit}
-use Rattle.search_words.specs.Steps.{endsSet}
+use Rattle.standings.specs.Steps.{endsSet}
 use Rattle.search_words.specs.First.{firstOr}
 use Rattle.search_words.specs.RingWords.{ringCovered, ringFinals}
 

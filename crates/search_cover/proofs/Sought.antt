@@ -21,10 +21,10 @@ use Rattle.bits.specs.Sets.{allBelow, row, anyMember}
 use Rattle.bits.proofs.Bit.{bit-and, bit-none}
 use Rattle.bits.proofs.Members.{some-number}
 use Rattle.bits.proofs.Rows.{bit-all}
-use Rattle.search_words.specs.Steps.{enders}
+use Rattle.standings.specs.Steps.{enders}
 use Rattle.search_words.specs.RingWords.{inM, inN, turnEnds, pairTurns, ringCovered}
-use Rattle.search_words.proofs.Upto.{upto-more, upto-none, some-range, some-higher}
-use Rattle.search_words.proofs.RingColumns.{bit-down}
+use Rattle.standings.proofs.Upto.{upto-more, upto-none, some-range, some-higher}
+use Rattle.bits.proofs.Shifted.{bit-down}
 use Rattle.search_words.proofs.RingShown.{inN-some}
 use Rattle.search_words.proofs.RingRows.{inM-some, inM-none}
 use Rattle.search_cover.specs.inner.Rounds.{rounds, endsBy, pairsOf, pairsBy}

@@ -15,7 +15,7 @@ ghost use mathlib.Core.Bool.{cond, _&&_, _||_};
 ghost use lib.Bits.{bitOr};
 ghost use lib.ListN.{length, getD, set, take};
 ghost use Rattle.claims.specs.Query.{bit};
-ghost use Rattle.search_words.specs.Steps.{enders, endsSet};
+ghost use Rattle.standings.specs.Steps.{enders, endsSet};
 ghost use Rattle.search_words.specs.First.{firstOr};
 ghost use Rattle.search_words.specs.RingWords.{ringCovered, ringFinals};
 ghost use Rattle.search_cover.specs.inner.Rounds.{joinedWhere, round, rounds, endsBy, pairsOf, pairsBy};

@@ -20,7 +20,7 @@ use Rattle.claims.specs.SheetBytes.{setBytes, rowBytes, tableBytes, pathBytes, 
 use Rattle.bits.proofs.Bit.{bit-ext}
 use Rattle.side_atoms.proofs.Atoms.{number-small, bit-of}
 use Rattle.search_words.specs.RingWords.{inM}
-use Rattle.search_words.proofs.OccurrenceWords.{occurrencesOf, word-bytes}
+use Rattle.standings.proofs.OccurrenceWords.{occurrencesOf, word-bytes}
 use Rattle.search_words.proofs.RingShown.{ringShown, GoodRing}
 use Rattle.search_words.proofs.RingRows.{M-row-bit, M-row-small, N-row-zero, N-row-number}
 use Rattle.search_fields.specs.FieldWords.{numberM, numberN, rowNumber, rowsFrom, rowsBytes, contentsWords, fieldWords}

@@ -11,7 +11,7 @@ use Rattle.kat.specs.Lists.{counted, upto}
 use Rattle.kat.proofs.Sets.{counted-length}
 use Rattle.claims.specs.Fields.{bigEndian, field}
 use Rattle.claims.proofs.Bytes.{bigEndian-length}
-use Rattle.search_words.proofs.Upto.{upto-more}
+use Rattle.standings.proofs.Upto.{upto-more}
 use Rattle.search_fields.specs.Written.{written, over}
 use Rattle.search_fields.specs.FieldWords.{rowNumber, rowsFrom, rowsBytes, contentsWords, fieldWords, fieldLength}
 use Rattle.search_fields.proofs.Written.{written-next, written-set, over-none, over-next}

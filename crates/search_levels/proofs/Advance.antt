@@ -19,7 +19,8 @@ use Rattle.kat.specs.Ring.{nothing}
 use Rattle.claims.specs.Standings.{Letter}
 use Rattle.claims.specs.Search.{Entry, Verdict, proved, refuted, spent, firstLevel, fresh, completed}
 use Rattle.search_words.specs.declared.Shape.{Shape}
-use Rattle.search_words.specs.Systems.{aloneWords, wordSystem}
+use Rattle.standings.specs.Steps.{aloneWords}
+use Rattle.search_words.specs.Systems.{wordSystem}
 use Rattle.search_words.specs.Over.{nextLevelOver, levelsOver, verdictOver}
 use Rattle.search_words.specs.First.{firstAlone}
 use Rattle.search_words.proofs.Over.{over-spent, over-refuted, over-proved, over-more}
@@ -37,15 +38,15 @@ module _ (k : Shape) (left right : List ℕ) where
   nowhere = record { standing = []; prefix = nothing }
 
   -- single atoms, by the lowest of them
-  no-atom-alone : (a : ℕ) → a ≡ firstAlone left right (k .live) → 64 ≤ a → aloneWords k left right ≡ []
+  no-atom-alone : (a : ℕ) → a ≡ firstAlone left right (k .live) → 64 ≤ a → aloneWords left right (k .live) ≡ []
   unfolding aloneWords
   no-atom-alone a e h =
-      first-none 64 (aloneWords k left right) (picked-below _ (k .live))
+      first-none 64 (aloneWords left right (k .live)) (picked-below _ (k .live))
       (subst (λ x. 64 ≤ x) (e ∙ sym (first-alone k left right)) h)
 
-  atom-alone : (a : ℕ) → a ≡ firstAlone left right (k .live) → a < 64 → (rest : List ℕ) × (aloneWords k left right ≡ a ∷ rest)
+  atom-alone : (a : ℕ) → a ≡ firstAlone left right (k .live) → a < 64 → (rest : List ℕ) × (aloneWords left right (k .live) ≡ a ∷ rest)
   atom-alone a e h =
-      let (rest, f) = first-some 64 (aloneWords k left right) (subst (λ x. x < 64) (e ∙ sym (first-alone k left right)) h) in
+      let (rest, f) = first-some 64 (aloneWords left right (k .live)) (subst (λ x. x < 64) (e ∙ sym (first-alone k left right)) h) in
       (rest, f ∙ ap (λ x. x ∷ rest) (first-alone k left right ∙ sym e))
 
   module _ (ls ms : List Letter) (fuel cap : ℕ) where
@@ -56,15 +57,15 @@ module _ (k : Shape) (left right : List ℕ) where
         (fresh (wordSystem k left right) [] (firstLevel (wordSystem k left right) ls))
     after-alone (a ∷ as′) = refuted (end a)
 
-    by-alone : (as′ : List ℕ) → aloneWords k left right ≡ as′ → verdictOver (wordSystem k left right) ls ms fuel cap ≡ after-alone as′
+    by-alone : (as′ : List ℕ) → aloneWords left right (k .live) ≡ as′ → verdictOver (wordSystem k left right) ls ms fuel cap ≡ after-alone as′
     unfolding verdictOver
     by-alone as′ e = ap after-alone e
 
-    over-alone : (a : ℕ) (rest : List ℕ) → aloneWords k left right ≡ a ∷ rest
+    over-alone : (a : ℕ) (rest : List ℕ) → aloneWords left right (k .live) ≡ a ∷ rest
         → verdictOver (wordSystem k left right) ls ms fuel cap ≡ refuted (end a)
     over-alone a rest e = by-alone (a ∷ rest) e
 
-    over-begin : aloneWords k left right ≡ []
+    over-begin : aloneWords left right (k .live) ≡ []
         → verdictOver (wordSystem k left right) ls ms fuel cap
         ≡ levelsOver (wordSystem k left right) ms fuel cap (fresh (wordSystem k left right) [] (firstLevel (wordSystem k left right) ls))
         (fresh (wordSystem k left right) [] (firstLevel (wordSystem k left right) ls))

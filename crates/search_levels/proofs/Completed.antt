@@ -21,7 +21,7 @@ use Rattle.search_words.specs.declared.Shape.{Shape}
 use Rattle.search_words.specs.Systems.{finalsWords, wordSystem}
 use Rattle.search_words.specs.PathWords.{pathFinals, pathEnds}
 use Rattle.search_words.specs.RingWords.{ringFinals, ringCovered}
-use Rattle.search_words.specs.Steps.{endsSet}
+use Rattle.standings.specs.Steps.{endsSet}
 use Rattle.search_words.specs.First.{firstOr}
 use Rattle.search_words.proofs.First.{first-some, first-none, picked-below}
 use Rattle.search_store.specs.Store.{standingAt, prefixAt}

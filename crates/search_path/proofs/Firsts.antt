@@ -20,7 +20,7 @@ use Rattle.bits.proofs.Bit.{bit-and}
 use Rattle.bits.proofs.Members.{number-in, number-and, number-none}
 use Rattle.bits.proofs.Lowest.{Lowest, lowest}
 use Rattle.side_atoms.proofs.Atoms.{bit-not}
-use Rattle.search_words.specs.Steps.{nullAt, endsSet}
+use Rattle.standings.specs.Steps.{nullAt, endsSet}
 use Rattle.search_words.specs.PathWords.{pathEnds, pathFinals}
 use Rattle.search_words.specs.First.{firstOr, aloneAt, firstAlone}
 use Rattle.search_path.proofs.Two.{first-read, second-read}

@@ -9,7 +9,7 @@ ghost use mathlib.Core.Path.{_≡_};
 ghost use mathlib.Core.Bool.{not, _&&_};
 ghost use mathlib.Core.List.{[], _∷_};
 ghost use lib.ListN.{length, take, drop};
-ghost use Rattle.search_words.specs.Steps.{endsSet};
+ghost use Rattle.standings.specs.Steps.{endsSet};
 ghost use Rattle.search_words.specs.PathWords.{pathBegin, pathOnward, pathFinals};
 ghost use Rattle.search_words.specs.First.{firstOr, firstAlone};
 

@@ -20,10 +20,11 @@ use Rattle.words.specs.Memory.{words, between, zeros}
 use Rattle.words.proofs.Words.{words-length, words-at, words-ext, words-same, same-or-not, inside, above, inside-out}
 use Rattle.bits.proofs.Bit.{bit-none, or-assoc}
 use Rattle.bits.proofs.Lowest.{Lowest}
-use Rattle.search_words.specs.Steps.{stepFrom}
-use Rattle.search_words.specs.RingWords.{ringWords, leads, joined}
+use Rattle.standings.specs.Steps.{stepFrom}
+use Rattle.standings.specs.Steps.{leads, joined}
+use Rattle.search_words.specs.RingWords.{ringWords}
 use Rattle.search_words.proofs.RingLayout.{ring-is}
-use Rattle.search_words.proofs.Upto.{upto-more}
+use Rattle.standings.proofs.Upto.{upto-more}
 use Rattle.search_ring.specs.inner.Columns.{columnJoined, columnOf, pushed, spreadOver, laidOut}
 
 -- two memories that agree behind the standing

@@ -12,8 +12,9 @@ use lib.ListN.{length, getD, take, drop}
 use Rattle.kat.specs.Lists.{upto}
 use Rattle.claims.specs.Standings.{Letter}
 use Rattle.words.specs.Memory.{zeros}
-use Rattle.search_words.specs.Steps.{stepFrom, stepSet, nullAt}
-use Rattle.search_words.specs.RingWords.{ringWords, leads, beginColumn, opened, onwardColumn, flag, ringBegin, ringOnward}
+use Rattle.standings.specs.Steps.{stepFrom, stepSet, nullAt}
+use Rattle.standings.specs.Steps.{leads}
+use Rattle.search_words.specs.RingWords.{ringWords, beginColumn, opened, onwardColumn, flag, ringBegin, ringOnward}
 use Rattle.search_ring.specs.inner.Columns.{pushed, spreadOver, laidOut}
 use Rattle.search_ring.proofs.Columns.{wiped-length, wiped-column, wiped-behind, pushed-length, pushed-column, pushed-behind, spread-length, spread-column, spread-behind, laid-words, laid-behind}
 

@@ -15,7 +15,7 @@ ghost use mathlib.Core.List.{_++_};
 ghost use lib.ListN.{length, getD, take, drop};
 ghost use Rattle.kat.specs.Lists.{upto};
 ghost use Rattle.words.specs.Memory.{zeros};
-ghost use Rattle.search_words.specs.Steps.{stepFrom};
+ghost use Rattle.standings.specs.Steps.{stepFrom};
 ghost use Rattle.search_words.specs.RingWords.{opened, flag, ringBegin, ringOnward};
 ghost use Rattle.search_ring.specs.inner.Columns.{columnJoined, pushed, spreadOver, laidOut};
 

@@ -30,7 +30,7 @@ use Rattle.search_words.proofs.PathShown.{pathOf}
 use Rattle.search_words.proofs.RingShown.{ringShown}
 use Rattle.search_fields.specs.FieldWords.{contentsWords}
 use Rattle.search_sheet.proofs.SheetShown.{path-sheet, ring-sheet}
-use Rattle.search_run.specs.Given.{Decided}
+use Rattle.query.specs.Decided.{Decided}
 use Rattle.search_run.specs.inner.Tried.{shapeOf, wordsVerdict}
 use Rattle.search_run.proofs.ByWords.{within-below, within-wider, within-rising, path-by-words, path-words-good, ring-by-words, ring-words-good}
 

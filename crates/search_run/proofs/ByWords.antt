@@ -21,9 +21,10 @@ use Rattle.query.specs.Answer.{factsOf}
 use Rattle.search_words.specs.declared.Shape.{Shape}
 use Rattle.search_words.specs.Systems.{wordSystem}
 use Rattle.search_words.specs.Over.{verdictOver, shown}
-use Rattle.search_words.proofs.Shows.{Shows, AllFit, verdict-over-shown}
+use Rattle.standings.proofs.Shows.{Shows, AllFit}
+use Rattle.search_words.proofs.VerdictShown.{verdict-over-shown}
 use Rattle.search_words.proofs.GoodStandings.{AllListedGood, verdict-over-good}
-use Rattle.search_words.proofs.ShapeOf.{ShapeOf}
+use Rattle.standings.proofs.LettersOf.{LettersOf}
 use Rattle.search_words.proofs.PathShown.{TwoWords, pathOf, path-shows}
 use Rattle.search_words.proofs.RingShown.{ringShown, GoodRing}
 use Rattle.search_words.proofs.RingVerdict.{ring-shows}
@@ -75,7 +76,7 @@ module _ (n : ℕ) (D : Decision) (few-left : occurrences (D .left) ≤ 64) (few
   abbrev W : System
   W = wordSystem (shapeOf f) left right
 
-  shape-of : ShapeOf (shapeOf f) D
+  shape-of : LettersOf (shapeOf f .live) (shapeOf f .relations) D
   unfolding factsOf
   shape-of = record { live-set = refl; live-rising = within; relation-count = refl; few-relations = few-relations }
 

@@ -29,7 +29,7 @@ use Rattle.search_levels.specs.declared.Answer.the-variants.{Proved as FoundPro
 use Rattle.search_levels.specs.Answers.{Answered}
 use Rattle.search_run.specs.declared.Outcome.{Outcome}
 use Rattle.search_run.specs.Outcomes.{slotOf, lentOf, Gives}
-use Rattle.search_run.specs.Given.{Decided}
+use Rattle.query.specs.Decided.{Decided}
 use Rattle.search_run.specs.inner.Tried.{shapeOf, firstLetters, laterLetters, wordsVerdict}
 use Rattle.search_run.specs.inner.Found.{Reportable, provedIn, refutedIn, foundIn, told, put, Reports}
 use Rattle.search_run.proofs.Answers.{OnWords, decided-on-words}

@@ -19,7 +19,7 @@ use Rattle.search_grow.specs.Kept.{state, Ready}
 use Rattle.search_run.specs.declared.Outcome.{Outcome}
 use Rattle.search_run.specs.declared.Outcome.the-variants.{Refused}
 use Rattle.search_run.specs.Outcomes.{lentOf, Gives}
-use Rattle.search_run.specs.Given.{Decided}
+use Rattle.query.specs.Decided.{Decided}
 use Rattle.search_run.specs.inner.Memory.{roomFor}
 use Rattle.search_run.proofs.Rooms.{room-by-test, enough-is}
 

@@ -16,7 +16,7 @@ ghost use Rattle.search_sheet.specs.SheetWords.{Falling};
 ghost use Rattle.search_grow.specs.Kept.{state, Inside, Ready};
 ghost use Rattle.search_levels.specs.Answers.{Answered};
 ghost use Rattle.search_run.specs.Outcomes.{lentOf, Gives};
-ghost use Rattle.search_run.specs.Given.{Decided};
+ghost use Rattle.query.specs.Decided.{Decided};
 ghost use Rattle.search_run.specs.inner.Memory.{roomFor};
 ghost use Rattle.search_run.specs.inner.Tried.{shapeOf, firstLetters, laterLetters};
 ghost use Rattle.search_run.specs.inner.Found.{Reportable, provedIn, refutedIn, foundIn, Reports};

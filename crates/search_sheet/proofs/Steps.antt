@@ -12,7 +12,7 @@ use Rattle.kat.specs.Ring.{Prefix, nothing, then}
 use Rattle.claims.specs.Fields.{bigEndian, field}
 use Rattle.claims.specs.Verdicts.{relationsIn}
 use Rattle.claims.proofs.Bytes.{bigEndian-length}
-use Rattle.search_words.proofs.Upto.{upto-more}
+use Rattle.standings.proofs.Upto.{upto-more}
 use Rattle.search_store.specs.Store.{standingAt, parentAt, letterAt, Room}
 use Rattle.search_fields.specs.Written.{written, over}
 use Rattle.search_fields.specs.FieldWords.{fieldWords, fieldLength}

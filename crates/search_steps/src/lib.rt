@@ -5,7 +5,7 @@ use words::word;
 ghost use Prim.Native.Nat.{_+_, _*_, _≤_, min};
 ghost use mathlib.Core.Path.{_≡_};
 ghost use lib.ListN.{length, getD};
-ghost use Rattle.search_words.specs.Steps.{stepFrom, stepSet, enders, endsSet, nullAt};
+ghost use Rattle.standings.specs.Steps.{stepFrom, stepSet, enders, endsSet, nullAt};
 
 // The word at place base + k of the table.
 fn word_behind(table: &[u64], base: usize, k: usize) -> u64

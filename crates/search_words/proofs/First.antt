@@ -11,7 +11,7 @@ use Rattle.kat.proofs.Sets.{filter-in}
 use Rattle.bits.specs.Sets.{members}
 use Rattle.bits.proofs.Members.{number-in}
 use Rattle.search_words.specs.declared.Shape.{Shape}
-use Rattle.search_words.specs.Systems.{aloneWords}
+use Rattle.standings.specs.Steps.{aloneWords}
 use Rattle.search_words.specs.First.{firstOr, aloneAt, firstAlone}
 
 pub first-some : (d : ℕ) (as′ : List ℕ) → firstOr d as′ < d → (rest : List ℕ) × (as′ ≡ firstOr d as′ ∷ rest)
@@ -26,6 +26,6 @@ first-none d (a ∷ as′) b h = let l : a < d = b a (here refl) in absurd (omeg
 pub picked-below : (f : ℕ → Bool) (live a : ℕ) → In a (filter f (members live)) → a < 64
 picked-below f live a i = number-in 0 64 live a (filter-in f (members live) i .0) .1
 
-pub first-alone : (k : Shape) (left right : List ℕ) → firstOr 64 (aloneWords k left right) ≡ firstAlone left right (k .live)
+pub first-alone : (k : Shape) (left right : List ℕ) → firstOr 64 (aloneWords left right (k .live)) ≡ firstAlone left right (k .live)
 unfolding aloneWords firstAlone aloneAt
 first-alone k left right = refl

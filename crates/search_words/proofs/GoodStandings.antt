@@ -16,7 +16,8 @@ use Rattle.claims.specs.Standings.{System, Letter}
 use Rattle.claims.specs.Search.{Entry, Verdict, proved, refuted, spent, firstLevel, fresh, completed}
 use Rattle.search_words.specs.Over.{levelsOver, verdictOver}
 use Rattle.search_words.proofs.Over.{over-spent, over-refuted, over-proved, over-more}
-use Rattle.search_words.proofs.Shows.{Shows, AllFit, Goods, good-append, first-good, fresh-good, nexts, nexts-good}
+use Rattle.standings.proofs.Shows.{Shows, AllFit}
+use Rattle.search_words.proofs.VerdictShown.{Goods, good-append, first-good, fresh-good, nexts, nexts-good}
 
 -- the standings that a verdict lists are good
 abbrev pub AllListedGood : (W : System) → (W .Standing → Type 0) → Verdict W → Type 0

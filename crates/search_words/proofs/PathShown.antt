@@ -19,14 +19,15 @@ use Rattle.claims.specs.Fields.{bigEndian}
 use Rattle.claims.specs.SheetBytes.{pathBytes}
 use Rattle.side_turned.specs.SideTable.{sideTable}
 use Rattle.search_words.specs.declared.Shape.{Shape}
-use Rattle.search_words.specs.Steps.{stepFrom, stepSet}
+use Rattle.standings.specs.Steps.{stepFrom, stepSet}
 use Rattle.search_words.specs.PathWords.{pathBegin, pathOnward, pathEnds, pathFinals}
 use Rattle.search_words.specs.Systems.{beginWords, onwardWords, finalsWords, wordSystem}
 use Rattle.search_words.specs.Over.{shown}
-use Rattle.search_words.proofs.OccurrenceWords.{occurrencesOf, word-empty, word-same, word-bytes}
-use Rattle.search_words.proofs.Tables.{from-small, from-shown, set-step-small, set-step-shown, ends-shown}
-use Rattle.search_words.proofs.ShapeOf.{ShapeOf, live-members, live-below, letter-atom, letter-relation, alone-shown}
-use Rattle.search_words.proofs.Shows.{Shows, verdict-shown}
+use Rattle.standings.proofs.OccurrenceWords.{occurrencesOf, word-empty, word-same, word-bytes}
+use Rattle.standings.proofs.Tables.{from-small, from-shown, set-step-small, set-step-shown, ends-shown}
+use Rattle.standings.proofs.LettersOf.{LettersOf, live-members, live-below, letter-atom, letter-relation, alone-shown}
+use Rattle.standings.proofs.Shows.{Shows}
+use Rattle.search_words.proofs.VerdictShown.{verdict-shown}
 
 -- two words, one below 2 ^ l and one below 2 ^ r
 pub record TwoWords (l r : ℕ) (s : List ℕ) : Type 0 where
@@ -40,7 +41,7 @@ pub record TwoWords (l r : ℕ) (s : List ℕ) : Type 0 where
 abbrev pub pathOf : Decision → List ℕ → Path
 pathOf D s = record { P = occurrencesOf (occurrences (D .left)) (getD s 0 0); S = occurrencesOf (occurrences (D .right)) (getD s 1 0) }
 
-module _ {k : Shape} {D : Decision} (path : k .ring ≡ false) (h : ShapeOf k D)
+module _ {k : Shape} {D : Decision} (path : k .ring ≡ false) (h : LettersOf (k .live) (k .relations) D)
     (few-left : occurrences (D .left) ≤ 64) (few-right : occurrences (D .right) ≤ 64) where
   abbrev Good : List ℕ → Type 0
   Good s = TwoWords (occurrences (D .left)) (occurrences (D .right)) s
@@ -127,13 +128,13 @@ module _ {k : Shape} {D : Decision} (path : k .ring ≡ false) (h : ShapeOf k D)
   pub path-shows : Shows (pathSystem D) (wordSystem k left right) (pathOf D) Good
   path-shows =
       record {
-        begins = λ l f. subst Good (sym (begin-is l)) (begin-good l (letter-atom h left right l f) (letter-relation h left right l f));
+        begins = λ l f. subst Good (sym (begin-is l)) (begin-good l (letter-atom h (wordSystem k left right) refl l f) (letter-relation h (wordSystem k left right) refl l f));
         begins-shown = λ l f.
-            ap (pathOf D) (begin-is l) ∙ begin-shown l (letter-atom h left right l f) (letter-relation h left right l f);
+            ap (pathOf D) (begin-is l) ∙ begin-shown l (letter-atom h (wordSystem k left right) refl l f) (letter-relation h (wordSystem k left right) refl l f);
         goes-on = λ s l g f.
-            subst Good (sym (onward-is s l)) (onward-good l (letter-atom h left right l f) (letter-relation h left right l f) s g);
+            subst Good (sym (onward-is s l)) (onward-good l (letter-atom h (wordSystem k left right) refl l f) (letter-relation h (wordSystem k left right) refl l f) s g);
         goes-on-shown = λ s l g f.
-            ap (pathOf D) (onward-is s l) ∙ onward-shown l (letter-atom h left right l f) (letter-relation h left right l f) s g;
+            ap (pathOf D) (onward-is s l) ∙ onward-shown l (letter-atom h (wordSystem k left right) refl l f) (letter-relation h (wordSystem k left right) refl l f) s g;
         same-possible = λ s g. ap not (word-empty (occurrences (D .left)) (getD s 0 0) (P-small s g));
         same-finals = λ s g. finals-shown s g ∙ sym (finals-is s);
         same-equal = equal-shown;

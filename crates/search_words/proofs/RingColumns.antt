@@ -21,77 +21,17 @@ use Rattle.claims.specs.Query.{bit}
 use Rattle.claims.specs.Standings.{Letter}
 use Rattle.claims.proofs.SetBytes.{bit-zero, bit-suc}
 use Rattle.bits.specs.Sets.{row, unionRows}
+use Rattle.bits.proofs.Shifted.{bit-up, bit-up-below, bit-cut}
 use Rattle.bits.proofs.Bit.{bit-none, bit-or, bit-pow, bit-above}
 use Rattle.bits.proofs.Members.{some-number}
 use Rattle.bits.proofs.Rows.{bit-union}
-use Rattle.search_words.specs.Steps.{enders}
-use Rattle.search_words.specs.RingWords.{leads, joined, beginColumn, opened, onwardColumn}
-use Rattle.search_words.proofs.Upto.{some-higher}
-
-halved : (m w : ℕ) → m * 2 ^ suc w / 2 ≡ m * 2 ^ w
-halved m w = ap (λ k. m * k / 2) (pow-suc 2 w) ∙ omega arith
-
--- bits of a number moved up, moved down, and cut off
-pub bit-up : (w i m : ℕ) → bit (w + i) (m * 2 ^ w) ≡ bit i m
-bit-up zero i m = ap₂ bit (omega arith) (omega arith)
-bit-up (suc w) i m =
-    ap (λ j. bit j (m * 2 ^ suc w)) (omega arith) ∙ bit-suc (w + i) (m * 2 ^ suc w) ∙ ap (bit (w + i)) (halved m w) ∙ bit-up w i m
-
-pub bit-up-below : (w i m : ℕ) → i < w → bit i (m * 2 ^ w) ≡ false
-bit-up-below zero i m h = absurd (omega arith)
-bit-up-below (suc w) zero m h =
-    let e : m * 2 ^ suc w % 2 ≡ 0 = ap (λ k. m * k % 2) (pow-suc 2 w) ∙ omega arith in
-    bit-zero (m * 2 ^ suc w) ∙ ap (λ d. eqb d 1) e
-bit-up-below (suc w) (suc i) m h =
-    bit-suc i (m * 2 ^ suc w) ∙ ap (bit i) (halved m w) ∙ bit-up-below w i m (omega arith)
-
-pub bit-down : (w i m : ℕ) → bit i (m / 2 ^ w) ≡ bit (w + i) m
-bit-down zero i m = ap₂ bit (omega arith) (omega arith)
-bit-down (suc w) i m =
-    let e : m / 2 ^ suc w ≡ m / 2 / 2 ^ w =
-    ap (λ k. m / k) (omega (arith, pow-suc 2 w)) ∙ sym (div-div-eq-div-mul m 2 (2 ^ w)) in
-    ap (bit i) e ∙ bit-down w i (m / 2) ∙ sym (bit-suc (w + i) m) ∙ ap (λ j. bit j m) (omega arith)
-
-pub bit-cut : (w i m : ℕ) → i < w → bit i (m % 2 ^ w) ≡ bit i m
-bit-cut zero i m h = absurd (omega arith)
-bit-cut (suc w) zero m h =
-    let z : suc w ≡ w + 1 = omega arith in
-    bit-zero (m % 2 ^ suc w) ∙ ap (λ k. eqb (m % 2 ^ k % 2) 1) z ∙ ap (λ d. eqb d 1) (mod-mod-pow m w 1) ∙ sym (bit-zero m)
-bit-cut (suc w) (suc i) m h =
-    let z : suc w ≡ w + 1 = omega arith in
-    bit-suc i (m % 2 ^ suc w) ∙ ap (λ k. bit i (m % 2 ^ k / 2)) z ∙ ap (bit i) (field m w 1) ∙ bit-cut w i (m / 2) (omega arith)
-    ∙ sym (bit-suc i m)
-
--- a word or nothing, by a test
-bit-cond : (b : Bool) (i w : ℕ) → bit i (cond b w 0) ≡ (b && bit i w)
-bit-cond true i w = refl
-bit-cond false i w = bit-none i
-
-cond-small : (b : Bool) (n w : ℕ) → w < 2 ^ n → cond b w 0 < 2 ^ n
-cond-small true n w h = h
-cond-small false n w h = pow-pos n
+use Rattle.standings.specs.Steps.{enders}
+use Rattle.standings.specs.Steps.{leads, joined}
+use Rattle.standings.proofs.Joined.{bit-cond, cond-small, joined-bit, joined-small, joined-none}
+use Rattle.search_words.specs.RingWords.{beginColumn, opened, onwardColumn}
+use Rattle.standings.proofs.Upto.{some-higher}
 
 module _ (right : List ℕ) (l : Letter) where
-  pub joined-bit : (w : ℕ → ℕ) (q i : ℕ) (os : List ℕ) → bit i (joined right l w q os) ≡ some (λ o. leads right l o q && bit i (w o)) os
-  unfolding joined
-  joined-bit w q i [] = bit-none i
-  joined-bit w q i (o ∷ os) =
-      bit-or i (cond (leads right l o q) (w o) 0) (joined right l w q os)
-      ∙ ap₂ _||_ (bit-cond (leads right l o q) i (w o)) (joined-bit w q i os)
-
-  pub joined-small : (w : ℕ → ℕ) (q n : ℕ) (os : List ℕ) → ((o : ℕ) → In o os → w o < 2 ^ n) → joined right l w q os < 2 ^ n
-  unfolding joined
-  joined-small w q n [] h = pow-pos n
-  joined-small w q n (o ∷ os) h =
-      or-lt n (cond (leads right l o q) (w o) 0) (joined right l w q os) (cond-small (leads right l o q) n (w o) (h o (here refl)))
-      (joined-small w q n os (λ k j. h k (there j)))
-
-  -- a column that is read from nowhere
-  pub joined-none : (w : ℕ → ℕ) (q : ℕ) (os : List ℕ) → ((o : ℕ) → leads right l o q ≡ false) → joined right l w q os ≡ 0
-  unfolding joined
-  joined-none w q [] h = refl
-  joined-none w q (o ∷ os) h = ap₂ (λ b m. bitOr (cond b (w o) 0) m) (h o) (joined-none w q os h)
-
   -- a prefix of one relation: bit p is set where q is read from p
   pub begin-bit : (n q p : ℕ) → n ≤ 31 → p ≤ n → bit p (beginColumn right n l q) ≡ leads right l p q
   unfolding beginColumn

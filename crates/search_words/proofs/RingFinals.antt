@@ -26,10 +26,10 @@ use Rattle.bits.proofs.Lists.{some-filter}
 use Rattle.bits.proofs.Members.{bit-number}
 use Rattle.side_atoms.proofs.Atoms.{member-filter}
 use Rattle.side_turned.specs.SideTable.{sideTable}
-use Rattle.search_words.specs.Steps.{enders}
+use Rattle.standings.specs.Steps.{enders}
 use Rattle.search_words.specs.RingWords.{inM, inN, turnEnds, pairTurns, ringCovered, ringFinals}
-use Rattle.search_words.proofs.Tables.{ends-bit, ends-shown}
-use Rattle.search_words.proofs.Upto.{some-range}
+use Rattle.standings.proofs.Tables.{ends-bit, ends-shown}
+use Rattle.standings.proofs.Upto.{some-range}
 use Rattle.search_words.proofs.RingShown.{rowM, rowN, ringShown, GoodRing, map-same, inN-from}
 use Rattle.search_words.proofs.RingRows.{inM-none, rowM-states}
 

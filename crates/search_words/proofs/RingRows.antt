@@ -21,7 +21,7 @@ use Rattle.claims.specs.Standings.{row}
 use Rattle.bits.proofs.Bit.{bit-none, bit-above, bit-ext}
 use Rattle.side_atoms.proofs.Atoms.{bit-of, number-small}
 use Rattle.search_words.specs.RingWords.{inM, inN}
-use Rattle.search_words.proofs.RingColumns.{bit-down}
+use Rattle.bits.proofs.Shifted.{bit-down}
 use Rattle.search_words.proofs.RingShown.{rowM, rowN, ringShown, GoodRing, inN-some, inN-none}
 
 -- q in row p of M, from 1 on

@@ -25,11 +25,12 @@ use Rattle.bits.proofs.Bit.{bit-none, bit-above}
 use Rattle.bits.proofs.Lists.{some-filter}
 use Rattle.side_atoms.proofs.Atoms.{member-filter}
 use Rattle.side_turned.specs.SideTable.{sideTable}
-use Rattle.search_words.specs.Steps.{stepFrom, stepSet, enders, nullAt}
-use Rattle.search_words.specs.RingWords.{leads, beginColumn, opened, onwardColumn, flag, ringBegin, ringOnward, inN}
-use Rattle.search_words.proofs.Tables.{null-shown, ends-bit, from-small, from-bit, from-shown, set-step-small, set-step-shown}
+use Rattle.standings.specs.Steps.{stepFrom, stepSet, enders, nullAt}
+use Rattle.standings.specs.Steps.{leads}
+use Rattle.search_words.specs.RingWords.{beginColumn, opened, onwardColumn, flag, ringBegin, ringOnward, inN}
+use Rattle.standings.proofs.Tables.{null-shown, ends-bit, from-small, from-bit, from-shown, set-step-small, set-step-shown}
 use Rattle.search_words.proofs.RingLayout.{ring-length, ring-P, ring-column, ring-first, ring-Z}
-use Rattle.search_words.proofs.Upto.{some-range}
+use Rattle.standings.proofs.Upto.{some-range}
 use Rattle.search_words.proofs.RingColumns.{begin-bit, begin-past, begin-small, begin-none, onward-bit, onward-small, onward-none, opened-low, opened-high}
 
 -- row p of M and row q of N, for n right occurrences

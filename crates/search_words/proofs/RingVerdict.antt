@@ -20,13 +20,14 @@ use Rattle.search_words.specs.declared.Shape.{Shape}
 use Rattle.search_words.specs.RingWords.{ringBegin, ringOnward, ringFinals}
 use Rattle.search_words.specs.Systems.{beginWords, onwardWords, finalsWords, wordSystem}
 use Rattle.search_words.specs.Over.{shown}
-use Rattle.search_words.proofs.ShapeOf.{ShapeOf, live-members, letter-atom, letter-relation, alone-shown}
-use Rattle.search_words.proofs.Shows.{Shows, verdict-shown}
+use Rattle.standings.proofs.LettersOf.{LettersOf, live-members, letter-atom, letter-relation, alone-shown}
+use Rattle.standings.proofs.Shows.{Shows}
+use Rattle.search_words.proofs.VerdictShown.{verdict-shown}
 use Rattle.search_words.proofs.RingShown.{ringShown, GoodRing, ring-good-begin, ring-begin-shown, ring-good-onward, ring-onward-shown}
 use Rattle.search_words.proofs.RingEqual.{ring-possible-shown, ring-equal-shown}
 use Rattle.search_words.proofs.RingFinals.{ring-finals-shown}
 
-module _ {k : Shape} {D : Decision} (ring : k .ring ≡ true) (h : ShapeOf k D) (size : k .right ≡ occurrences (D .right))
+module _ {k : Shape} {D : Decision} (ring : k .ring ≡ true) (h : LettersOf (k .live) (k .relations) D) (size : k .right ≡ occurrences (D .right))
     (fits : occurrences (D .left) ≤ 64) (few : occurrences (D .right) ≤ 31) where
   abbrev left : List ℕ
   left = sideTable (D .left)
@@ -63,15 +64,15 @@ module _ {k : Shape} {D : Decision} (ring : k .ring ≡ true) (h : ShapeOf k D) 
   ring-shows =
       record {
         begins = λ l f.
-            subst Good (sym (begin-is l)) (ring-good-begin D l (letter-atom h left right l f) (letter-relation h left right l f) few);
+            subst Good (sym (begin-is l)) (ring-good-begin D l (letter-atom h (wordSystem k left right) refl l f) (letter-relation h (wordSystem k left right) refl l f) few);
         begins-shown = λ l f.
-            ap ringOf (begin-is l) ∙ ring-begin-shown D l (letter-atom h left right l f) (letter-relation h left right l f) few;
+            ap ringOf (begin-is l) ∙ ring-begin-shown D l (letter-atom h (wordSystem k left right) refl l f) (letter-relation h (wordSystem k left right) refl l f) few;
         goes-on = λ s l g f.
             subst Good (sym (onward-is s l))
-            (ring-good-onward D l (letter-atom h left right l f) (letter-relation h left right l f) few fits s g);
+            (ring-good-onward D l (letter-atom h (wordSystem k left right) refl l f) (letter-relation h (wordSystem k left right) refl l f) few fits s g);
         goes-on-shown = λ s l g f.
             ap ringOf (onward-is s l)
-            ∙ ring-onward-shown D l (letter-atom h left right l f) (letter-relation h left right l f) few fits s g;
+            ∙ ring-onward-shown D l (letter-atom h (wordSystem k left right) refl l f) (letter-relation h (wordSystem k left right) refl l f) few fits s g;
         same-possible = ring-possible-shown D;
         same-finals = λ s g.
             sym (finals-is s ∙ ap (λ v. ringFinals left right (occurrences (D .right)) v s) (h .live-set)

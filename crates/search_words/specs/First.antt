@@ -5,7 +5,7 @@ use mathlib.Core.Bool.{Bool, not, _&&_}
 use mathlib.Core.List.{List, [], _∷_}
 use Rattle.kat.specs.Lists.{filter}
 use Rattle.bits.specs.Sets.{members}
-use Rattle.search_words.specs.Steps.{nullAt}
+use Rattle.standings.specs.Steps.{nullAt}
 
 -- the first of the list, or d
 abbrev pub firstOr : ℕ → List ℕ → ℕ

@@ -1,5 +1,3 @@
--- Sets of occurrences, one letter on, by the table of a side.
-pub mod Steps
 -- Standings as lists of machine words: of paths, of rings, and by the kind of the claim.
 pub mod PathWords
 pub mod RingWords

@@ -7,7 +7,7 @@ use lib.ListN.{getD}
 use Rattle.kat.specs.Lists.{filter}
 use Rattle.claims.specs.Standings.{Letter}
 use Rattle.bits.specs.Sets.{members}
-use Rattle.search_words.specs.Steps.{stepFrom, stepSet, endsSet}
+use Rattle.standings.specs.Steps.{stepFrom, stepSet, endsSet}
 
 -- of a prefix of one relation
 unfoldable pub pathBegin : List ℕ → List ℕ → Letter → List ℕ

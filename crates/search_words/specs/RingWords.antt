@@ -15,20 +15,11 @@ use Rattle.claims.specs.Standings.{Letter}
 use Rattle.claims.specs.Query.{bit}
 use Rattle.words.specs.Memory.{words}
 use Rattle.bits.specs.Sets.{unionRows}
-use Rattle.search_words.specs.Steps.{stepFrom, stepSet, enders, endsSet, nullAt}
+use Rattle.standings.specs.Steps.{stepFrom, stepSet, enders, endsSet, nullAt}
 
 -- the words of a standing: P, the columns 1 to 31, the first atom, Z
 unfoldable pub ringWords : ℕ → (ℕ → ℕ) → ℕ → ℕ → List ℕ
 ringWords P column first Z = P ∷ (words 31 (λ k. column (suc k)) ++ (first ∷ Z ∷ []))
-
--- right occurrence q may be read next by the letter, where p was read last (0: nothing yet)
-unfoldable pub leads : List ℕ → Letter → ℕ → ℕ → Bool
-leads right l p q = bit (q - 1) (stepFrom right p (l .atom) (l .relation))
-
--- column q: the union of what w has for those numbers o of the list from which q is read
-unfoldable pub joined : List ℕ → Letter → (ℕ → ℕ) → ℕ → List ℕ → ℕ
-joined right l w q [] = 0
-joined right l w q (o ∷ os) = bitOr (cond (leads right l o q) (w o) 0) (joined right l w q os)
 
 -- column q of a prefix of one relation: the p from 0 to n from which q is read
 unfoldable pub beginColumn : List ℕ → ℕ → Letter → ℕ → ℕ

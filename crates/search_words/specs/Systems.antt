@@ -2,16 +2,15 @@
 -- (Document 01, "Standings".) `proofs/` shows that it is the kind of standing of the decision, so that verdict, words and counts are the same.
 -- Assumes nothing.
 use Prim.Native.Nat.{ℕ}
-use mathlib.Core.Bool.{Bool, true, false, not, cond, _&&_}
+use mathlib.Core.Bool.{Bool, true, false, not, cond}
 use mathlib.Core.List.{List}
 use lib.Dec.{eqb}
 use lib.ListN.{getD}
-use Rattle.kat.specs.Lists.{filter}
 use Rattle.claims.specs.Bytes.{same}
 use Rattle.claims.specs.Standings.{System, Letter}
 use Rattle.bits.specs.Sets.{members}
 use Rattle.search_words.specs.declared.Shape.{Shape}
-use Rattle.search_words.specs.Steps.{nullAt}
+use Rattle.standings.specs.Steps.{aloneWords}
 use Rattle.search_words.specs.PathWords.{pathBegin, pathOnward, pathFinals}
 use Rattle.search_words.specs.RingWords.{ringBegin, ringOnward, ringFinals}
 
@@ -33,10 +32,6 @@ module _ (k : Shape) (left right : List ℕ) where
   finalsWords s =
       elim (k .ring) [ false ↦ pathFinals left right (k .live) s | true ↦ ringFinals left right (k .right) (k .live) s ]
 
-  -- the atoms that are refuting words of length 0, rising
-  unfoldable pub aloneWords : List ℕ
-  aloneWords = filter (λ a. nullAt left a && not (nullAt right a)) (members (k .live))
-
   -- the kind of standing; a left occurrence is possible where word 0, which is P, is not empty
   abbrev pub wordSystem : System
   wordSystem =
@@ -47,7 +42,7 @@ module _ (k : Shape) (left right : List ℕ) where
         onward = onwardWords;
         possible = λ s. not (eqb (getD s 0 0) 0);
         finals = finalsWords;
-        alone = aloneWords;
+        alone = aloneWords left right (k .live);
         live = members (k .live);
         relations = k .relations;
       }

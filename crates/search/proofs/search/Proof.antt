@@ -1,7 +1,8 @@
 -- `search::search` meets its contract: a refusal of the reader is handed on, and an accepted query is searched.
 -- Assumes nothing.
 use borrow.Author.Needs.{needs}
-use Rattle.search.proofs.Asking.{refused-gives, few-relations, accepted-gives}
+use Rattle.query.proofs.Asked.{few-relations}
+use Rattle.search.proofs.Asking.{refused-gives, accepted-gives}
 use Rattle.search.proofs.search.Statement.{statement}
 use Rattle.search.proofs.search.Tie as tie
 

@@ -2,7 +2,7 @@
 -- Assumes nothing.
 use mathlib.Core.Path.{sym, _∙_, ap}
 use mathlib.Core.Bool.{_&&_}
-use Rattle.search_words.specs.Steps.{endsSet}
+use Rattle.standings.specs.Steps.{endsSet}
 use borrow.Author.Needs.{needs}
 use Rattle.search_cover.proofs.ends_live.Statement.{statement}
 use Rattle.search_cover.proofs.ends_live.Tie as tie

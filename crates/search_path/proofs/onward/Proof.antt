@@ -2,7 +2,7 @@
 -- Assumes nothing.
 use mathlib.Core.Path.{sym, _∙_, ap, ap₂}
 use mathlib.Core.List.{[], _∷_}
-use Rattle.search_words.specs.Steps.{stepSet}
+use Rattle.standings.specs.Steps.{stepSet}
 use Rattle.search_words.specs.PathWords.{pathOnward}
 use Rattle.search_path.proofs.Two.{first-read, second-read}
 use borrow.Author.Needs.{needs}

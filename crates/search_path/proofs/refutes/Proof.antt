@@ -2,7 +2,7 @@
 -- Assumes nothing.
 use mathlib.Core.Path.{sym, _∙_, ap}
 use mathlib.Core.Bool.{not, _&&_}
-use Rattle.search_words.specs.Steps.{endsSet}
+use Rattle.standings.specs.Steps.{endsSet}
 use borrow.Author.Needs.{needs}
 use Rattle.search_path.proofs.refutes.Statement.{statement}
 use Rattle.search_path.proofs.refutes.Tie as tie

@@ -2,7 +2,7 @@
 -- Assumes nothing.
 use native.Mathlib.Omega.{arith}
 use mathlib.Core.Path.{_∙_, ap}
-use Rattle.search_words.specs.Steps.{stepFrom}
+use Rattle.standings.specs.Steps.{stepFrom}
 use Rattle.search_ring.specs.inner.Columns.{pushed}
 use Rattle.search_ring.proofs.Columns.{pushed-none}
 use borrow.Author.Needs.{needs}

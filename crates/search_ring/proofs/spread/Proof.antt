@@ -7,7 +7,7 @@ use mathlib.Core.Path.{_≡_, refl, sym, _∙_, ap}
 use lib.ListN.{length, getD}
 use Rattle.kat.specs.Lists.{upto}
 use Rattle.claims.specs.Standings.{Letter}
-use Rattle.search_words.proofs.Upto.{upto-none}
+use Rattle.standings.proofs.Upto.{upto-none}
 use Rattle.search_ring.specs.inner.Columns.{spreadOver}
 use Rattle.search_ring.proofs.Columns.{spread-more, spread-end}
 use borrow.Author.Needs.{needs}

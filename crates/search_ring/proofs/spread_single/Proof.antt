@@ -8,7 +8,7 @@ use lib.ListN.{length}
 use Rattle.kat.specs.Lists.{upto}
 use Rattle.claims.specs.Standings.{Letter}
 use Rattle.bits.proofs.Rows.{shifted-one}
-use Rattle.search_words.proofs.Upto.{upto-none}
+use Rattle.standings.proofs.Upto.{upto-none}
 use Rattle.search_ring.specs.inner.Columns.{spreadOver}
 use Rattle.search_ring.proofs.Columns.{spread-more, spread-end}
 use borrow.Author.Needs.{needs}

@@ -10,7 +10,7 @@ use lib.ListN.{getD, set}
 use Rattle.claims.specs.Query.{bit}
 use Rattle.claims.specs.Standings.{Letter}
 use Rattle.words.specs.Memory.{words, between}
-use Rattle.search_words.specs.RingWords.{joined}
+use Rattle.standings.specs.Steps.{joined}
 
 -- column k + 1 joined with w, where there is such a column
 unfoldable pub columnJoined : List ℕ → ℕ → ℕ → List ℕ

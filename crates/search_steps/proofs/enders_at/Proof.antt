@@ -1,6 +1,6 @@
 -- `search_steps::enders_at` meets its contract: the ends stand from 4160 on.
 -- Assumes nothing.
-use Rattle.search_words.specs.Steps.{enders}
+use Rattle.standings.specs.Steps.{enders}
 use borrow.Author.Needs.{needs}
 use Rattle.search_steps.proofs.enders_at.Statement.{statement}
 use Rattle.search_steps.proofs.enders_at.Tie as tie

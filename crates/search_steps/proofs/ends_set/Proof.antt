@@ -5,7 +5,7 @@ use mathlib.Core.Bool.{not}
 use lib.Bits.{bitAnd}
 use lib.Dec.{eqb}
 use Rattle.bits.specs.Sets.{meets}
-use Rattle.search_words.specs.Steps.{endsSet}
+use Rattle.standings.specs.Steps.{endsSet}
 use borrow.Author.Needs.{needs}
 use Rattle.search_steps.proofs.ends_set.Statement.{statement}
 use Rattle.search_steps.proofs.ends_set.Tie as tie

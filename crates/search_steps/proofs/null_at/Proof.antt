@@ -2,7 +2,7 @@
 -- Assumes nothing.
 use mathlib.Core.Path.{_∙_, ap}
 use Rattle.claims.specs.Query.{bit}
-use Rattle.search_words.specs.Steps.{nullAt}
+use Rattle.standings.specs.Steps.{nullAt}
 use borrow.Author.Needs.{needs}
 use Rattle.search_steps.proofs.null_at.Statement.{statement}
 use Rattle.search_steps.proofs.null_at.Tie as tie

@@ -4,7 +4,7 @@ use Prim.Native.Nat.{_*_}
 use native.Mathlib.Omega.{arith}
 use mathlib.Core.Path.{_∙_, ap₂}
 use lib.Bits.{bitAnd}
-use Rattle.search_words.specs.Steps.{nextSet, readers, stepFrom}
+use Rattle.standings.specs.Steps.{nextSet, readers, stepFrom}
 use Rattle.search_steps.proofs.Places.{place-clipped}
 use borrow.Author.Needs.{needs}
 use Rattle.search_steps.proofs.step_from.Statement.{statement}

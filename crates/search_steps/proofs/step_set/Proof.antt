@@ -5,7 +5,7 @@ use native.Mathlib.Omega.{arith}
 use mathlib.Core.Path.{_∙_, ap, ap₂}
 use lib.Bits.{bitAnd}
 use Rattle.bits.specs.Sets.{unionRows}
-use Rattle.search_words.specs.Steps.{readers, stepSet}
+use Rattle.standings.specs.Steps.{readers, stepSet}
 use Rattle.search_steps.proofs.Places.{part-clipped}
 use borrow.Author.Needs.{needs}
 use Rattle.search_steps.proofs.step_set.Statement.{statement}

@@ -1,6 +1,5 @@
--- One kind of standing shows another: a function takes the standings of W to those of S so that begin, one letter on, the tests and the
--- completing atoms agree, on those standings of W that are good. Then the verdict of S is the verdict of W shown, over the same letters:
--- level by level the entries of S are those of W, with the standing shown and the prefix kept.
+-- Where a kind of standing W shows another, S, the verdict of S is the verdict of W shown, over the same letters: level by
+-- level the entries of S are those of W, with the standing shown and the prefix kept.
 -- Assumes nothing.
 use Prim.Native.Nat.{ℕ, zero, suc}
 use mathlib.Core.Path.{_≡_, refl, sym, _∙_, ap, ap₂, subst}
@@ -17,27 +16,11 @@ use Rattle.kat.proofs.Bools.{bool-cases}
 use Rattle.kat.proofs.Sets.{in-append, some-same}
 use Rattle.claims.specs.Standings.{System, Letter, letters, lettersOf}
 use Rattle.claims.specs.Search.{Entry, Verdict, proved, refuted, firstLevel, lengthened, seenIn, fresh, completed, verdict}
-use Rattle.claims.proofs.Letters.{Fits, letters-in}
+use Rattle.claims.proofs.Letters.{letters-in}
 use Rattle.bits.proofs.Lists.{some-map}
+use Rattle.standings.proofs.Shows.{Shows, AllFit}
 use Rattle.search_words.specs.Over.{nextLevelOver, levelsOver, verdictOver, shown}
 use Rattle.search_words.proofs.Over.{over-spent, over-refuted, over-proved, over-more, verdict-all}
-
--- show takes the standings of W that are good to those of S
-pub record Shows (S W : System) (show : W .Standing → S .Standing) (Good : W .Standing → Type 0) : Type 0 where
-  pub begins : (l : Letter) → Fits W l → Good (W .begin l)
-  pub begins-shown : (l : Letter) → Fits W l → show (W .begin l) ≡ S .begin l
-  pub goes-on : (s : W .Standing) (l : Letter) → Good s → Fits W l → Good (W .onward s l)
-  pub goes-on-shown : (s : W .Standing) (l : Letter) → Good s → Fits W l → show (W .onward s l) ≡ S .onward (show s) l
-  pub same-possible : (s : W .Standing) → Good s → S .possible (show s) ≡ W .possible s
-  pub same-finals : (s : W .Standing) → Good s → S .finals (show s) ≡ W .finals s
-  pub same-equal : (s t : W .Standing) → Good s → Good t → S .equal (show s) (show t) ≡ W .equal s t
-  pub same-alone : S .alone ≡ W .alone
-  pub same-live : S .live ≡ W .live
-  pub same-relations : S .relations ≡ W .relations
-
--- every letter of the list is one of the kind
-abbrev pub AllFit : System → List Letter → Type 0
-AllFit W ls = (l : Letter) → In l ls → Fits W l
 
 module _ (S W : System) (show : W .Standing → S .Standing) (Good : W .Standing → Type 0) where
   -- an entry with its standing shown

@@ -24,7 +24,7 @@ use Rattle.bits.proofs.Rows.{bit-union, meets-some}
 use Rattle.side_atoms.proofs.Atoms.{bit-of, number-small, atoms-bit}
 use Rattle.side_turned.specs.SideTable.{occurrenceSet, sideTable}
 use Rattle.side_turned.proofs.SideTable.{table-step, table-end, table-letter, table-null}
-use Rattle.search_words.specs.Steps.{nextSet, readers, enders, stepFrom, stepSet, endsSet, nullAt}
+use Rattle.standings.specs.Steps.{nextSet, readers, enders, stepFrom, stepSet, endsSet, nullAt}
 
 -- a test over the occurrences of a word is the test over its members, counted from 0
 pub some-occurrences : (p : ℕ → Bool) (n s : ℕ) → some p (numberSet 1 (suc n) s) ≡ some (λ k. p (suc k)) (numberSet 0 n s)

@@ -1,13 +1,15 @@
 -- One letter on, for a set of occurrences as a machine word, by the table of a side (`side_turned`'s `sideTable`): bit p - 1 for
 -- occurrence p. (Document 01, "Standings".)
 -- Assumes nothing.
-use Prim.Native.Nat.{ℕ, _+_, _*_}
-use mathlib.Core.Bool.{Bool}
-use mathlib.Core.List.{List}
-use lib.Bits.{bitAnd}
+use Prim.Native.Nat.{ℕ, _+_, _-_, _*_}
+use mathlib.Core.Bool.{Bool, cond, not, _&&_}
+use mathlib.Core.List.{List, [], _∷_}
+use lib.Bits.{bitAnd, bitOr}
 use lib.ListN.{getD, take, drop}
+use Rattle.kat.specs.Lists.{filter}
 use Rattle.claims.specs.Query.{bit}
-use Rattle.bits.specs.Sets.{unionRows, meets}
+use Rattle.claims.specs.Standings.{Letter}
+use Rattle.bits.specs.Sets.{unionRows, meets, members}
 
 -- the occurrences that may come next at atom a, where p was read last (0: nothing yet)
 unfoldable pub nextSet : List ℕ → ℕ → ℕ → ℕ
@@ -36,3 +38,16 @@ endsSet t s a = meets s (enders t a)
 -- the single atom a is a word
 unfoldable pub nullAt : List ℕ → ℕ → Bool
 nullAt t a = bit a (getD t 4240 0)
+
+-- right occurrence q may be read next by the letter, where p was read last (0: nothing yet)
+unfoldable pub leads : List ℕ → Letter → ℕ → ℕ → Bool
+leads right l p q = bit (q - 1) (stepFrom right p (l .atom) (l .relation))
+
+-- the union of what w has for those numbers o of the list from which q is read
+unfoldable pub joined : List ℕ → Letter → (ℕ → ℕ) → ℕ → List ℕ → ℕ
+joined right l w q [] = 0
+joined right l w q (o ∷ os) = bitOr (cond (leads right l o q) (w o) 0) (joined right l w q os)
+
+-- the atoms that are refuting words of length 0, rising: left words that are no right words
+unfoldable pub aloneWords : List ℕ → List ℕ → ℕ → List ℕ
+aloneWords left right live = filter (λ a. nullAt left a && not (nullAt right a)) (members live)

@@ -1,4 +1,4 @@
--- What the search is given of a decision: its facts, the tables of its two sides, and that it is within the limits. (Document 01, "Words"
+-- What the search and the sheet check are given of a decision: its facts, the tables of its two sides, and that it is within the limits. (Document 01, "Words"
 -- and "Standings", Limits.)
 -- Assumes nothing.
 use Prim.Native.Nat.{ℕ, _≤_}

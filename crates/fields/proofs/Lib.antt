@@ -1,0 +1,1 @@
+-- Cells show the standings of the definition.

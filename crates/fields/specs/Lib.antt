@@ -1,0 +1,2 @@
+-- What stands at a place of the bytes.
+pub mod Places

@@ -1,0 +1,10 @@
+-- Ranges of numbers.
+pub mod Upto
+-- The table of a side shows its expression, and a word a set of occurrences.
+pub mod Tables
+pub mod OccurrenceWords
+-- What a word has where it is read from, column by column.
+pub mod Joined
+-- The letters of a decision, and one kind of standing that shows another.
+pub mod LettersOf
+pub mod Shows

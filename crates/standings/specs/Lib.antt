@@ -1,0 +1,2 @@
+-- Sets of occurrences, one letter on, by the table of a side.
+pub mod Steps
