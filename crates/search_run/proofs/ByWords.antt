@@ -99,7 +99,7 @@ module _ (n : ℕ) (D : Decision) (few-left : occurrences (D .left) ≤ 64) (few
 
     path-words : Shows (pathSystem D) W (pathOf D) (TwoWords (occurrences (D .left)) (occurrences (D .right)))
     unfolding factsOf
-    path-words = path-shows path shape-of few-left few-right
+    path-words = path-shows (shapeOf f) path shape-of few-left few-right
 
     -- the verdict of a path claim is that on words
     pub path-by-words : (allowance : ℕ)
@@ -131,7 +131,7 @@ module _ (n : ℕ) (D : Decision) (few-left : occurrences (D .left) ≤ 64) (few
 
     ring-words : Shows (ringSystem D) W (ringShown (occurrences (D .left)) (occurrences (D .right))) (GoodRing (occurrences (D .left)) (occurrences (D .right)))
     unfolding factsOf
-    ring-words = ring-shows ring shape-of refl few-left (few-right-of-rings ring)
+    ring-words = ring-shows (shapeOf f) ring shape-of refl few-left (few-right-of-rings ring)
 
     -- the verdict of a ring claim is that on words
     pub ring-by-words : (allowance : ℕ)

@@ -41,7 +41,7 @@ pub record TwoWords (l r : ℕ) (s : List ℕ) : Type 0 where
 abbrev pub pathOf : Decision → List ℕ → Path
 pathOf D s = record { P = occurrencesOf (occurrences (D .left)) (getD s 0 0); S = occurrencesOf (occurrences (D .right)) (getD s 1 0) }
 
-module _ {k : Shape} {D : Decision} (path : k .ring ≡ false) (h : LettersOf (k .live) (k .relations) D)
+module _ (k : Shape) {D : Decision} (path : k .ring ≡ false) (h : LettersOf (k .live) (k .relations) D)
     (few-left : occurrences (D .left) ≤ 64) (few-right : occurrences (D .right) ≤ 64) where
   abbrev Good : List ℕ → Type 0
   Good s = TwoWords (occurrences (D .left)) (occurrences (D .right)) s

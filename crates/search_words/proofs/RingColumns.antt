@@ -36,7 +36,7 @@ module _ (right : List ℕ) (l : Letter) where
   pub begin-bit : (n q p : ℕ) → n ≤ 31 → p ≤ n → bit p (beginColumn right n l q) ≡ leads right l p q
   unfolding beginColumn
   begin-bit n q p few h =
-      joined-bit (λ o. 2 ^ o) q p (upto 0 (suc (min n 31)))
+      joined-bit right l (λ o. 2 ^ o) q p (upto 0 (suc (min n 31)))
       ∙ bool-ext (some (λ o. leads right l o q && bit p (2 ^ o)) (upto 0 (suc (min n 31)))) (leads right l p q)
       (λ s. let (o, i, t) = some-in (λ o. leads right l o q && bit p (2 ^ o)) (upto 0 (suc (min n 31))) s in
       let e : p ≡ o = eqb-true p o (sym (bit-pow p o) ∙ and-right (leads right l o q) (bit p (2 ^ o)) t) in
@@ -48,19 +48,19 @@ module _ (right : List ℕ) (l : Letter) where
   unfolding beginColumn
   begin-past n q i few h =
       bit-above (suc n) i (beginColumn right n l q)
-      (joined-small (λ p. 2 ^ p) q (suc n) (upto 0 (suc (min n 31)))
+      (joined-small right l (λ p. 2 ^ p) q (suc n) (upto 0 (suc (min n 31)))
       (λ o j. let (a, b) = upto-in o 0 (suc (min n 31)) j in pow-lt (omega arith)))
       h
 
   pub begin-small : (n q : ℕ) → beginColumn right n l q < 2 ^ 32
   unfolding beginColumn
   begin-small n q =
-      joined-small (λ p. 2 ^ p) q 32 (upto 0 (suc (min n 31)))
+      joined-small right l (λ p. 2 ^ p) q 32 (upto 0 (suc (min n 31)))
       (λ o j. let (a, b) = upto-in o 0 (suc (min n 31)) j in pow-lt {j = 32} (omega arith))
 
   pub begin-none : (n q : ℕ) → ((o : ℕ) → leads right l o q ≡ false) → beginColumn right n l q ≡ 0
   unfolding beginColumn
-  begin-none n q h = joined-none (λ p. 2 ^ p) q (upto 0 (suc (min n 31))) h
+  begin-none n q h = joined-none right l (λ p. 2 ^ p) q (upto 0 (suc (min n 31))) h
 
   -- a prefix one relation longer
   module _ (s : List ℕ) where
@@ -69,12 +69,12 @@ module _ (right : List ℕ) (l : Letter) where
     unfolding onwardColumn
     onward-bit q i =
         bit-or i (joined right l (λ o. getD s o 0) q (upto 1 32)) (cond (leads right l 0 q) (opened right s (l .atom)) 0)
-        ∙ ap₂ _||_ (joined-bit (λ o. getD s o 0) q i (upto 1 32)) (bit-cond (leads right l 0 q) i (opened right s (l .atom)))
+        ∙ ap₂ _||_ (joined-bit right l (λ o. getD s o 0) q i (upto 1 32)) (bit-cond (leads right l 0 q) i (opened right s (l .atom)))
 
     pub onward-none : (q : ℕ) → ((o : ℕ) → leads right l o q ≡ false) → onwardColumn right s l q ≡ 0
     unfolding onwardColumn
     onward-none q h =
-        ap₂ (λ m b. bitOr m (cond b (opened right s (l .atom)) 0)) (joined-none (λ o. getD s o 0) q (upto 1 32) h) (h 0)
+        ap₂ (λ m b. bitOr m (cond b (opened right s (l .atom)) 0)) (joined-none right l (λ o. getD s o 0) q (upto 1 32) h) (h 0)
 
     pub opened-small : (a : ℕ) → opened right s a < 2 ^ 64
     unfolding opened
@@ -84,7 +84,7 @@ module _ (right : List ℕ) (l : Letter) where
     unfolding onwardColumn
     onward-small q h =
         or-lt 64 (joined right l (λ o. getD s o 0) q (upto 1 32)) (cond (leads right l 0 q) (opened right s (l .atom)) 0)
-        (joined-small (λ o. getD s o 0) q 64 (upto 1 32) (λ o j. let (a, b) = upto-in o 1 32 j in h o a b))
+        (joined-small right l (λ o. getD s o 0) q 64 (upto 1 32) (λ o j. let (a, b) = upto-in o 1 32 j in h o a b))
         (cond-small (leads right l 0 q) 64 (opened right s (l .atom)) (opened-small (l .atom)))
 
 -- the columns as rows

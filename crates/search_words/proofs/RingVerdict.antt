@@ -2,7 +2,7 @@
 -- atom, Z, P, M and N: for at most 64 left and 31 right occurrences. (Document 01, "Standings".)
 -- Assumes nothing.
 use Prim.Native.Nat.{ℕ, _-_, _≤_, _<_}
-use mathlib.Core.Path.{_≡_, sym, _∙_, ap, subst}
+use mathlib.Core.Path.{_≡_, refl, sym, _∙_, ap, subst}
 use mathlib.Core.Bool.{true}
 use mathlib.Core.List.{List}
 use Rattle.kat.specs.Lists.{upto}
@@ -27,7 +27,7 @@ use Rattle.search_words.proofs.RingShown.{ringShown, GoodRing, ring-goo
 use Rattle.search_words.proofs.RingEqual.{ring-possible-shown, ring-equal-shown}
 use Rattle.search_words.proofs.RingFinals.{ring-finals-shown}
 
-module _ {k : Shape} {D : Decision} (ring : k .ring ≡ true) (h : LettersOf (k .live) (k .relations) D) (size : k .right ≡ occurrences (D .right))
+module _ (k : Shape) {D : Decision} (ring : k .ring ≡ true) (h : LettersOf (k .live) (k .relations) D) (size : k .right ≡ occurrences (D .right))
     (fits : occurrences (D .left) ≤ 64) (few : occurrences (D .right) ≤ 31) where
   abbrev left : List ℕ
   left = sideTable (D .left)

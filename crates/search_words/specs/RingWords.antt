@@ -15,7 +15,7 @@ use Rattle.claims.specs.Standings.{Letter}
 use Rattle.claims.specs.Query.{bit}
 use Rattle.words.specs.Memory.{words}
 use Rattle.bits.specs.Sets.{unionRows}
-use Rattle.standings.specs.Steps.{stepFrom, stepSet, enders, endsSet, nullAt}
+use Rattle.standings.specs.Steps.{stepFrom, stepSet, enders, endsSet, nullAt, leads, joined}
 
 -- the words of a standing: P, the columns 1 to 31, the first atom, Z
 unfoldable pub ringWords : ℕ → (ℕ → ℕ) → ℕ → ℕ → List ℕ
