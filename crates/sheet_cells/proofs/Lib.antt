@@ -1,1 +1,3 @@
--- Cells show the standings of the definition.
+-- A word as two cells, and bytes as cells.
+pub mod Halves
+pub mod CellBytes
