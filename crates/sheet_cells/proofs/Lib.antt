@@ -1,5 +1,8 @@
 -- A word as two cells, and bytes as cells.
 pub mod Halves
 pub mod CellBytes
--- Cells show the standings of the definition.
+-- The same sheets pass where one kind of standing shows another.
+pub mod PassingShown
+-- Cells show the standings of the definition; contents of a field are read as cells.
 pub mod PathShown
+pub mod PathRead
