@@ -28,20 +28,20 @@ use Rattle.sheet_cells.proofs.PathShown.{good-path}
 module _ (bs : List ℕ) (at : ℕ) where
   -- how many cells there are, and how large
   path-count : length (standingCells false bs at) ≡ 4
-  unfolding standingCells cellCount cellStart
-  path-count = cells-length bs (at + 3) 4
+  unfolding standingCells cellCount
+  path-count = cells-length bs (at + cellStart false) 4
 
   path-limit : AllBytes bs → (i : ℕ) → getD (standingCells false bs at) i 0 < 2 ^ 32
-  unfolding standingCells cellCount cellStart
-  path-limit b = cells-small bs (at + 3) 4 b
+  unfolding standingCells
+  path-limit b = cells-small bs (at + cellStart false) (cellCount false) b
 
-  -- P and S of the cells are the numbers of 8 bytes each
-  path-word : (i j : ℕ) → i + 1 < 4 → j ≡ at + 3 + 4 * i → j + 8 ≤ length bs
+  -- a word of the cells is the number of 8 bytes
+  path-word : (i j : ℕ) → i + 1 < 4 → j ≡ at + cellStart false + 4 * i → j + 8 ≤ length bs
       → wide (standingCells false bs at) i ≡ fromBytes 0 (take 8 (drop j bs))
-  unfolding standingCells cellCount cellStart wide
+  unfolding standingCells cellCount wide
   path-word i j h e k =
-      ap₂ (λ c d. c * 2 ^ 32 + d) (cells-at bs (at + 3) 4 i (omega arith) ∙ ap (cellAt bs) (sym e))
-      (cells-at bs (at + 3) 4 (suc i) (omega arith) ∙ ap (cellAt bs) (omega arith)) ∙ sym (two-cells bs j k)
+      ap₂ (λ c d. c * 2 ^ 32 + d) (cells-at bs (at + cellStart false) 4 i (omega arith) ∙ ap (cellAt bs) (sym e))
+      (cells-at bs (at + cellStart false) 4 (suc i) (omega arith) ∙ ap (cellAt bs) (omega arith)) ∙ sym (two-cells bs j k)
 
   -- the cells that fit are good ("Sheet and graph bytes")
   pub path-cells-good : (D : Decision) → AllBytes bs
@@ -52,10 +52,12 @@ module _ (bs : List ℕ) (at : ℕ) where
   module _ (room : at + 19 ≤ length bs) where
     -- the two sets of the contents
     P-read : fromBytes 0 (take 8 (take 16 (drop (at + 3) bs))) ≡ wide (standingCells false bs at) 0
+    unfolding cellStart
     P-read =
         ap (fromBytes 0) (take-take 8 16 (drop (at + 3) bs) (omega arith)) ∙ sym (path-word 0 (at + 3) (omega arith) (omega arith) (omega arith))
 
     S-read : fromBytes 0 (drop 8 (take 16 (drop (at + 3) bs))) ≡ wide (standingCells false bs at) 2
+    unfolding cellStart
     S-read =
         ap (fromBytes 0)
         (ap (drop 8) (take-add 8 8 (drop (at + 3) bs))

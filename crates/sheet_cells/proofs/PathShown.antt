@@ -71,17 +71,17 @@ four-same s t m n =
 word-below : (n w : ℕ) → n ≤ 64 → w < 2 ^ n → w < 2 ^ 64
 word-below n w h k = lt-of-lt-of-le k (pow-le-pow-right {n = 2} (omega arith) {i = n} {j = 64} h)
 
--- cells fit where P and S are words of their sides
-pub path-fits : (atoms l r : ℕ) (s : List ℕ) → wide s 0 < 2 ^ l → wide s 2 < 2 ^ r → cellsFit false atoms l r s ≡ true
-unfolding cellsFit pathFits
-path-fits atoms l r s h k = and-both (lt-ltb (wide s 0) (2 ^ l) h) (lt-ltb (wide s 2) (2 ^ r) k)
-
+-- cells fit exactly where P and S are words of their sides
 pub fits-path : (atoms l r : ℕ) (s : List ℕ) → cellsFit false atoms l r s ≡ true → (wide s 0 < 2 ^ l) × (wide s 2 < 2 ^ r)
 unfolding cellsFit pathFits
 fits-path atoms l r s e = (
   ltb-true (wide s 0) (2 ^ l) (and-left (ltb (wide s 0) (2 ^ l)) (ltb (wide s 2) (2 ^ r)) e),
   ltb-true (wide s 2) (2 ^ r) (and-right (ltb (wide s 0) (2 ^ l)) (ltb (wide s 2) (2 ^ r)) e),
 )
+
+pub path-fits : (atoms l r : ℕ) (s : List ℕ) → wide s 0 < 2 ^ l → wide s 2 < 2 ^ r → cellsFit false atoms l r s ≡ true
+unfolding cellsFit pathFits
+path-fits atoms l r s h k = and-both (lt-ltb (wide s 0) (2 ^ l) h) (lt-ltb (wide s 2) (2 ^ r) k)
 
 -- four cells that fit are good
 pub good-path : (D : Decision) (s : List ℕ) → length s ≡ 4 → ((i : ℕ) → getD s i 0 < 2 ^ 32)
