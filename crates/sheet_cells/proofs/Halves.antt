@@ -1,6 +1,6 @@
--- A word of 64 bits is its two cells and two cells are a word: what was put into cells is read back, and cells are told apart by their word.
+-- A word of 64 bits is its two cells and two cells are a word: what was put into cells is read back, and their word tells cells apart.
 -- Assumes nothing.
-use Prim.Native.Nat.{ℕ, zero, suc, _/_, _%_, _^_, _<_}
+use Prim.Native.Nat.{ℕ, zero, suc, _+_, _*_, _/_, _%_, _^_, _<_}
 use native.Mathlib.Nat.{mod-lt}
 use native.Mathlib.Omega.{arith}
 use mathlib.Core.Path.{_≡_, refl, ap₂}
@@ -74,13 +74,16 @@ unfolding halves
 halves-wide s i h = ap₂ (λ c d. c ∷ d ∷ []) (wide-first s i h) (wide-second s i h)
 
 -- two words are equal where their cells are
+pair-equal : (a b c d : ℕ) → b < 2 ^ 32 → d < 2 ^ 32 → eqb (a * 2 ^ 32 + b) (c * 2 ^ 32 + d) ≡ (eqb a c && eqb b d)
+pair-equal a b c d h k =
+    bool-ext (eqb (a * 2 ^ 32 + b) (c * 2 ^ 32 + d)) (eqb a c && eqb b d)
+    (λ e. let z : a * 2 ^ 32 + b ≡ c * 2 ^ 32 + d = eqb-true (a * 2 ^ 32 + b) (c * 2 ^ 32 + d) e in
+    and-both (eq-eqb a c (omega arith)) (eq-eqb b d (omega arith)))
+    (λ e. let x : a ≡ c = eqb-true a c (and-left (eqb a c) (eqb b d) e) in
+    let y : b ≡ d = eqb-true b d (and-right (eqb a c) (eqb b d) e) in
+    eq-eqb (a * 2 ^ 32 + b) (c * 2 ^ 32 + d) (omega arith))
+
 pub wide-equal : (s t : List ℕ) (i : ℕ) → getD s (suc i) 0 < 2 ^ 32 → getD t (suc i) 0 < 2 ^ 32
     → eqb (wide s i) (wide t i) ≡ (eqb (getD s i 0) (getD t i 0) && eqb (getD s (suc i) 0) (getD t (suc i) 0))
 unfolding wide
-wide-equal s t i h k =
-    bool-ext (eqb (wide s i) (wide t i)) (eqb (getD s i 0) (getD t i 0) && eqb (getD s (suc i) 0) (getD t (suc i) 0))
-    (λ e. let z : wide s i ≡ wide t i = eqb-true (wide s i) (wide t i) e in
-    and-both (eq-eqb (getD s i 0) (getD t i 0) (omega arith)) (eq-eqb (getD s (suc i) 0) (getD t (suc i) 0) (omega arith)))
-    (λ e. let x : getD s i 0 ≡ getD t i 0 = eqb-true (getD s i 0) (getD t i 0) (and-left (eqb (getD s i 0) (getD t i 0)) (eqb (getD s (suc i) 0) (getD t (suc i) 0)) e) in
-    let y : getD s (suc i) 0 ≡ getD t (suc i) 0 = eqb-true (getD s (suc i) 0) (getD t (suc i) 0) (and-right (eqb (getD s i 0) (getD t i 0)) (eqb (getD s (suc i) 0) (getD t (suc i) 0)) e) in
-    eq-eqb (wide s i) (wide t i) (omega arith))
+wide-equal s t i h k = pair-equal (getD s i 0) (getD s (suc i) 0) (getD t i 0) (getD t (suc i) 0) h k

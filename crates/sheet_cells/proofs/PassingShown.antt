@@ -1,5 +1,5 @@
--- Where a kind of standing W shows another, S, the same sheets pass: standings of W that are good prove exactly where the standings that they
--- show do, over all letters or over those that pass a test, and a word refutes by W exactly where it does by S.
+-- Where a kind of standing W shows another, S, the same sheets pass: good standings of W prove exactly where the standings that they show
+-- do, over all letters or over those that pass a test, and a word refutes by W exactly where it does by S.
 -- Assumes nothing.
 use native.Mathlib.Omega.{arith}
 use mathlib.Core.Path.{_≡_, refl, sym, _∙_, ap, ap₂}
@@ -40,7 +40,10 @@ filter-all (x ∷ xs) = ap (λ l. x ∷ l) (filter-all xs)
 pub proving-thin : (S : System) (ss : List (S .Standing)) → proving S ss ≡ thinProving S (λ l. true) (λ l. true) ss
 unfolding proving thinProving
 proving-thin S ss =
-    ap (λ ls. isEmpty (S .alone) && every (λ l. listed S ss (S .begin l)) ls && every (λ s. every (λ l. listed S ss (S .onward s l)) ls) ss && every (λ s. isEmpty (S .finals s)) ss)
+    ap
+    (λ ls.
+    isEmpty (S .alone) && every (λ l. listed S ss (S .begin l)) ls && every (λ s. every (λ l. listed S ss (S .onward s l)) ls) ss
+    && every (λ s. isEmpty (S .finals s)) ss)
     (sym (filter-all (letters S)))
 
 -- what is asked after a test
@@ -71,7 +74,8 @@ module _ {S W : System} {show : W .Standing → S .Standing} {Good : W .Standing
         → every (λ s. every (λ l. listed S (map show ss) (S .onward s l)) ls) (map show ss)
         ≡ every (λ s. every (λ l. listed W ss (W .onward s l)) ls) ss
     steps-listed ls h =
-        every-of-map show (λ s. every (λ l. listed S (map show ss) (S .onward s l)) ls) (λ s. every (λ l. listed W ss (W .onward s l)) ls) ss
+        every-of-map show (λ s. every (λ l. listed S (map show ss) (S .onward s l)) ls)
+        (λ s. every (λ l. listed W ss (W .onward s l)) ls) ss
         (λ s j. every-same (λ l. listed S (map show ss) (S .onward (show s) l)) (λ l. listed W ss (W .onward s l)) ls
         (λ l i. ap (listed S (map show ss)) (sym (k .goes-on-shown s l (goods s j) (h l i)))
         ∙ listed-shown (W .onward s l) (k .goes-on s l (goods s j) (h l i))))
@@ -90,7 +94,8 @@ module _ {S W : System} {show : W .Standing → S .Standing} {Good : W .Standing
         ap₂ _&&_
         (ap₂ _&&_
         (ap₂ _&&_ (ap isEmpty (k .same-alone))
-        (ap (λ ls. every (λ l. listed S (map show ss) (S .begin l)) (filter first ls)) letters-shown ∙ begins-listed (filter first (letters W)) (fit first)))
+        (ap (λ ls. every (λ l. listed S (map show ss) (S .begin l)) (filter first ls)) letters-shown
+        ∙ begins-listed (filter first (letters W)) (fit first)))
         (ap (λ ls. every (λ s. every (λ l. listed S (map show ss) (S .onward s l)) (filter later ls)) (map show ss)) letters-shown
         ∙ steps-listed (filter later (letters W)) (fit later)))
         none-completes

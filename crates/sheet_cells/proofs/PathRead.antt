@@ -1,5 +1,5 @@
--- From the bytes of a path standing's field to its cells: the contents are a standing exactly where the cells fit, and it is the standing that
--- they show; cells that fit are good. (Document 01, "Sheet and graph bytes".)
+-- From the bytes of a path standing's field to its cells: the contents are a standing exactly where the cells fit, namely the one that they
+-- show; cells that fit are good. (Document 01, "Sheet and graph bytes".)
 -- Assumes nothing.
 use Prim.Native.Nat.{ℕ, suc, _+_, _*_, _^_, _≤_, _<_}
 use native.Mathlib.Omega.{arith}
@@ -54,7 +54,8 @@ module _ (bs : List ℕ) (at : ℕ) where
     P-read : fromBytes 0 (take 8 (take 16 (drop (at + 3) bs))) ≡ wide (standingCells false bs at) 0
     unfolding cellStart
     P-read =
-        ap (fromBytes 0) (take-take 8 16 (drop (at + 3) bs) (omega arith)) ∙ sym (path-word 0 (at + 3) (omega arith) (omega arith) (omega arith))
+        ap (fromBytes 0) (take-take 8 16 (drop (at + 3) bs) (omega arith))
+        ∙ sym (path-word 0 (at + 3) (omega arith) (omega arith) (omega arith))
 
     S-read : fromBytes 0 (drop 8 (take 16 (drop (at + 3) bs))) ≡ wide (standingCells false bs at) 2
     unfolding cellStart
@@ -73,7 +74,8 @@ module _ (bs : List ℕ) (at : ℕ) where
     unfolding pathOf contentsLength setFits setOf cellsFit pathFits
     path-contents-read D =
         ap₂ (λ p q. set-by (length (take 16 (drop (at + 3) bs))) p q) P-read S-read
-        ∙ ap (λ n. set-by n (wide (standingCells false bs at) 0) (wide (standingCells false bs at) 2)) (part-length 16 (at + 3) bs (omega arith))
+        ∙ ap (λ n. set-by n (wide (standingCells false bs at) 0) (wide (standingCells false bs at) 2))
+        (part-length 16 (at + 3) bs (omega arith))
       where
         set-by : ℕ → ℕ → ℕ → Option Path
         set-by n p q =

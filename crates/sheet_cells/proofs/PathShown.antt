@@ -1,5 +1,5 @@
--- The four cells of a path standing show P and S: begin, one letter on, the tests and the completing atoms are those of the definition, for at
--- most 64 occurrences a side. (Document 01, "Standings".)
+-- The four cells of a path standing show P and S: begin, one letter on, the tests and the completing atoms are those of the definition, for
+-- at most 64 occurrences a side. (Document 01, "Standings".)
 -- Assumes nothing.
 use Prim.Native.Nat.{ℕ, _^_, _≤_, _<_}
 use native.Mathlib.Nat.{lt-of-lt-of-le, pow-le-pow-right}
@@ -121,7 +121,8 @@ module _ {live relations : ℕ} {D : Decision} (n : ℕ) (h : LettersOf live rel
   pair-shown : (P S : ℕ)
       → pathShown D (pathCells P S) ≡ record { P = occurrencesOf (occurrences (D .left)) P; S = occurrencesOf (occurrences (D .right)) S }
   pair-shown P S =
-      ap₂ (λ p q. record { P = occurrencesOf (occurrences (D .left)) p; S = occurrencesOf (occurrences (D .right)) q }) (path-P P S) (path-S P S)
+      ap₂ (λ p q. record { P = occurrencesOf (occurrences (D .left)) p; S = occurrencesOf (occurrences (D .right)) q })
+      (path-P P S) (path-S P S)
 
   module _ (l : Letter) (low : l .atom < 64) (letter : l .relation < 16) where
     begin-good : Good (pathBegin left right l)
