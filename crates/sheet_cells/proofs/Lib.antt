@@ -3,6 +3,7 @@ pub mod Halves
 pub mod CellBytes
 -- The same sheets pass where one kind of standing shows another.
 pub mod PassingShown
--- Cells show the standings of the definition; contents of a field are read as cells.
+-- Cells show the standings of the definition; the contents of a field are read as cells.
 pub mod PathShown
+pub mod FieldCells
 pub mod PathRead
