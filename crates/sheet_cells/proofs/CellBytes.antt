@@ -1,6 +1,6 @@
 -- The bytes of a sheet as cells: four bytes are one cell, eight are two; and what stands in a row of cells.
 -- Assumes nothing.
-use Prim.Native.Nat.{ℕ, _+_, _*_, _^_, _≤_, _<_}
+use Prim.Native.Nat.{ℕ, zero, suc, _+_, _*_, _^_, _≤_, _<_}
 use native.Mathlib.Omega.{arith}
 use mathlib.Core.Path.{_≡_, refl, sym, _∙_, ap, ap₂, subst}
 use mathlib.Core.Logic.{⊎-elim}
@@ -17,6 +17,12 @@ use Rattle.claims.specs.SheetWriting.{AllBytes}
 use Rattle.claims.proofs.StandingExactly.{bytes-take, bytes-drop}
 use Rattle.words.proofs.Words.{words-length, words-at}
 use Rattle.fields.specs.Places.{cellAt, cellsAt}
+
+-- what stands at a place of the bytes is a byte
+pub byte-small : (bs : List ℕ) → AllBytes bs → (i : ℕ) → getD bs i 0 < 256
+byte-small [] all i = omega arith
+byte-small (b ∷ bs) all zero = all b (here refl)
+byte-small (b ∷ bs) all (suc i) = byte-small bs (λ x j. all x (there j)) i
 
 -- bytes read in two parts
 pub bytes-append : (m : ℕ) (xs ys : List ℕ) → fromBytes m (xs ++ ys) ≡ fromBytes (fromBytes m xs) ys
