@@ -8,3 +8,6 @@ pub mod Joined
 -- The letters of a decision, and one kind of standing that shows another.
 pub mod LettersOf
 pub mod Shows
+-- What a letter reads next, and the turns of a ring.
+pub mod Moves
+pub mod Turns
