@@ -7,3 +7,6 @@ pub mod PassingShown
 pub mod PathShown
 pub mod FieldCells
 pub mod PathRead
+-- Rings: the cells and rows of a standing, steps, equality and completion.
+pub mod RingRows
+pub mod RingFits
