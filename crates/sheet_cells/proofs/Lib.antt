@@ -10,3 +10,5 @@ pub mod PathRead
 -- Rings: the cells and rows of a standing, steps, equality and completion.
 pub mod RingRows
 pub mod RingFits
+pub mod RingParts
+pub mod RingSteps

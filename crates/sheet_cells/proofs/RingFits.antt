@@ -45,8 +45,7 @@ module _ (r : ℕ) where
   of-row-M p m e =
       ⊎-elim
       (λ h. let t : (ltb m (2 ^ suc r) && eqb (m % 2) 0) ≡ true =
-      sym (ap (λ t. cond t (ltb m (2 ^ suc r) && eqb (m % 2) 0) (eqb m 0)) (le-leb p r h)) ∙ e in
-      (
+      sym (ap (λ t. cond t (ltb m (2 ^ suc r) && eqb (m % 2) 0) (eqb m 0)) (le-leb p r h)) ∙ e in (
         ltb-true m (2 ^ suc r) (and-left (ltb m (2 ^ suc r)) (eqb (m % 2) 0) t),
         eqb-true (m % 2) 0 (and-right (ltb m (2 ^ suc r)) (eqb (m % 2) 0) t),
         λ k. absurd (omega arith),
