@@ -12,3 +12,6 @@ pub mod RingRows
 pub mod RingFits
 pub mod RingParts
 pub mod RingSteps
+pub mod RingEqual
+pub mod RingFinals
+pub mod RingShown

@@ -1,11 +1,11 @@
 -- A ring standing put together: cells made of a first atom, Z, P and rows are good where each part is as it may be, and show the standing of
 -- those parts. (Document 01, "Standings".) A row of M is a set of occurrences moved up by one bit; both are one set.
 -- Assumes nothing.
-use Prim.Native.Nat.{ℕ, suc, _+_, _*_, _-_, _/_, _%_, _^_, _≤_, _<_}
+use Prim.Native.Nat.{ℕ, zero, suc, _+_, _*_, _-_, _/_, _%_, _^_, _≤_, _<_}
 use native.Mathlib.Nat.{pow-suc, pow-le-pow-right, lt-of-lt-of-le, mod-eq-of-lt}
 use native.Mathlib.Omega.{arith}
 use mathlib.Core.Path.{_≡_, refl, sym, _∙_, ap, ap₂, subst}
-use mathlib.Core.Bool.{Bool, true, false}
+use mathlib.Core.Bool.{Bool, true, false, not}
 use mathlib.Core.List.{List, map}
 use lib.Dec.{eqb}
 use lib.ListN.{length, getD}
@@ -64,6 +64,12 @@ flag-low false = omega arith
 flag-set : (b : Bool) → eqb (flag b) 1 ≡ b
 flag-set true = refl
 flag-set false = refl
+
+-- Z of a standing as its bit
+pub flag-test : (z : ℕ) → z ≤ 1 → not (eqb z 0) ≡ eqb z 1
+flag-test zero h = refl
+flag-test (suc zero) h = refl
+flag-test (suc (suc z)) h = absurd (omega arith)
 
 -- a ring by its fields
 abbrev pub made : ℕ → Bool → List ℕ → List (List ℕ) → List (List ℕ) → Ring

@@ -35,7 +35,7 @@ use Rattle.sheet_cells.specs.Layout.{wide}
 use Rattle.sheet_cells.specs.RingCells.{firstIn, flagIn, rowM, rowN, raised, ringBegin, opened, sent, ringOnward, ringShown}
 use Rattle.sheet_cells.specs.Good.{GoodCells}
 use Rattle.sheet_cells.proofs.RingFits.{RingFacts}
-use Rattle.sheet_cells.proofs.RingParts.{raised-small, raised-even, raised-shown, lowered-small, lowered-shown, good-size, good-facts, shown-M, shown-N, made, made-shown, made-good}
+use Rattle.sheet_cells.proofs.RingParts.{raised-small, raised-even, raised-shown, lowered-small, lowered-shown, good-size, good-facts, shown-M, shown-N, flag-test, made, made-shown, made-good}
 
 -- a number below 2 ^ v without bits from w on is below 2 ^ w
 low-bits : (w v m : ℕ) → m < 2 ^ v → w ≤ v → ((i : ℕ) → w ≤ i → i < v → bit i m ≡ false) → m < 2 ^ w
@@ -45,12 +45,6 @@ low-bits w v m h k f =
     (bit-ext v (m % 2 ^ w) m (lt-of-lt-of-le cut (pow-le-pow-right {n = 2} (omega arith) {i = w} {j = v} k)) h
     (λ i j. ⊎-elim (λ a. bit-above w i (m % 2 ^ w) cut a ∙ sym (f i a j)) (λ a. bit-cut w i m a) (le-or-lt w i)))
     cut
-
--- Z of a standing as its bit
-flag-test : (z : ℕ) → z ≤ 1 → not (eqb z 0) ≡ eqb z 1
-flag-test zero h = refl
-flag-test (suc zero) h = refl
-flag-test (suc (suc z)) h = absurd (omega arith)
 
 module _ (D : Decision) (l : Letter) (low : l .atom < 64) (letter : l .relation < 16) (few : occurrences (D .right) ≤ 31) where
   abbrev n : ℕ
