@@ -5,17 +5,15 @@
 use Prim.Native.Nat.{ℕ, zero, suc, _-_, _≤_, _<_, min}
 use native.Mathlib.Omega.{arith}
 use mathlib.Core.Path.{_≡_, sym, _∙_, ap, ap₂}
-use mathlib.Core.Logic.{⊎-elim}
-use mathlib.Core.Bool.{Bool, true, false, cond, not, _&&_, _||_}
-use mathlib.Core.List.{List, [], _∷_, map}
+use mathlib.Core.Bool.{true, cond, not, _&&_, _||_}
+use mathlib.Core.List.{List, [], _∷_}
 use lib.Dec.{eqb}
 use lib.ListN.{getD}
 use Rattle.kat.specs.Lists.{upto, some, member}
-use Rattle.kat.specs.Closure.{Table, table, entry, through, closure}
+use Rattle.kat.specs.Closure.{Table, entry, closure}
 use Rattle.kat.specs.Tables.{occurrences, stop, ends}
-use Rattle.kat.proofs.Bools.{true-not-false, false-of-not, or-cases, and-left, and-right, and-both}
-use Rattle.kat.proofs.Closure.{table-entry}
-use Rattle.kat.proofs.Sets.{some-in, upto-in, at-upto}
+use Rattle.kat.proofs.Bools.{true-not-false, and-left, and-right, and-both}
+use Rattle.kat.proofs.Sets.{some-in, at-upto}
 use Rattle.claims.specs.Query.{bit}
 use Rattle.claims.specs.Fields.{setNumber}
 use Rattle.claims.specs.Sides.{Decision}
@@ -30,32 +28,9 @@ use Rattle.standings.specs.Steps.{enders}
 use Rattle.search_words.specs.RingWords.{inM, inN, turnEnds, pairTurns, ringCovered, ringFinals}
 use Rattle.standings.proofs.Tables.{ends-bit, ends-shown}
 use Rattle.standings.proofs.Upto.{some-range}
-use Rattle.search_words.proofs.RingShown.{rowM, rowN, ringShown, GoodRing, map-same, inN-from}
+use Rattle.standings.proofs.Turns.{closure-same, closure-zero}
+use Rattle.search_words.proofs.RingShown.{rowM, rowN, ringShown, GoodRing, inN-from}
 use Rattle.search_words.proofs.RingRows.{inM-none, rowM-states}
-
--- relations that agree below n have one closure
-pub closure-same : (n : ℕ) (f g : ℕ → ℕ → Bool) → ((x y : ℕ) → x < n → y < n → f x y ≡ g x y) → closure n f ≡ closure n g
-unfolding closure table
-closure-same n f g h =
-    ap (through n n)
-    (map-same (λ x. map (f x) (upto 0 n)) (λ x. map (g x) (upto 0 n)) (upto 0 n)
-    (λ x i. let (a, b) = upto-in x 0 n i in
-    map-same (f x) (g x) (upto 0 n) (λ y j. let (c, d) = upto-in y 0 n j in h x y b d)))
-
--- nothing leads to 0 where no pair does
-through-zero : (n : ℕ) (f : ℕ → ℕ → Bool) → ((x : ℕ) → f x 0 ≡ false) → (k x : ℕ) → entry (through n k (table n f)) x 0 ≡ false
-unfolding through
-through-zero n f h zero x = false-of-not _ (λ e. true-not-false (table-entry n f x 0 e .2) (h x))
-through-zero n f h (suc k) x =
-    false-of-not _
-    (λ e. ⊎-elim (λ a. true-not-false a (through-zero n f h k x))
-    (λ a. true-not-false (and-right (entry (through n k (table n f)) x k) _ a) (through-zero n f h k k))
-    (or-cases (entry (through n k (table n f)) x 0) _
-    (table-entry n (λ y z. entry (through n k (table n f)) y z || (entry (through n k (table n f)) y k && entry (through n k (table n f)) k z)) x 0 e .2)))
-
-closure-zero : (n : ℕ) (f : ℕ → ℕ → Bool) → ((x : ℕ) → f x 0 ≡ false) → (x : ℕ) → entry (closure n f) x 0 ≡ false
-unfolding closure
-closure-zero n f h x = through-zero n f h n x
 
 module _ (D : Decision) (few : occurrences (D .right) ≤ 31) (u : List ℕ) (good : GoodRing (occurrences (D .left)) (occurrences (D .right)) u) where
   abbrev n : ℕ
@@ -89,7 +64,7 @@ module _ (D : Decision) (few : occurrences (D .right) ≤ 31) (u : List ℕ) (go
       back : (q : ℕ) → 0 ≤ q → q < suc n → (entry turns 0 q && stop (D .right) q (getD u 32 0)) ≡ true
           → (1 ≤ q) × (q < suc n) × ((entry turns 0 q && bit (q - 1) (enders (sideTable (D .right)) (getD u 32 0))) ≡ true)
       back zero a b e =
-          absurd (true-not-false (and-left (entry turns 0 0) _ e) (closure-zero (suc n) (inM u) (λ x. inM-none u x) 0))
+          absurd (true-not-false (and-left (entry turns 0 0) _ e) (closure-zero (suc n) (inM u) (λ x h. inM-none u x) 0))
       back (suc q) a b e = (
         omega arith,
         b,

@@ -6,31 +6,31 @@ use Prim.Native.Nat.{ℕ, zero, suc, _+_, _-_, _^_, _≤_, _<_}
 use native.Mathlib.Omega.{arith}
 use mathlib.Core.Path.{_≡_, refl, sym, _∙_, ap, ap₂}
 use mathlib.Core.Logic.{⊎-elim}
-use mathlib.Core.Bool.{Bool, true, false, cond, not, _&&_, _||_, and-comm, and-false, or-false}
+use mathlib.Core.Bool.{Bool, true, false, cond, not, _&&_, _||_, and-false, or-false}
 use mathlib.Core.List.{List, [], _∷_, map, map-map}
 use lib.Dec.{eqb}
 use lib.ListN.{length, getD}
 use borrow.Author.Tests.{ne-eqb}
-use Rattle.kat.specs.Lists.{In, here, there, upto, filter, some, member}
+use Rattle.kat.specs.Lists.{upto, filter, some, member}
 use Rattle.kat.specs.Tables.{occurrences, reads, next, stop, after, ends}
 use Rattle.kat.proofs.Bools.{true-not-false, false-of-not, and-left, and-right, and-both, le-or-lt}
-use Rattle.kat.proofs.Sets.{some-in, some-none, filter-none, upto-in, at-upto, filter-same, some-same}
-use Rattle.kat.proofs.Ranges.{reads-range}
+use Rattle.kat.proofs.Sets.{some-in, some-none, filter-none, upto-in, at-upto, filter-same, map-same}
 use Rattle.claims.specs.Query.{bit}
 use Rattle.claims.specs.Fields.{numberSet}
 use Rattle.claims.specs.Sides.{Decision}
 use Rattle.claims.specs.Standings.{Letter, Ring, row, states, moves, pairs, ringStep}
 use Rattle.claims.specs.Standings as ring
-use Rattle.bits.proofs.Bit.{bit-none, bit-above}
+use Rattle.bits.proofs.Bit.{bit-none}
 use Rattle.bits.proofs.Lists.{some-filter}
 use Rattle.side_atoms.proofs.Atoms.{member-filter}
 use Rattle.side_turned.specs.SideTable.{sideTable}
 use Rattle.standings.specs.Steps.{stepFrom, stepSet, enders, nullAt}
 use Rattle.standings.specs.Steps.{leads}
 use Rattle.search_words.specs.RingWords.{beginColumn, opened, onwardColumn, flag, ringBegin, ringOnward, inN}
-use Rattle.standings.proofs.Tables.{null-shown, ends-bit, from-small, from-bit, from-shown, set-step-small, set-step-shown}
+use Rattle.standings.proofs.Tables.{null-shown, ends-bit, from-small, from-shown, set-step-small, set-step-shown}
 use Rattle.search_words.proofs.RingLayout.{ring-length, ring-P, ring-column, ring-first, ring-Z}
 use Rattle.standings.proofs.Upto.{some-range}
+use Rattle.standings.proofs.Moves.{moved-some, leads-moves, leads-past, moves-nowhere}
 use Rattle.search_words.proofs.RingColumns.{begin-bit, begin-past, begin-small, begin-none, onward-bit, onward-small, onward-none, opened-low, opened-high}
 
 -- row p of M and row q of N, for n right occurrences
@@ -68,10 +68,6 @@ made f z p m n = record { first = f; Z = z; P = p; M = m; N = n }
 pub ring-equal : (s t : Ring) → s .first ≡ t .first → s .Z ≡ t .Z → s .P ≡ t .P → s .M ≡ t .M → s .N ≡ t .N → s ≡ t
 ring-equal s t f z p m n = λ i. made (f i) (z i) (p i) (m i) (n i)
 
-pub map-same : {A B : Type 0} (f g : A → B) (l : List A) → ((x : A) → In x l → f x ≡ g x) → map f l ≡ map g l
-map-same f g [] h = refl
-map-same f g (x ∷ xs) h = ap₂ _∷_ (h x (here refl)) (map-same f g xs (λ y i. h y (there i)))
-
 -- a flag is set where its number is not 0, and is below 2
 flag-set : (b : Bool) → not (eqb (flag b) 0) ≡ b
 flag-set true = refl
@@ -94,37 +90,7 @@ pub inN-from : (u : List ℕ) (q p : ℕ) → inN u q p ≡ true → 1 ≤ q
 inN-from u zero p e = absurd (true-not-false e (inN-none u p))
 inN-from u (suc q) p e = omega arith
 
--- read by the letter, and next after some of a list that passes a test
-moved-some : (D : Decision) (l : Letter) (q : ℕ) (g : ℕ → Bool) (os : List ℕ)
-    → some (λ o. moves D l o q && g o) os ≡ (reads (D .right) 0 q (l .relation) && some (λ o. g o && next (D .right) o q (l .atom)) os)
-unfolding moves
-moved-some D l q g os = go (reads (D .right) 0 q (l .relation))
-  where
-    go : (b : Bool) → some (λ o. (b && next (D .right) o q (l .atom)) && g o) os ≡ (b && some (λ o. g o && next (D .right) o q (l .atom)) os)
-    go true =
-        some-same (λ o. next (D .right) o q (l .atom) && g o) (λ o. g o && next (D .right) o q (l .atom)) os
-        (λ o i. and-comm (next (D .right) o q (l .atom)) (g o))
-    go false = some-none (λ o. false) os (λ o. refl)
-
 module _ (D : Decision) (l : Letter) (low : l .atom < 64) (letter : l .relation < 16) where
-  -- where q is read next
-  leads-moves : (p q : ℕ) → p < 65 → 1 ≤ q → q ≤ occurrences (D .right) → leads (sideTable (D .right)) l p q ≡ moves D l p q
-  unfolding leads moves
-  leads-moves p q h i k = from-bit (D .right) (l .atom) (l .relation) low letter p q h i (omega arith)
-
-  leads-past : (p q : ℕ) → occurrences (D .right) < q → leads (sideTable (D .right)) l p q ≡ false
-  unfolding leads
-  leads-past p q h =
-      bit-above (occurrences (D .right)) (q - 1) (stepFrom (sideTable (D .right)) p (l .atom) (l .relation))
-      (from-small (D .right) (l .atom) (l .relation) low letter p) (omega arith)
-
-  moves-nowhere : (p : ℕ) → moves D l p 0 ≡ false
-  unfolding moves
-  moves-nowhere p =
-      false-of-not (reads (D .right) 0 0 (l .relation) && next (D .right) p 0 (l .atom))
-      (λ e. let (a, b) = reads-range (D .right) 0 0 (l .relation)
-      (and-left (reads (D .right) 0 0 (l .relation)) (next (D .right) p 0 (l .atom)) e) in omega arith)
-
   module _ (few : occurrences (D .right) ≤ 31) where
     abbrev n : ℕ
     n = occurrences (D .right)
@@ -155,7 +121,7 @@ module _ (D : Decision) (l : Letter) (low : l .atom < 64) (letter : l .relation 
           size = ring-length _ (beginColumn (sideTable (D .right)) n l) _ _;
           P-small = rw begun-P (from-small (D .left) (l .atom) (l .relation) low letter 0);
           column-small = λ q h i. rw (begun-column q h i) (omega (arith, begin-small (sideTable (D .right)) l n q));
-          column-past = λ q h i. begun-column q (omega arith) i ∙ begin-none (sideTable (D .right)) l n q (λ o. leads-past o q h);
+          column-past = λ q h i. begun-column q (omega arith) i ∙ begin-none (sideTable (D .right)) l n q (λ o. leads-past D l low letter o q h);
           rows-past = λ q p h i k j. (
             ap (bit p) (begun-column q h i) ∙ begin-past (sideTable (D .right)) l n q p few k,
             ap (bit (32 + p)) (begun-column q h i) ∙ begin-past (sideTable (D .right)) l n q (32 + p) few (omega arith),
@@ -171,7 +137,7 @@ module _ (D : Decision) (l : Letter) (low : l .atom < 64) (letter : l .relation 
         (upto 1 (suc n))
         (λ q i. let (a, b) = upto-in q 1 (suc n) i in
         ap (bit p) (begun-column q a (omega arith)) ∙ begin-bit (sideTable (D .right)) l n q p few h
-        ∙ leads-moves p q (omega arith) a (omega arith)
+        ∙ leads-moves D l low letter p q (omega arith) a (omega arith)
         ∙ ap (λ c. reads (D .right) 0 q (l .relation) && c) (sym (or-false (next (D .right) p q (l .atom)))))
 
     begun-N : (q : ℕ) → q ≤ n → rowN n begun q ≡ []
@@ -235,10 +201,10 @@ module _ (D : Decision) (l : Letter) (low : l .atom < 64) (letter : l .relation 
           (λ o a b e. let x : leads (sideTable (D .right)) l o q ≡ true = and-left _ _ e in
           let y : bit i (getD s o 0) ≡ true = and-right (leads (sideTable (D .right)) l o q) _ e in
           let z : o ≤ n = has-bit o i b y in
-          (a, omega arith, and-both (sym (leads-moves o q (omega arith) h k) ∙ x) y))
+          (a, omega arith, and-both (sym (leads-moves D l low letter o q (omega arith) h k) ∙ x) y))
           (λ o a b e. let x : moves D l o q ≡ true = and-left _ _ e in
           let y : bit i (getD s o 0) ≡ true = and-right (moves D l o q) _ e in
-          (a, omega arith, and-both (leads-moves o q (omega arith) h k ∙ x) y))
+          (a, omega arith, and-both (leads-moves D l low letter o q (omega arith) h k ∙ x) y))
 
       none-from : (q i : ℕ) → ((o : ℕ) → 1 ≤ o → o < 32 → bit i (getD s o 0) ≡ false)
           → some (λ o. leads (sideTable (D .right)) l o q && bit i (getD s o 0)) (upto 1 32) ≡ false
@@ -273,7 +239,7 @@ module _ (D : Decision) (l : Letter) (low : l .atom < 64) (letter : l .relation 
             P-small = rw gone-P (set-step-small (D .left) (l .atom) (l .relation) low letter (getD s 0 0));
             column-small = λ q h i. rw (gone-column q h i) (onward-small (sideTable (D .right)) l s q (good .column-small));
             column-past = λ q h i.
-                gone-column q (omega arith) i ∙ onward-none (sideTable (D .right)) l s q (λ o. leads-past o q h);
+                gone-column q (omega arith) i ∙ onward-none (sideTable (D .right)) l s q (λ o. leads-past D l low letter o q h);
             rows-past = λ q p h i k j. (
               gone-none q p h i (λ o a b. good .rows-past o p a b k j .0) (opened-low (sideTable (D .right)) s (l .atom) p j),
               gone-none q (32 + p) h i (λ o a b. good .rows-past o p a b k j .1) (none-opened p j (λ o a b. good .rows-past o p a b k j .0)),
@@ -359,12 +325,12 @@ module _ (D : Decision) (l : Letter) (low : l .atom < 64) (letter : l .relation 
           inN-none gone p
           ∙ sym (ap₂ (λ x y. x || (y && ends (D .right) (row (map (rowM n s) (upto 0 (suc n))) p) (l .atom)))
           (some-none (λ o. moves D l o 0 && member p (row (map (rowN n s) (upto 0 (suc n))) o)) (upto 0 (suc n))
-          (λ o. ap (λ b. b && member p (row (map (rowN n s) (upto 0 (suc n))) o)) (moves-nowhere o)))
-          (moves-nowhere 0))
+          (λ o. ap (λ b. b && member p (row (map (rowN n s) (upto 0 (suc n))) o)) (moves-nowhere D l low letter o)))
+          (moves-nowhere D l low letter 0))
       paired-at (suc q) p h k =
           inN-some gone (suc q) p (omega arith) ∙ gone-bit (suc q) (32 + p) (omega arith) (omega arith)
           ∙ ap₂ _||_ (paired (suc q) p (omega arith) h k)
-          (ap₂ _&&_ (leads-moves 0 (suc q) (omega arith) (omega arith) h) (ended p k))
+          (ap₂ _&&_ (leads-moves D l low letter 0 (suc q) (omega arith) (omega arith) h) (ended p k))
 
       gone-N : (q : ℕ) → q ≤ n → rowN n gone q ≡ pairs D (ringShown (occurrences (D .left)) n s) l q
       unfolding rowN pairs states ringShown

@@ -2,7 +2,7 @@
 -- their cells are. (Document 01, "Standings".) Each cell is read off the standing: the head from the first atom and Z, P as two halves, a row
 -- as the number of its set.
 -- Assumes nothing.
-use Prim.Native.Nat.{ℕ, zero, suc, _+_, _-_, _^_, _≤_, _<_}
+use Prim.Native.Nat.{ℕ, zero, suc, _-_, _^_, _≤_, _<_}
 use native.Mathlib.Omega.{arith}
 use mathlib.Core.Path.{_≡_, refl, sym, _∙_, ap, ap₂, subst}
 use mathlib.Core.Logic.{⊎-elim}
@@ -18,11 +18,11 @@ use Rattle.claims.specs.Bytes.{same}
 use Rattle.claims.specs.Fields.{numberSet}
 use Rattle.claims.specs.Lawful.{Lawful}
 use Rattle.claims.specs.Sides.{Decision}
-use Rattle.claims.specs.Standings.{Ring, row, ringSystem}
+use Rattle.claims.specs.Standings.{row, ringSystem}
 use Rattle.claims.proofs.Results.{same-is-equal, same-self}
 use Rattle.bits.proofs.Members.{numbers-equal, empty-test}
 use Rattle.sheet_cells.specs.Layout.{wide}
-use Rattle.sheet_cells.specs.RingCells.{headCell, firstIn, flagIn, rowM, rowN, ringShown}
+use Rattle.sheet_cells.specs.RingCells.{headCell, flagIn, rowM, rowN, ringShown}
 use Rattle.sheet_cells.specs.Good.{GoodCells}
 use Rattle.sheet_cells.proofs.RingRows.{by-place}
 use Rattle.sheet_cells.proofs.RingFits.{RingFacts}

@@ -2,7 +2,7 @@
 -- the same atoms. (Document 01, "Standings".) The turns are the same closure, since the tests of M agree; no turn leads to 0, and no pair
 -- is one of 0, so that the definition's range from 0 on and the cells' from 1 on find the same.
 -- Assumes nothing.
-use Prim.Native.Nat.{ℕ, zero, suc, _-_, _%_, _≤_, _<_, min}
+use Prim.Native.Nat.{ℕ, zero, suc, _-_, _≤_, _<_, min}
 use native.Mathlib.Omega.{arith}
 use mathlib.Core.Path.{_≡_, sym, _∙_, ap, ap₂}
 use mathlib.Core.Bool.{true, false, cond, not, _&&_, _||_}

@@ -1,14 +1,14 @@
 -- A ring standing put together: cells made of a first atom, Z, P and rows are good where each part is as it may be, and show the standing of
 -- those parts. (Document 01, "Standings".) A row of M is a set of occurrences moved up by one bit; both are one set.
 -- Assumes nothing.
-use Prim.Native.Nat.{ℕ, zero, suc, _+_, _*_, _-_, _/_, _%_, _^_, _≤_, _<_}
+use Prim.Native.Nat.{ℕ, zero, suc, _*_, _-_, _/_, _%_, _^_, _≤_, _<_}
 use native.Mathlib.Nat.{pow-suc, pow-le-pow-right, lt-of-lt-of-le, mod-eq-of-lt}
 use native.Mathlib.Omega.{arith}
 use mathlib.Core.Path.{_≡_, refl, sym, _∙_, ap, ap₂, subst}
 use mathlib.Core.Bool.{Bool, true, false, not}
 use mathlib.Core.List.{List, map}
 use lib.Dec.{eqb}
-use lib.ListN.{length, getD}
+use lib.ListN.{length}
 use Rattle.kat.specs.Lists.{upto}
 use Rattle.kat.specs.Tables.{occurrences}
 use Rattle.kat.proofs.Sets.{upto-in, map-same}

@@ -21,7 +21,7 @@ use Rattle.bits.proofs.Members.{number-in}
 use Rattle.side_turned.specs.SideTable.{sideTable}
 use Rattle.standings.proofs.LettersOf.{LettersOf, live-members, letter-atom, letter-relation, alone-shown}
 use Rattle.standings.proofs.Shows.{Shows}
-use Rattle.sheet_cells.specs.RingCells.{ringBegin, ringOnward, ringFinals, ringShown}
+use Rattle.sheet_cells.specs.RingCells.{ringFinals, ringShown}
 use Rattle.sheet_cells.specs.CellSystem.{leftSet, beginCells, onwardCells, finalsCells, cellSystem}
 use Rattle.sheet_cells.specs.Good.{GoodCells}
 use Rattle.sheet_cells.proofs.RingSteps.{ring-good-begin, ring-begin-shown, ring-good-onward, ring-onward-shown}

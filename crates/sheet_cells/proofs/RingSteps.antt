@@ -10,13 +10,13 @@ use mathlib.Core.Logic.{⊎-elim}
 use mathlib.Core.Bool.{Bool, true, false, cond, not, _&&_, _||_}
 use mathlib.Core.List.{List, [], _∷_, map, map-map}
 use lib.Dec.{eqb}
-use lib.ListN.{length, getD}
+use lib.ListN.{length}
 use lib.Pow.{pow-pos}
-use borrow.Author.Tests.{ne-eqb, eqb-true, eqb-false}
-use Rattle.kat.specs.Lists.{In, upto, filter, some, member}
+use borrow.Author.Tests.{ne-eqb}
+use Rattle.kat.specs.Lists.{upto, filter, some, member}
 use Rattle.kat.specs.Tables.{occurrences, after, ends}
-use Rattle.kat.proofs.Bools.{bool-ext, true-not-false, false-of-not, or-cases, or-left, or-right, and-left, and-right, and-both, le-or-lt}
-use Rattle.kat.proofs.Sets.{some-in, in-some, some-none, in-upto, upto-in, at-upto, filter-none}
+use Rattle.kat.proofs.Bools.{bool-ext, true-not-false, or-cases, or-left, or-right, and-left, and-right, and-both, le-or-lt}
+use Rattle.kat.proofs.Sets.{some-in, in-some, some-none, in-upto, upto-in, at-upto}
 use Rattle.claims.specs.Query.{bit}
 use Rattle.claims.specs.Fields.{setNumber, numberSet}
 use Rattle.claims.specs.Sides.{Decision}

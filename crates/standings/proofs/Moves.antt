@@ -1,7 +1,7 @@
 -- What a letter reads next, by the table of a side: what the definition moves to, nothing past the last occurrence, nothing from past it, and
 -- nothing from an empty set. The standings of rings share this.
 -- Assumes nothing.
-use Prim.Native.Nat.{ℕ, zero, suc, _+_, _-_, _*_, _^_, _≤_, _<_}
+use Prim.Native.Nat.{ℕ, zero, suc, _+_, _-_, _*_, _≤_, _<_}
 use native.Mathlib.Omega.{arith}
 use mathlib.Core.Path.{_≡_, refl, sym, _∙_, ap}
 use mathlib.Core.Bool.{Bool, true, false, _&&_, and-comm, and-false}
