@@ -73,7 +73,7 @@ module _ (D : Decision) where
     -- the two halves of P
     halves-same : (getD u 1 0 ≡ getD v 1 0) × (getD u 2 0 ≡ getD v 2 0)
     unfolding wide
-    halves-same = (omega (arith, f .small 1, f .small 2, g .small 1, g .small 2, P-same), omega (arith, f .small 1, f .small 2, g .small 1, g .small 2, P-same))
+    halves-same = (omega (arith, P-same, f .small 2, g .small 2), omega (arith, P-same, f .small 2, g .small 2))
 
     -- a row that is no table's past it
     row-number : (x y : ℕ) → x < 2 ^ suc n → y < 2 ^ suc n → numberSet 0 (suc n) x ≡ numberSet 0 (suc n) y → x ≡ y

@@ -95,7 +95,8 @@ module _ (D : Decision) (few : occurrences (D .right) ≤ 31) (atoms : D .atoms 
 
   -- a pair of row q that some turns join
   listed : (q : ℕ) → q < suc n
-      → some (λ p. bit p (rowN s q) && (eqb q p || entry turns q p)) (upto 0 (suc n)) ≡ some (λ p. eqb q p || entry turns q p) (row (shown .N) q)
+      → some (λ p. bit p (rowN s q) && (eqb q p || entry turns q p)) (upto 0 (suc n))
+      ≡ some (λ p. eqb q p || entry turns q p) (row (shown .N) q)
   listed q b =
       sym (ap (λ t. some (λ p. eqb q p || entry turns q p) (row t q)) (shown-N D s size few)
       ∙ ap (some (λ p. eqb q p || entry turns q p)) (at-upto (λ q. numberSet 0 (suc n) (rowN s q)) [] (suc n) q b)

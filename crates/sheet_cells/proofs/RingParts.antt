@@ -123,6 +123,7 @@ module _ (D : Decision) (first : ℕ) (b : Bool) (P : ℕ) (m n : ℕ → ℕ) (
     abbrev right : ℕ
     right = occurrences (D .right)
 
+    -- the standing that they show
     pub made-shown : (p : List ℕ) (M N : ℕ → List ℕ) → numberSet 1 (suc (occurrences (D .left))) P ≡ p
         → ((k : ℕ) → k ≤ right → numberSet 0 (suc right) (m k) ≡ M k) → ((k : ℕ) → k ≤ right → numberSet 0 (suc right) (n k) ≡ N k)
         → ringShown D cells ≡ made first b p (map M (upto 0 (suc right))) (map N (upto 0 (suc right)))
@@ -133,18 +134,22 @@ module _ (D : Decision) (first : ℕ) (b : Bool) (P : ℕ) (m n : ℕ → ℕ) (
         (ap (numberSet 1 (suc (occurrences (D .left)))) (ring-P (headCell first (flag b)) P m n) ∙ e)
         (shown-M D cells size few
         ∙ map-same (λ k. numberSet 0 (suc right) (rowM cells k)) M (upto 0 (suc right))
-        (λ k i. let (x, y) = upto-in k 0 (suc right) i in ap (numberSet 0 (suc right)) (made-M k (omega arith)) ∙ f k (omega arith)))
+        (λ k i. let (x, y) = upto-in k 0 (suc right) i in
+        ap (numberSet 0 (suc right)) (made-M k (omega arith)) ∙ f k (omega arith)))
         (shown-N D cells size few
         ∙ map-same (λ k. numberSet 0 (suc right) (rowN cells k)) N (upto 0 (suc right))
-        (λ k i. let (x, y) = upto-in k 0 (suc right) i in ap (numberSet 0 (suc right)) (made-N k (omega arith)) ∙ g k (omega arith)))
+        (λ k i. let (x, y) = upto-in k 0 (suc right) i in
+        ap (numberSet 0 (suc right)) (made-N k (omega arith)) ∙ g k (omega arith)))
 
+    -- cells whose parts are as they may be are good
     pub made-good : occurrences (D .left) ≤ 64 → first < D .atoms → P < 2 ^ occurrences (D .left)
         → ((p : ℕ) → p < 32 → (m p < 2 ^ suc right) × (m p % 2 ≡ 0)) → ((p : ℕ) → right < p → p < 32 → m p ≡ 0)
         → ((q : ℕ) → q < 32 → n q < 2 ^ suc right) → n 0 ≡ 0 → ((q : ℕ) → right < q → q < 32 → n q ≡ 0) → GoodCells true D cells
     unfolding cellCount cellsFit headCell
     made-good fits live p f f-past g g-none g-past =
         let size : length cells ≡ 67 = ring-length (headCell first (flag b)) P m n in
-        let P-wide : P < 2 ^ 64 = lt-of-lt-of-le p (pow-le-pow-right {n = 2} (omega arith) {i = occurrences (D .left)} {j = 64} fits) in
+        let P-wide : P < 2 ^ 64 =
+        lt-of-lt-of-le p (pow-le-pow-right {n = 2} (omega arith) {i = occurrences (D .left)} {j = 64} fits) in
         let row-wide : 2 ^ suc right ≤ 2 ^ 32 = pow-le-pow-right {n = 2} (omega arith) {i = suc right} {j = 32} (omega arith) in
         record {
           size = size;

@@ -93,14 +93,16 @@ module _ (s : List ℕ) (size : length s ≡ 67) where
       (λ p h. getD-take 32 (drop 35 s) p 0 h ∙ getD-drop 35 s p 0)
 
 -- every row of a list passes the test of its number
-rows-pass : (f : ℕ → ℕ → Bool) (p : ℕ) (ms : List ℕ) → ((j : ℕ) → j < length ms → f (p + j) (getD ms j 0) ≡ true) → rowsPass f p ms ≡ true
+rows-pass : (f : ℕ → ℕ → Bool) (p : ℕ) (ms : List ℕ)
+    → ((j : ℕ) → j < length ms → f (p + j) (getD ms j 0) ≡ true) → rowsPass f p ms ≡ true
 unfolding rowsPass
 rows-pass f p [] h = refl
 rows-pass f p (m ∷ ms) h =
     and-both (ap (λ i. f i m) (omega arith) ∙ h 0 (omega arith))
     (rows-pass f (suc p) ms (λ j k. ap (λ i. f i (getD ms j 0)) (omega arith) ∙ h (suc j) (omega arith)))
 
-row-passes : (f : ℕ → ℕ → Bool) (p : ℕ) (ms : List ℕ) → rowsPass f p ms ≡ true → (j : ℕ) → j < length ms → f (p + j) (getD ms j 0) ≡ true
+row-passes : (f : ℕ → ℕ → Bool) (p : ℕ) (ms : List ℕ)
+    → rowsPass f p ms ≡ true → (j : ℕ) → j < length ms → f (p + j) (getD ms j 0) ≡ true
 unfolding rowsPass
 row-passes f p [] e j h = absurd (omega arith)
 row-passes f p (m ∷ ms) e zero h = ap (λ i. f i m) (omega arith) ∙ and-left (f p m) (rowsPass f (suc p) ms) e

@@ -66,7 +66,8 @@ module _ {live relations : ℕ} {D : Decision} (h : LettersOf live relations D) 
         goes-on-shown = λ s l g f. ring-onward-shown D l (low l f) (letter l f) few fits s g atoms;
         same-possible = ring-possible-shown D;
         same-finals = λ s g.
-            sym (ap (λ v. ringFinals left right (occurrences (D .right)) v s) (h .live-set) ∙ ring-finals-shown D few atoms s g (h .live-rising));
+            sym (ap (λ v. ringFinals left right (occurrences (D .right)) v s) (h .live-set)
+            ∙ ring-finals-shown D few atoms s g (h .live-rising));
         same-equal = ring-equal-shown D few (ring-lawful D live-rises);
         same-alone = alone-shown h;
         same-live = sym (live-members h);

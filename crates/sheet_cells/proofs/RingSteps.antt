@@ -35,7 +35,8 @@ use Rattle.sheet_cells.specs.Layout.{wide}
 use Rattle.sheet_cells.specs.RingCells.{firstIn, flagIn, rowM, rowN, raised, ringBegin, opened, sent, ringOnward, ringShown}
 use Rattle.sheet_cells.specs.Good.{GoodCells}
 use Rattle.sheet_cells.proofs.RingFits.{RingFacts}
-use Rattle.sheet_cells.proofs.RingParts.{raised-small, raised-even, raised-shown, lowered-small, lowered-shown, good-size, good-facts, shown-M, shown-N, flag-test, made, made-shown, made-good}
+use Rattle.sheet_cells.proofs.RingParts.{raised-small, raised-even, raised-shown, lowered-small, lowered-shown}
+use Rattle.sheet_cells.proofs.RingParts.{good-size, good-facts, shown-M, shown-N, flag-test, made, made-shown, made-good}
 
 -- a number below 2 ^ v without bits from w on is below 2 ^ w
 low-bits : (w v m : ℕ) → m < 2 ^ v → w ≤ v → ((i : ℕ) → w ≤ i → i < v → bit i m ≡ false) → m < 2 ^ w

@@ -27,11 +27,13 @@ use Rattle.standings.proofs.Tables.{from-small, from-bit}
 
 -- read by the letter, and next after some of a list that passes a test
 pub moved-some : (D : Decision) (l : Letter) (q : ℕ) (g : ℕ → Bool) (os : List ℕ)
-    → some (λ o. moves D l o q && g o) os ≡ (reads (D .right) 0 q (l .relation) && some (λ o. g o && next (D .right) o q (l .atom)) os)
+    → some (λ o. moves D l o q && g o) os
+    ≡ (reads (D .right) 0 q (l .relation) && some (λ o. g o && next (D .right) o q (l .atom)) os)
 unfolding moves
 moved-some D l q g os = go (reads (D .right) 0 q (l .relation))
   where
-    go : (b : Bool) → some (λ o. (b && next (D .right) o q (l .atom)) && g o) os ≡ (b && some (λ o. g o && next (D .right) o q (l .atom)) os)
+    go : (b : Bool) → some (λ o. (b && next (D .right) o q (l .atom)) && g o) os
+        ≡ (b && some (λ o. g o && next (D .right) o q (l .atom)) os)
     go true =
         some-same (λ o. next (D .right) o q (l .atom) && g o) (λ o. g o && next (D .right) o q (l .atom)) os
         (λ o i. and-comm (next (D .right) o q (l .atom)) (g o))
@@ -59,7 +61,8 @@ module _ (D : Decision) (l : Letter) (low : l .atom < 64) (letter : l .relation 
 -- nothing is next after a number past the last occurrence
 next-past : (E : Expr) (p q a : ℕ) → occurrences E < p → next E p q a ≡ false
 next-past E zero q a h = absurd (omega arith)
-next-past E (suc p) q a h = false-of-not (next E (suc p) q a) (λ e. let (x, y) = follows-before E 0 (suc p) q a e in omega arith)
+next-past E (suc p) q a h =
+    false-of-not (next E (suc p) q a) (λ e. let (x, y) = follows-before E 0 (suc p) q a e in omega arith)
 
 pub from-past : (E : Expr) (a r : ℕ) → a < 64 → r < 16 → (p : ℕ) → occurrences E < p → p < 65 → stepFrom (sideTable E) p a r ≡ 0
 from-past E a r low letter p h k =
