@@ -7,7 +7,7 @@ pub mod PassingShown
 pub mod PathShown
 pub mod FieldCells
 pub mod PathRead
--- Rings: the cells and rows of a standing, steps, equality and completion.
+-- Rings: the cells and rows of a standing, steps, equality, completion, and reading.
 pub mod RingRows
 pub mod RingFits
 pub mod RingParts
@@ -15,3 +15,4 @@ pub mod RingSteps
 pub mod RingEqual
 pub mod RingFinals
 pub mod RingShown
+pub mod RingRead
