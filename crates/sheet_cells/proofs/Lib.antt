@@ -16,3 +16,5 @@ pub mod RingEqual
 pub mod RingFinals
 pub mod RingShown
 pub mod RingRead
+-- Both kinds of claim.
+pub mod ByKind
