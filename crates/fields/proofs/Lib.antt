@@ -1,1 +1,3 @@
--- Cells show the standings of the definition.
+-- A field at a place of the bytes; numbers of four bytes.
+pub mod Fields
+pub mod Cells
