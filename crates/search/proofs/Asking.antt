@@ -6,7 +6,7 @@ use mathlib.Core.List.{List}
 use Rattle.claims.specs.Query.{Query}
 use Rattle.claims.specs.Reading.{read}
 use Rattle.claims.specs.Refusals.{Result, ok, refused}
-use Rattle.claims.specs.Calls.{Asked, asked, Lent, searchAsked, search-call}
+use Rattle.claims.specs.Calls.{Asked, Lent, searchAsked, search-call}
 use Rattle.claims.proofs.SearchOrder.{search-reads-first}
 use Rattle.refusals.specs.declared.Reason.{Reason}
 use Rattle.query.specs.declared.Facts.{Facts}

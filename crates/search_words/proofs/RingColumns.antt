@@ -1,25 +1,22 @@
 -- The bits of a column of a ring standing. One law carries the step: bit i of column q one letter on is set where q is read from some o whose
 -- column has bit i, or is read first and bit i is among the pairs that open. Below 32 that is M, from 32 on N.
 -- Assumes nothing.
-use Prim.Native.Nat.{ℕ, zero, suc, _+_, _*_, _-_, _/_, _%_, _^_, _≤_, _<_, min}
-use native.Mathlib.Nat.{pow-suc, div-div-eq-div-mul}
+use Prim.Native.Nat.{ℕ, suc, _+_, _-_, _%_, _^_, _≤_, _<_, min}
 use native.Mathlib.Omega.{arith}
 use mathlib.Core.Path.{_≡_, refl, sym, _∙_, ap, ap₂}
 use mathlib.Core.Logic.{⊎-elim}
-use mathlib.Core.Bool.{Bool, true, false, cond, _&&_, _||_}
-use mathlib.Core.List.{List, [], _∷_}
+use mathlib.Core.Bool.{false, cond, _&&_, _||_}
+use mathlib.Core.List.{List}
 use lib.Bits.{bitOr, or-lt}
-use lib.Dec.{eqb}
 use lib.ListN.{getD, take, drop, length-take, List·getD-eq-default}
-use lib.Pow.{pow-pos, pow-lt, field, mod-mod-pow}
+use lib.Pow.{pow-lt}
 use lib.Seq.{getD-take, getD-drop}
 use borrow.Author.Tests.{eq-eqb, eqb-true}
-use Rattle.kat.specs.Lists.{In, here, there, upto, some}
+use Rattle.kat.specs.Lists.{upto, some}
 use Rattle.kat.proofs.Bools.{bool-ext, le-or-lt, true-not-false, and-left, and-right, and-both}
 use Rattle.kat.proofs.Sets.{some-in, in-some, in-upto, upto-in}
 use Rattle.claims.specs.Query.{bit}
 use Rattle.claims.specs.Standings.{Letter}
-use Rattle.claims.proofs.SetBytes.{bit-zero, bit-suc}
 use Rattle.bits.specs.Sets.{row, unionRows}
 use Rattle.bits.proofs.Shifted.{bit-up, bit-up-below, bit-cut}
 use Rattle.bits.proofs.Bit.{bit-none, bit-or, bit-pow, bit-above}

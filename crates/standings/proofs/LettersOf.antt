@@ -5,7 +5,6 @@ use Prim.Native.Nat.{ℕ, _≤_, _<_}
 use native.Mathlib.Omega.{arith}
 use mathlib.Core.Path.{_≡_, sym, _∙_, ap, ap₂, subst}
 use mathlib.Core.Bool.{not, _&&_}
-use mathlib.Core.List.{List}
 use Rattle.kat.specs.Lists.{In, filter}
 use Rattle.kat.specs.Tables.{null}
 use Rattle.kat.proofs.Sets.{member-in, filter-same}
