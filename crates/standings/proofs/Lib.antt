@@ -1,5 +1,7 @@
 -- Ranges of numbers.
 pub mod Upto
+-- Places past the end of a table.
+pub mod Places
 -- The table of a side shows its expression, and a word a set of occurrences.
 pub mod Tables
 pub mod OccurrenceWords

@@ -5,7 +5,7 @@ use native.Mathlib.Omega.{arith}
 use mathlib.Core.Path.{_∙_, ap₂}
 use lib.Bits.{bitAnd}
 use Rattle.standings.specs.Steps.{nextSet, readers, stepFrom}
-use Rattle.search_steps.proofs.Places.{place-clipped}
+use Rattle.standings.proofs.Places.{place-clipped}
 use borrow.Author.Needs.{needs}
 use Rattle.search_steps.proofs.step_from.Statement.{statement}
 use Rattle.search_steps.proofs.step_from.Tie as tie

@@ -6,7 +6,7 @@ use mathlib.Core.Path.{_∙_, ap, ap₂}
 use lib.Bits.{bitAnd}
 use Rattle.bits.specs.Sets.{unionRows}
 use Rattle.standings.specs.Steps.{readers, stepSet}
-use Rattle.search_steps.proofs.Places.{part-clipped}
+use Rattle.standings.proofs.Places.{part-clipped}
 use borrow.Author.Needs.{needs}
 use Rattle.search_steps.proofs.step_set.Statement.{statement}
 use Rattle.search_steps.proofs.step_set.Tie as tie

@@ -3,7 +3,7 @@
 use Prim.Native.Nat.{_+_}
 use native.Mathlib.Omega.{arith}
 use mathlib.Core.Path.{sym}
-use Rattle.search_steps.proofs.Places.{past-end}
+use Rattle.standings.proofs.Places.{past-end}
 use borrow.Author.Needs.{needs}
 use Rattle.search_steps.proofs.word_behind.Statement.{statement}
 use Rattle.search_steps.proofs.word_behind.Tie as tie

@@ -1,2 +1,0 @@
--- Places past the end of a table.
-pub mod Places
