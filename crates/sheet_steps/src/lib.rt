@@ -3,7 +3,7 @@
 // the empty set.
 use words::least;
 use words::word;
-ghost use Prim.Native.Nat.{_+_, _*_, _≤_, min};
+ghost use Prim.Native.Nat.{_+_, _*_, _^_, _≤_, _<_, min};
 ghost use mathlib.Core.Path.{_≡_};
 ghost use lib.ListN.{length, getD};
 ghost use Rattle.standings.specs.Steps.{stepFrom, stepSet, enders, endsSet, nullAt};
@@ -65,4 +65,12 @@ pub fn null_at(table: &[u64; 4241], a: usize) -> bool
     ensures { λ b. ⌜ b ≡ nullAt (now (table .entry)) a ⌝ }
 {
     bits::member(word(table, 4240), a)
+}
+
+// A word by its two halves, each of four bytes: so they are below 2 ^ 32.
+pub fn whole(high: u64, low: u64) -> u64
+    requires { ⌜ (high < 2 ^ 32) × (low < 2 ^ 32) ⌝ }
+    ensures { λ w. ⌜ w ≡ high * 2 ^ 32 + low ⌝ }
+{
+    high * 4294967296 + low
 }
