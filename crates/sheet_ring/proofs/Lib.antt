@@ -1,0 +1,6 @@
+-- The rows of N joined, row by row.
+pub mod Rows
+-- The pairs that open, one by one.
+pub mod Opened
+-- The cells of a standing, and that they have four bytes.
+pub mod Standing

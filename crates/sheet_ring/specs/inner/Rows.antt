@@ -1,0 +1,33 @@
+-- The 32 rows of N as the functions of this crate change them, and the three cells before the rows of a ring standing. (Document 01,
+-- "Standings".)
+-- Assumes nothing.
+use Prim.Native.Nat.{ℕ, _-_, _/_, _%_, _^_}
+use mathlib.Core.Bool.{Bool, cond, not, _&&_}
+use mathlib.Core.List.{List}
+use lib.Bits.{bitOr}
+use lib.Dec.{eqb}
+use lib.ListN.{getD, set}
+use Rattle.claims.specs.Query.{bit}
+use Rattle.claims.specs.Standings.{Letter}
+use Rattle.words.specs.Memory.{words}
+use Rattle.standings.specs.Steps.{joined}
+
+-- row k joined with w, where there is such a row
+unfoldable pub rowJoined : List ℕ → ℕ → ℕ → List ℕ
+rowJoined to k w = set to k (bitOr (getD to k 0) w)
+
+-- row i is the row of an occurrence of s
+unfoldable pub rowOf : ℕ → ℕ → Bool
+rowOf s i = not (eqb i 0) && bit (i - 1) s
+
+-- the rows of the occurrences of s joined with w
+unfoldable pub pushed : List ℕ → ℕ → ℕ → List ℕ
+pushed to s w = words 32 (λ i. bitOr (getD to i 0) (cond (rowOf s i) w 0))
+
+-- each row but row 0 joined with what w has for those numbers of the list from which it is read
+unfoldable pub spreadOver : List ℕ → Letter → (ℕ → ℕ) → List ℕ → List ℕ → List ℕ
+spreadOver right l w os to = words 32 (λ i. bitOr (getD to i 0) (cond (eqb i 0) 0 (joined right l w i os)))
+
+-- the head of a standing and P in their places
+unfoldable pub headed : List ℕ → ℕ → ℕ → List ℕ
+headed to head p = set (set (set to 0 head) 1 (p / 2 ^ 32)) 2 (p % 2 ^ 32)

@@ -1,0 +1,220 @@
+// Ring standings on cells, one letter on: a standing is 67 cells. (Document 01, "Standings".) Each row of M goes on by itself; a row of N is
+// sent into the rows of the occurrences that may be read next, and so are the pairs that open. A cell has four bytes: what is read of a
+// standing requires that its cells are below 2 ^ 32, and what is written of one ensures it.
+use sheet_steps::enders_at;
+use sheet_steps::null_at;
+use sheet_steps::step_from;
+use sheet_steps::step_set;
+use sheet_steps::whole;
+use words::clear;
+use words::word;
+ghost use Prim.Native.Nat.{ℕ, _/_, _^_, _≤_, _<_};
+ghost use mathlib.Core.Path.{_≡_};
+ghost use mathlib.Core.List.{_++_};
+ghost use mathlib.Core.Bool.{cond, not, _||_};
+ghost use lib.Dec.{eqb};
+ghost use lib.ListN.{length, getD, take};
+ghost use Rattle.kat.specs.Lists.{upto};
+ghost use Rattle.words.specs.Memory.{words, zeros};
+ghost use Rattle.bits.specs.Sets.{meets};
+ghost use Rattle.standings.specs.Steps.{stepFrom, stepSet};
+ghost use Rattle.sheet_cells.specs.Layout.{wide};
+ghost use Rattle.sheet_cells.specs.RingCells.{headCell, rowM, rowN, raised, flag, opened, sent, ringBegin, ringOnward};
+ghost use Rattle.sheet_ring.specs.inner.Rows.{rowJoined, pushed, spreadOver, headed};
+
+// Row k joined with w, where there is such a row.
+fn join(to: &mut [u64], k: usize, w: u64)
+    ensures { λ x. ⌜ now (to .exit) ≡ rowJoined (now (to .entry)) k w ⌝ }
+{
+    if k < to.len() {
+        to[k] = to[k] | w;
+    }
+}
+
+// The rows of the occurrences of s joined with w. N has 32 rows.
+fn push(to: &mut [u64], s: u64, w: u64)
+    requires { ⌜ length (now to) ≡ 32 ⌝ }
+    ensures { λ x. ⌜ now (to .exit) ≡ pushed (now (to .entry)) s w ⌝ }
+{
+    let mut rest = s;
+    while rest != 0 {
+        let k = u64::trailing_zeros(rest) as usize;
+        join(to, k + 1, w);
+        rest = rest & (rest - 1);
+    }
+}
+
+// The rows of the occurrences that may be read next, where o was read last, joined with w. Nothing is done where w is empty. N has 32 rows.
+fn send(right: &[u64; 4241], o: usize, a: usize, r: usize, w: u64, to: &mut [u64])
+    requires { ⌜ length (now to) ≡ 32 ⌝ }
+    ensures { λ x. ⌜ now (to .exit) ≡ pushed (now (to .entry)) (stepFrom (now (right .entry)) o a r) w ⌝ }
+{
+    if w == 0 {
+        return;
+    }
+    let s = step_from(right, o, a, r);
+    push(to, s, w);
+}
+
+// The rows 1 to 31 of N of a standing sent on. N has 32 rows.
+fn spread(right: &[u64; 4241], from: &[u64], a: usize, r: usize, to: &mut [u64])
+    requires { ⌜ length (now to) ≡ 32 ⌝ }
+    ensures { λ x. ⌜ now (to .exit)
+        ≡ spreadOver (now (right .entry)) (record { atom = a; relation = r }) (rowN (now (from .entry))) (upto 1 32) (now (to .entry)) ⌝ }
+{
+    let mut o = 1;
+    while o < 32 {
+        let w = word(from, 35 + o);
+        send(right, o, a, r, w, to);
+        o += 1;
+    }
+}
+
+// What row p of M adds to the pairs that open at an atom, whose enders are e: p, where a member of the row may end. M has 32 rows.
+fn opens(row: u64, e: u64, p: usize) -> u64
+    requires { ⌜ p < 32 ⌝ }
+    ensures { λ w. ⌜ w ≡ cond (meets (row / 2) e) (2 ^ p) 0 ⌝ }
+{
+    if ((row / 2) & e) != 0 { 1u64 << p } else { 0 }
+}
+
+// The pairs that open at an atom.
+fn opened_at(right: &[u64; 4241], from: &[u64], a: usize) -> u64
+    ensures { λ w. ⌜ w ≡ opened (now (right .entry)) (now (from .entry)) a ⌝ }
+{
+    let e = enders_at(right, a);
+    let mut set = 0;
+    let mut p = 0;
+    while p < 32 {
+        set = set + opens(word(from, 3 + p), e, p);
+        p += 1;
+    }
+    set
+}
+
+// The rows of N one letter on: the pairs that open, and those of each row. N has 32 rows.
+fn pairs_on(right: &[u64; 4241], from: &[u64], a: usize, r: usize, to: &mut [u64])
+    requires { ⌜ length (now to) ≡ 32 ⌝ }
+    ensures { λ x. ⌜ now (to .exit)
+        ≡ spreadOver (now (right .entry)) (record { atom = a; relation = r }) (sent (now (right .entry)) (now (from .entry)) a) (upto 0 32) (zeros 32) ⌝ }
+{
+    let fresh = opened_at(right, from, a);
+    clear(to);
+    send(right, 0, a, r, fresh, to);
+    spread(right, from, a, r, to);
+}
+
+// A row of M one letter on, which is empty where the row is.
+fn row_on(right: &[u64; 4241], row: u64, a: usize, r: usize) -> u64
+    ensures { λ w. ⌜ w ≡ raised (stepSet (now (right .entry)) (row / 2) a r) ⌝ }
+{
+    let s = row / 2;
+    if s == 0 {
+        return 0;
+    }
+    step_set(right, s, a, r) % 2147483648 * 2
+}
+
+// The rows of M one letter on. M has 32 rows.
+fn rows_on(right: &[u64; 4241], from: &[u64], a: usize, r: usize, to: &mut [u64])
+    requires { ⌜ length (now to) ≡ 32 ⌝ }
+    ensures { λ x. ⌜ now (to .exit) ≡ words 32 (λ p. raised (stepSet (now (right .entry)) (rowM (now (from .entry)) p / 2) a r)) ⌝ }
+{
+    let mut p = 0;
+    while p < 32 {
+        to[p] = row_on(right, word(from, 3 + p), a, r);
+        p += 1;
+    }
+}
+
+// The rows of M of a prefix of one relation. M has 32 rows.
+fn first_rows(right: &[u64; 4241], a: usize, r: usize, to: &mut [u64])
+    requires { ⌜ length (now to) ≡ 32 ⌝ }
+    ensures { λ x. ⌜ now (to .exit) ≡ words 32 (λ p. raised (stepFrom (now (right .entry)) p a r)) ⌝ }
+{
+    let mut p = 0;
+    while p < 32 {
+        to[p] = step_from(right, p, a, r) % 2147483648 * 2;
+        p += 1;
+    }
+}
+
+// Z, where it was z, and whether the atom is a right word.
+fn flagged(z: u64, null: bool) -> u64
+    ensures { λ w. ⌜ (w ≡ flag (not (eqb z 0) || null)) × (w ≤ 1) ⌝ }
+{
+    if z != 0 {
+        return 1;
+    }
+    if null { 1 } else { 0 }
+}
+
+// The first atom and Z, each in a byte, behind the length of the field, and P: cells 0, 1 and 2 of a standing, which are there.
+fn put_head(to: &mut [u64], first: u64, z: u64, p: u64)
+    requires { ⌜ (3 ≤ length (now to)) × (first < 256) × (z ≤ 1) ⌝ }
+    ensures { λ x. ⌜ now (to .exit) ≡ headed (now (to .entry)) (headCell first z) p ⌝ }
+{
+    to[0] = 17432576 + 256 * first + z;
+    to[1] = p / 4294967296;
+    to[2] = p % 4294967296;
+}
+
+// The rows of a prefix of one relation behind the first three of 67 cells: M, and nothing in N.
+fn lay_first(right: &[u64; 4241], a: usize, r: usize, to: &mut [u64])
+    requires { ⌜ length (now to) ≡ 67 ⌝ }
+    ensures { λ x. ⌜ now (to .exit) ≡ take 3 (now (to .entry)) ++ (words 32 (λ p. raised (stepFrom (now (right .entry)) p a r)) ++ zeros 32) ⌝ }
+{
+    first_rows(right, a, r, &mut to[3..35]);
+    clear(&mut to[35..67]);
+}
+
+// The rows of a prefix one relation longer behind the first three of 67 cells: M and N.
+fn lay_on(right: &[u64; 4241], from: &[u64], a: usize, r: usize, to: &mut [u64])
+    requires { ⌜ length (now to) ≡ 67 ⌝ }
+    ensures { λ x. ⌜ now (to .exit) ≡ take 3 (now (to .entry))
+        ++ (words 32 (λ p. raised (stepSet (now (right .entry)) (rowM (now (from .entry)) p / 2) a r))
+        ++ spreadOver (now (right .entry)) (record { atom = a; relation = r }) (sent (now (right .entry)) (now (from .entry)) a) (upto 0 32) (zeros 32)) ⌝ }
+{
+    rows_on(right, from, a, r, &mut to[3..35]);
+    pairs_on(right, from, a, r, &mut to[35..67]);
+}
+
+// P of a standing.
+pub fn left_of(at: &[u64; 67]) -> u64
+    requires { ⌜ ((i : ℕ) → getD (now at) i 0 < 2 ^ 32) ⌝ }
+    ensures { λ w. ⌜ w ≡ wide (now (at .entry)) 1 ⌝ }
+{
+    whole(at[1], at[2])
+}
+
+// The standing of a prefix of one relation. Its first atom has a byte.
+pub fn begin(left: &[u64; 4241], right: &[u64; 4241], a: usize, r: usize, to: &mut [u64; 67])
+    requires { ⌜ a < 256 ⌝ }
+    ensures { λ x. ⌜ (now (to .exit) ≡ ringBegin (now (left .entry)) (now (right .entry)) (record { atom = a; relation = r }))
+        × ((i : ℕ) → getD (now (to .exit)) i 0 < 2 ^ 32) ⌝ }
+{
+    let p = step_from(left, 0, a, r);
+    let z = flagged(0, null_at(right, a));
+    put_head(to, a as u64, z, p);
+    lay_first(right, a, r, to);
+}
+
+// The standing of a prefix one relation longer.
+pub fn onward(
+    left: &[u64; 4241],
+    right: &[u64; 4241],
+    from: &[u64; 67],
+    a: usize,
+    r: usize,
+    to: &mut [u64; 67],
+)
+    requires { ⌜ ((i : ℕ) → getD (now from) i 0 < 2 ^ 32) ⌝ }
+    ensures { λ x. ⌜ (now (to .exit) ≡ ringOnward (now (left .entry)) (now (right .entry)) (now (from .entry)) (record { atom = a; relation = r }))
+        × ((i : ℕ) → getD (now (to .exit)) i 0 < 2 ^ 32) ⌝ }
+{
+    let p = step_set(left, left_of(from), a, r);
+    let head = from[0];
+    let z = flagged(head % 256, null_at(right, a));
+    put_head(to, head / 256 % 256, z, p);
+    lay_on(right, from, a, r, to);
+}
