@@ -1,0 +1,184 @@
+-- Rows by steps and by rounds: the turns of the loops, and that the rounds close the table. After the rounds through the numbers below k, row
+-- x has bit y exactly where x leads to y through these numbers, by Warshall's recursion. Row k does not change in round k, so that a round
+-- may be done in place.
+-- Assumes nothing.
+use Prim.Native.Nat.{ℕ, zero, suc, _+_, _*_, _-_, _/_, _^_, _≤_, _<_}
+use native.Mathlib.Numerals.{add-one}
+use native.Mathlib.Omega.{arith}
+use mathlib.Core.Path.{_≡_, refl, sym, _∙_, ap, ap₂, subst}
+use mathlib.Core.Bool.{Bool, true, false, cond, _&&_, _||_}
+use mathlib.Core.List.{List, [], _∷_}
+use lib.Bits.{bitOr, or-zero-r, or-lt}
+use lib.Dec.{eqb, ltb, leb}
+use lib.ListN.{length, getD, set, drop, drop-of-length-le}
+use lib.Pow.{pow-pos}
+use lib.Seq.{drop-cons}
+use borrow.Author.Tests.{lt-ltb, le-ltb, le-leb, lt-leb, eq-eqb, ne-eqb}
+use Rattle.kat.specs.Closure.{table, entry, through, closure}
+use Rattle.kat.proofs.Closure.{entry-table}
+use Rattle.claims.specs.Query.{bit}
+use Rattle.words.specs.Memory.{between, changed, words}
+use Rattle.words.proofs.Words.{words-at, words-length, changed-length, changed-in, changed-at, changed-end, changed-more}
+use Rattle.bits.specs.Sets.{including}
+use Rattle.bits.proofs.Bit.{bit-none, bit-or}
+use Rattle.draw_rows.specs.Rows.{closedWith, closedSet, eventCount, nextEvent, stepRow, stepRows, joinedWhere, round, rounds, relationRows}
+
+-- one code, and then the others
+pub closed-low : (s k : ℕ) → k < 160 → s ≡ closedWith s k
+unfolding closedWith
+closed-low s k h = sym (ap (λ b. cond b s (including 64 s (k - 160))) (lt-ltb k 160 h))
+
+pub closed-high : (s k r : ℕ) → 160 ≤ k → r ≡ including 64 s (k - 160) → r ≡ closedWith s k
+unfolding closedWith
+closed-high s k r h e = e ∙ sym (ap (λ b. cond b s (including 64 s (k - 160))) (le-ltb k 160 h))
+
+pub closed-more : (ks : List ℕ) (i s v : ℕ) → i < length ks → v ≡ closedWith s (getD ks i 0)
+    → closedSet v (drop (i + 1) ks) ≡ closedSet s (drop i ks)
+unfolding closedSet
+closed-more ks i s v h e =
+    ap₂ closedSet e (ap (λ j. drop j ks) (add-one i)) ∙ sym (ap (closedSet s) (drop-cons ks i 0 h))
+
+pub closed-end : (ks : List ℕ) (i s : ℕ) → length ks ≤ i → s ≡ closedSet s (drop i ks)
+unfolding closedSet
+closed-end ks i s h = sym (ap (closedSet s) (drop-of-length-le ks h))
+
+-- the number of events
+pub events-alone : (size : ℕ) → size < 2 → 1 ≡ eventCount true size
+unfolding eventCount
+events-alone size h = sym (ap (λ b. cond b 1 (size / 2)) (lt-ltb size 2 h))
+
+pub events-ring : (size : ℕ) → 2 ≤ size → size / 2 ≡ eventCount true size
+unfolding eventCount
+events-ring size h = sym (ap (λ b. cond b 1 (size / 2)) (le-ltb size 2 h))
+
+pub events-line : (size : ℕ) → size / 2 + 1 ≡ eventCount false size
+unfolding eventCount
+events-line size = refl
+
+-- the event after
+pub next-first : (n x : ℕ) → x + 1 ≡ n → 0 ≡ nextEvent n x
+unfolding nextEvent
+next-first n x h = sym (ap (λ b. cond b 0 (x + 1)) (eq-eqb (x + 1) n h))
+
+pub next-on : (n x : ℕ) → (x + 1 ≡ n → ⊥) → x + 1 ≡ nextEvent n x
+unfolding nextEvent
+next-on n x h = sym (ap (λ b. cond b 0 (x + 1)) (ne-eqb (x + 1) n h))
+
+-- the step from an event
+module _ (bs : List ℕ) (n r x : ℕ) where
+  abbrev else : ℕ
+  else = cond (eqb (getD bs (2 * x + 1) 0) r) (including 64 0 (nextEvent n x)) 0
+
+  pub step-past : length bs ≤ 2 * x + 1 → 0 ≡ stepRow bs n r x
+  unfolding stepRow
+  step-past h = sym (ap (λ b. cond b 0 else) (le-leb (length bs) (2 * x + 1) h))
+
+  inside : 2 * x + 1 < length bs → stepRow bs n r x ≡ else
+  unfolding stepRow
+  inside h = ap (λ b. cond b 0 else) (lt-leb (length bs) (2 * x + 1) h)
+
+  pub step-other : 2 * x + 1 < length bs → (a : ℕ) → a ≡ getD bs (2 * x + 1) 0 → (a ≡ r → ⊥) → 0 ≡ stepRow bs n r x
+  step-other h a e k =
+      sym (inside h ∙ ap (λ b. cond b (including 64 0 (nextEvent n x)) 0) (ne-eqb (getD bs (2 * x + 1) 0) r (λ z. k (e ∙ z))))
+
+  pub step-on : 2 * x + 1 < length bs → (a : ℕ) → a ≡ getD bs (2 * x + 1) 0 → a ≡ r → (y s : ℕ) → y ≡ nextEvent n x → s ≡ including 64 0 y
+      → s ≡ stepRow bs n r x
+  step-on h a e k y s f g =
+      g ∙ ap (including 64 0) f
+      ∙ sym (inside h ∙ ap (λ b. cond b (including 64 0 (nextEvent n x)) 0) (eq-eqb (getD bs (2 * x + 1) 0) r (sym e ∙ k)))
+
+-- a row joined where it has k, or left
+pub merged-in : (w c k : ℕ) (b : Bool) → b ≡ bit k w → b ≡ true → bitOr w c ≡ bitOr w (cond (bit k w) c 0)
+merged-in w c k b e h = ap (λ x. bitOr w (cond x c 0)) (sym h ∙ e)
+
+pub merged-out : (w c k : ℕ) (b : Bool) → b ≡ bit k w → b ≡ false → w ≡ bitOr w (cond (bit k w) c 0)
+merged-out w c k b e h = sym (or-zero-r w) ∙ ap (λ x. bitOr w (cond x c 0)) (sym h ∙ e)
+
+-- one row, and then the rest
+module _ (c k : ℕ) where
+  abbrev pub merge : ℕ → ℕ → ℕ
+  merge x w = bitOr w (cond (bit k w) c 0)
+
+  pub where-begin : (t : List ℕ) (n : ℕ) → changed merge t 0 n ≡ joinedWhere t c k n
+  unfolding joinedWhere
+  where-begin t n = refl
+
+  pub where-more : (t : List ℕ) (n x v : ℕ) → x < n → x < length t → v ≡ bitOr (getD t x 0) (cond (bit k (getD t x 0)) c 0)
+      → changed merge (set t x v) (x + 1) n ≡ changed merge t x n
+  where-more t n x v h l e = changed-more merge t n x v h l e
+
+  pub where-end : (t : List ℕ) (n x : ℕ) → n ≤ x → changed merge t x n ≡ t
+  where-end t n x h = changed-end merge t n x (omega arith)
+
+-- the rounds, one after another
+module _ (t : List ℕ) (n : ℕ) where
+  pub rounds-begin : t ≡ rounds t n 0
+  unfolding rounds
+  rounds-begin = refl
+
+  pub rounds-more : (k c : ℕ) (u v : List ℕ) → u ≡ rounds t n k → c ≡ getD u k 0 → v ≡ joinedWhere u c k n → v ≡ rounds t n (k + 1)
+  unfolding rounds round
+  rounds-more k c u v e f h =
+      h ∙ ap (λ d. joinedWhere u d k n) f ∙ ap (λ w. joinedWhere w (getD w k 0) k n) e ∙ ap (rounds t n) (sym (add-one k))
+
+  pub rounds-length : (k : ℕ) → length (rounds t n k) ≡ length t
+  unfolding rounds round joinedWhere
+  rounds-length zero = refl
+  rounds-length (suc k) = changed-length (merge (getD (rounds t n k) k 0) k) (rounds t n k) n 0 ∙ rounds-length k
+
+  module _ (fits : n ≤ length t) (f : ℕ → ℕ → Bool) (shows : (x y : ℕ) → x < n → y < n → bit y (getD t x 0) ≡ f x y) where
+    -- row x has bit y where x leads to y
+    rounds-through : (k : ℕ) → k ≤ n → (x y : ℕ) → x < n → y < n
+        → bit y (getD (rounds t n k) x 0) ≡ entry (through n k (table n f)) x y
+    unfolding rounds round joinedWhere through
+    rounds-through zero h x y a b = shows x y a b ∙ sym (entry-table n f x y a b)
+    rounds-through (suc k) h x y a b =
+        ap (bit y) (changed-in (merge (getD (rounds t n k) k 0) k) (rounds t n k) n 0 x (omega (arith, rounds-length k)) (omega arith) a)
+        ∙ bit-or y (getD (rounds t n k) x 0) (cond (bit k (getD (rounds t n k) x 0)) (getD (rounds t n k) k 0) 0)
+        ∙ ap₂ _||_ (rounds-through k (omega arith) x y a b)
+        (either (bit k (getD (rounds t n k) x 0)) (getD (rounds t n k) k 0)
+        ∙ ap₂ _&&_ (rounds-through k (omega arith) x k a (omega arith)) (rounds-through k (omega arith) k y (omega arith) b))
+        ∙ sym (entry-table n (λ x y. entry (through n k (table n f)) x y
+        || (entry (through n k (table n f)) x k && entry (through n k (table n f)) k y)) x y a b)
+      where
+        either : (b : Bool) (w : ℕ) → bit y (cond b w 0) ≡ (b && bit y w)
+        either true w = refl
+        either false w = bit-none y
+
+    pub rounds-closure : (x y : ℕ) → x < n → y < n → bit y (getD (rounds t n n) x 0) ≡ entry (closure n f) x y
+    unfolding closure
+    rounds-closure x y a b = rounds-through n (omega arith) x y a b
+
+  -- no row gets a bit from w on that none had
+  module _ (w : ℕ) (below : (x : ℕ) → x < length t → getD t x 0 < 2 ^ w) where
+    joined-below : (b : Bool) (m c : ℕ) → m < 2 ^ w → c < 2 ^ w → bitOr m (cond b c 0) < 2 ^ w
+    joined-below true m c h k = or-lt w m c h k
+    joined-below false m c h k = or-lt w m 0 h (pow-pos w)
+
+    kept-below : (b d : Bool) (m c : ℕ) → m < 2 ^ w → c < 2 ^ w → cond b (bitOr m (cond d c 0)) m < 2 ^ w
+    kept-below true d m c h k = joined-below d m c h k
+    kept-below false d m c h k = h
+
+    pub rounds-below : n ≤ length t → (k : ℕ) → k ≤ n → (x : ℕ) → x < length t → getD (rounds t n k) x 0 < 2 ^ w
+    unfolding rounds round joinedWhere
+    rounds-below fits zero h x l = below x l
+    rounds-below fits (suc k) h x l =
+        let u = rounds t n k in
+        subst (λ m. m < 2 ^ w) (sym (changed-at (merge (getD u k 0) k) u n 0 x (omega (arith, rounds-length k))))
+        (kept-below (between 0 n x) (bit k (getD u x 0)) (getD u x 0) (getD u k 0)
+        (rounds-below fits k (omega arith) x l) (rounds-below fits k (omega arith) k (omega arith)))
+
+-- a relation that is closed, or not
+pub rows-closed : (bs : List ℕ) (n r : ℕ) (closed : Bool) (t u : List ℕ) (size : ℕ) → size ≡ 64 → closed ≡ true → t ≡ words size (stepRow bs n r)
+    → u ≡ rounds t n n → u ≡ relationRows bs n r closed
+unfolding relationRows stepRows
+rows-closed bs n r closed t u size z b e h =
+    h ∙ ap (λ s. rounds s n n) (e ∙ ap (λ k. words k (stepRow bs n r)) z)
+    ∙ sym (ap (λ x. cond x (rounds (words 64 (stepRow bs n r)) n n) (words 64 (stepRow bs n r))) b)
+
+pub rows-open : (bs : List ℕ) (n r : ℕ) (closed : Bool) (t : List ℕ) (size : ℕ) → size ≡ 64 → closed ≡ false → t ≡ words size (stepRow bs n r)
+    → t ≡ relationRows bs n r closed
+unfolding relationRows stepRows
+rows-open bs n r closed t size z b e =
+    e ∙ ap (λ k. words k (stepRow bs n r)) z
+    ∙ sym (ap (λ x. cond x (rounds (words 64 (stepRow bs n r)) n n) (words 64 (stepRow bs n r))) b)

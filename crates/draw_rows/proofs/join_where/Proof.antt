@@ -1,0 +1,81 @@
+-- `draw_rows::join_where` meets its contract. The invariant: what is left of the rows, joined in the memory as it is, is all of them joined in
+-- the memory at the start. The measure is what is left of the rows.
+-- Assumes nothing.
+use Prim.Native.Nat.{_-_, _≤_}
+use native.Mathlib.Omega.{arith}
+use mathlib.Core.Path.{_≡_, sym, _∙_}
+use lib.ListN.{length, length-set}
+use Rattle.words.specs.Memory.{changed}
+use Rattle.draw_rows.specs.Rows.{joinedWhere}
+use Rattle.draw_rows.proofs.Rounds.{merge, where-begin, where-more, where-end}
+use borrow.Author.Needs.{needs}
+use Rattle.draw_rows.proofs.join_where.Statement.{statement}
+use Rattle.draw_rows.proofs.join_where.Tie as tie
+
+abbrev Inv-loop : tie.InvT-loop
+Inv-loop t₀ c k n x₀ t x = (length t ≡ length t₀) × (x ≤ n) × (changed (merge c k) t x n ≡ joinedWhere t₀ c k n)
+
+abbrev μ-loop : tie.MeasureT-loop
+μ-loop t₀ c k n x₀ t x = n - x
+
+loop-holds : tie.Need-loop-holds Inv-loop μ-loop
+loop-holds c =
+    let a = c .before .args in
+    (search needs, omega arith, where-begin (a .c) (a .k) (a .t .now) (a .n))
+
+mul-merged : tie.Need-mul-merged Inv-loop μ-loop
+mul-merged c = search needs
+
+slice-read-merged : tie.Need-slice-read-merged Inv-loop μ-loop
+slice-read-merged c = omega arith
+
+merged-requires : tie.Need-merged-requires Inv-loop μ-loop
+merged-requires c κs = search needs
+
+mul-t : tie.Need-mul-t Inv-loop μ-loop
+mul-t c = search needs
+
+slice-write-t : tie.Need-slice-write-t Inv-loop μ-loop
+slice-write-t c = omega arith
+
+add-x : tie.Need-add-x Inv-loop μ-loop
+add-x c = omega arith
+
+loop-less : tie.Need-loop-less Inv-loop μ-loop
+loop-less c = omega arith
+
+loop-again : tie.Need-loop-again Inv-loop μ-loop
+loop-again c =
+    let l = c .before .before .before .loop in
+    let a = c .before .before .before .before .before .args in (
+      length-set (l .t) (l .x) (c .merged .result) ∙ l .inv .0,
+      omega arith,
+      where-more (a .c) (a .k) (l .t) (a .n) (l .x) (c .merged .result) (omega arith) (omega arith) (c .merged .ensures) ∙ l .inv .2,
+    )
+
+same-length : tie.Need-same-length Inv-loop μ-loop
+same-length c = omega arith
+
+returns : tie.Need-returns Inv-loop μ-loop
+returns c =
+    let l = c .before .loop in
+    let a = c .before .before .before .args in
+    sym (where-end (a .c) (a .k) (l .t) (a .n) (l .x) (omega arith)) ∙ l .inv .2
+
+pub join-where-spec : {M : Type 1} → statement M
+join-where-spec =
+    tie.close
+    (tie.spec
+    Inv-loop
+    μ-loop
+    loop-holds
+    mul-merged
+    slice-read-merged
+    merged-requires
+    mul-t
+    slice-write-t
+    add-x
+    loop-less
+    loop-again
+    same-length
+    returns)

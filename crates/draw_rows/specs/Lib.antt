@@ -1,0 +1,2 @@
+-- The edges of a relation as rows.
+pub mod Rows

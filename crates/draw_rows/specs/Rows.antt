@@ -1,0 +1,57 @@
+-- The edges of a drawn graph as sets: a relation is a table of 64 rows, and bit y of row x is the edge from event x to event y. (Document 01,
+-- "Words", Drawn graph.) A word is given by its numbers: atom, relation, atom, .., atom, so that the relation of the step from event x
+-- stands at place 2 x + 1. Which relations are closed is a set too, from the codes of the query.
+-- Assumes nothing.
+use Prim.Native.Nat.{ℕ, zero, suc, _+_, _*_, _-_, _/_}
+use mathlib.Core.Bool.{Bool, cond}
+use mathlib.Core.List.{List, [], _∷_}
+use lib.Bits.{bitOr}
+use lib.Dec.{eqb, ltb, leb}
+use lib.ListN.{length, getD}
+use Rattle.claims.specs.Query.{bit}
+use Rattle.codes.specs.Codes.{CLOSED-LINE}
+use Rattle.words.specs.Memory.{words, changed}
+use Rattle.bits.specs.Sets.{including}
+
+-- the set s, and the relation whose `closed` line ends with code k ("The query")
+unfoldable pub closedWith : ℕ → ℕ → ℕ
+closedWith s k = cond (ltb k CLOSED-LINE) s (including 64 s (k - CLOSED-LINE))
+
+-- the set s, and the relations that the lines with these codes close ("The query")
+unfoldable pub closedSet : ℕ → List ℕ → ℕ
+closedSet s [] = s
+closedSet s (k ∷ ks) = closedSet (closedWith s k) ks
+
+-- how many events the graph of a word of so many numbers has, in a line (false) or in a ring (true) ("Words")
+unfoldable pub eventCount : Bool → ℕ → ℕ
+eventCount ring size = cond ring (cond (ltb size 2) 1 (size / 2)) (size / 2 + 1)
+
+-- the event after x among n events; after the last comes the first ("Words")
+unfoldable pub nextEvent : ℕ → ℕ → ℕ
+nextEvent n x = cond (eqb (x + 1) n) 0 (x + 1)
+
+-- the step from event x, where it is one of relation r ("Words")
+unfoldable pub stepRow : List ℕ → ℕ → ℕ → ℕ → ℕ
+stepRow bs n r x =
+    cond (leb (length bs) (2 * x + 1)) 0 (cond (eqb (getD bs (2 * x + 1) 0) r) (including 64 0 (nextEvent n x)) 0)
+
+-- the steps of relation r ("Words")
+unfoldable pub stepRows : List ℕ → ℕ → ℕ → List ℕ
+stepRows bs n r = words 64 (stepRow bs n r)
+
+-- the rows below n that have k, joined with c ("Words")
+unfoldable pub joinedWhere : List ℕ → ℕ → ℕ → ℕ → List ℕ
+joinedWhere t c k n = changed (λ x w. bitOr w (cond (bit k w) c 0)) t 0 n
+
+-- a round through k: the rows below n that have k, joined with row k ("Words")
+unfoldable pub round : List ℕ → ℕ → ℕ → List ℕ
+round t k n = joinedWhere t (getD t k 0) k n
+
+-- the rounds through the numbers below k ("Words")
+unfoldable pub rounds : List ℕ → ℕ → ℕ → List ℕ
+rounds t n zero = t
+rounds t n (suc k) = round (rounds t n k) k n
+
+-- the edges of relation r among n events, closed or not ("Words")
+unfoldable pub relationRows : List ℕ → ℕ → ℕ → Bool → List ℕ
+relationRows bs n r closed = cond closed (rounds (stepRows bs n r) n n) (stepRows bs n r)

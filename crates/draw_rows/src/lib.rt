@@ -1,0 +1,134 @@
+// The edges of a drawn graph as sets: a relation is a table of 64 rows, and bit y of row x is the edge from event x to event y. (Document 01,
+// "Words", Drawn graph.) The steps of a word lead from each event to the next, the last of a ring to the first; a closed relation is then
+// closed, by rounds: in round k a row that has k is joined with row k, which itself does not change.
+use bits::member;
+use bits::with;
+use words::word as row;
+ghost use Prim.Native.Nat.{_≤_, _<_};
+ghost use mathlib.Core.Path.{_≡_};
+ghost use mathlib.Core.Bool.{cond};
+ghost use lib.Bits.{bitOr};
+ghost use lib.ListN.{length};
+ghost use Rattle.claims.specs.Query.{bit};
+ghost use Rattle.words.specs.Memory.{words};
+ghost use Rattle.draw_rows.specs.Rows.{closedWith, closedSet, eventCount, nextEvent, stepRow, joinedWhere, rounds, relationRows};
+
+// The set s, and the relation whose `closed` line ends with the code.
+fn closed_with(s: u64, code: u64) -> u64
+    ensures { λ r. ⌜ r ≡ closedWith s code ⌝ }
+{
+    if code < codes::CLOSED_LINE {
+        return s;
+    }
+    with(s, (code - codes::CLOSED_LINE) as usize)
+}
+
+// The relations that the lines of a query close, from its codes.
+pub fn closed_set(codes: &[u64]) -> u64
+    ensures { λ r. ⌜ r ≡ closedSet 0 (now (codes .entry)) ⌝ }
+{
+    let mut s: u64 = 0;
+    let mut i = 0;
+    while i < codes.len() {
+        s = closed_with(s, codes[i]);
+        i += 1;
+    }
+    s
+}
+
+// How many events the graph of a word of so many numbers has: in a line one more than its length, in a ring as many, and one for length 0.
+pub fn event_count(ring: bool, size: usize) -> usize
+    ensures { λ r. ⌜ r ≡ eventCount ring size ⌝ }
+{
+    if ring {
+        if size < 2 {
+            return 1;
+        }
+        return size / 2;
+    }
+    size / 2 + 1
+}
+
+// The event after x among n events. The sum asks for a bound.
+fn next_event(n: usize, x: usize) -> usize
+    requires { ⌜ x < 64 ⌝ }
+    ensures { λ r. ⌜ r ≡ nextEvent n x ⌝ }
+{
+    if x + 1 == n { 0 } else { x + 1 }
+}
+
+// A byte as a number.
+fn wide(b: u8) -> usize
+    ensures { λ r. ⌜ r ≡ b ⌝ }
+{
+    b as usize
+}
+
+// The step from event x, where it is one of relation r. The sums ask for a bound.
+fn step_row(word: &[u8], n: usize, r: usize, x: usize) -> u64
+    requires { ⌜ x < 64 ⌝ }
+    ensures { λ s. ⌜ s ≡ stepRow (now (word .entry)) n r x ⌝ }
+{
+    let at = 2 * x + 1;
+    if word.len() <= at {
+        return 0;
+    }
+    if wide(word[at]) != r {
+        return 0;
+    }
+    with(0, next_event(n, x))
+}
+
+// The steps of relation r. The table has a row for each event there may be.
+fn step_rows(word: &[u8], n: usize, r: usize, rows: &mut [u64])
+    requires { ⌜ length (now rows) ≤ 64 ⌝ }
+    ensures { λ u. ⌜ now (rows .exit) ≡ words (length (now (rows .entry))) (stepRow (now (word .entry)) n r) ⌝ }
+{
+    let mut x = 0;
+    while x < rows.len() {
+        rows[x] = step_row(word, n, r, x);
+        x += 1;
+    }
+}
+
+// A row w joined with c where it has k.
+fn merged(w: u64, c: u64, k: usize) -> u64
+    ensures { λ r. ⌜ r ≡ bitOr w (cond (bit k w) c 0) ⌝ }
+{
+    if member(w, k) { w | c } else { w }
+}
+
+// The rows below n that have k, joined with c. There are so many rows.
+fn join_where(t: &mut [u64], c: u64, k: usize, n: usize)
+    requires { ⌜ n ≤ length (now t) ⌝ }
+    ensures { λ r. ⌜ now (t .exit) ≡ joinedWhere (now (t .entry)) c k n ⌝ }
+{
+    let mut x = 0;
+    while x < n {
+        t[x] = merged(t[x], c, k);
+        x += 1;
+    }
+}
+
+// The rows below n, closed. There are so many rows.
+fn close(t: &mut [u64], n: usize)
+    requires { ⌜ n ≤ length (now t) ⌝ }
+    ensures { λ r. ⌜ now (t .exit) ≡ rounds (now (t .entry)) n n ⌝ }
+{
+    let mut k = 0;
+    while k < n {
+        join_where(t, row(t, k), k, n);
+        k += 1;
+    }
+}
+
+// The edges of relation r among n events, which is closed or not. The table has a row for each event there may be.
+pub fn relation_rows(word: &[u8], n: usize, r: usize, closed: bool, rows: &mut [u64])
+    requires { ⌜ (length (now rows) ≡ 64) × (n ≤ 64) ⌝ }
+    ensures { λ u. ⌜ now (rows .exit) ≡ relationRows (now (word .entry)) n r closed ⌝ }
+{
+    step_rows(word, n, r, rows);
+    if closed {
+        close(rows, n);
+    }
+}
