@@ -1,5 +1,6 @@
 // The line that the query program prints, as bytes in lent memory. (Document 01, "The desk's cases".) Whatever does not fit is not written,
 // and the place after a piece of text is at most the length of the memory; for memory that is long enough the whole line stands there.
+// A piece is put at a place within the memory, which is required: it is the place after the piece before it, or 0.
 use refusals::Reason;
 ghost use Prim.Native.Nat.{_-_, _≤_};
 ghost use mathlib.Core.List.{[], _∷_, _++_};
@@ -12,7 +13,7 @@ ghost use Rattle.refusals.specs.Causes.{causeOf};
 ghost use Rattle.print_line.specs.Puts.{Puts};
 
 // One byte.
-fn put_byte(out: &mut [u8], at: usize, b: u8) -> usize
+pub fn put_byte(out: &mut [u8], at: usize, b: u8) -> usize
     requires { ⌜ at ≤ length (now out) ⌝ }
     ensures { λ r. ⌜ Puts (now (out .entry)) at (b ∷ []) r (now (out .exit)) ⌝ }
 {
@@ -25,7 +26,7 @@ fn put_byte(out: &mut [u8], at: usize, b: u8) -> usize
 }
 
 // A text.
-fn put_text(out: &mut [u8], at: usize, bytes: &[u8]) -> usize
+pub fn put_text(out: &mut [u8], at: usize, bytes: &[u8]) -> usize
     requires { ⌜ at ≤ length (now out) ⌝ }
     ensures { λ r. ⌜ Puts (now (out .entry)) at (now (bytes .entry)) r (now (out .exit)) ⌝ }
 {

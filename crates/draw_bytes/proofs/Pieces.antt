@@ -1,0 +1,166 @@
+-- Pieces of bytes put into memory one after another, by a loop: what is left of the pieces, put into the memory as it is, is all of them put into
+-- the memory at the start. And their length: what was counted and the length of what is left is the length of all.
+-- Assumes nothing.
+use Prim.Native.Nat.{ℕ, _+_, _-_, _*_, _^_, _≤_, _<_}
+use native.Mathlib.Omega.{arith}
+use mathlib.Core.Path.{_≡_, refl, sym, _∙_, ap, subst}
+use mathlib.Core.Bool.{Bool}
+use mathlib.Core.List.{List, [], _∷_, _++_}
+use lib.Bits.{bitAnd}
+use lib.Count.{ones, trailingZeros}
+use lib.ListN.{length, getD, length-append}
+use Rattle.kat.specs.Lists.{upto}
+use Rattle.kat.proofs.Sets.{upto-length}
+use Rattle.claims.specs.Query.{bit}
+use Rattle.claims.specs.Fields.{bigEndian, field}
+use Rattle.claims.specs.GraphWriting.{joined, eventField, edgeField, edgeOf}
+use Rattle.print_line.specs.Puts.{Puts}
+use Rattle.print_line.proofs.Putting.{puts-nothing, puts-append, puts-within, puts-length}
+use Rattle.standings.proofs.Upto.{upto-more, upto-none}
+use Rattle.bits.specs.Sets.{members}
+use Rattle.bits.proofs.Members.{number-none, number-length}
+use Rattle.bits.proofs.Lowest.{Lowest}
+use Rattle.draw_rows.specs.Rows.{relationRows}
+use Rattle.draw_bytes.specs.Bytes.{eventsBytes, rowBytes, rowsBytes, relationBytes, edgesBytes, bytesOf}
+
+-- the bytes `rest` are left of the bytes `all`: the memory is `now` and the next place is `to`, after a start at place `at` of `start`
+pub record Left (start : List ℕ) (at : ℕ) (all now : List ℕ) (to : ℕ) (rest : List ℕ) : Type 0 where
+  pub same-length : length now ≡ length start
+  pub within : to ≤ length now
+  pub onward : (next : ℕ) (after : List ℕ) → Puts now to rest next after → Puts start at all next after
+
+pub left-begin : (l : List ℕ) (at : ℕ) (bs : List ℕ) → at ≤ length l → Left l at bs l at bs
+left-begin l at bs h = record { same-length = refl; within = h; onward = λ next after p. p }
+
+-- one piece is put
+pub left-more : {l m n : List ℕ} {at to next : ℕ} {all : List ℕ} (f rest : List ℕ) → Left l at all m to (f ++ rest) → Puts m to f next n → Left l at all n next rest
+left-more f rest L p =
+    record {
+      same-length = puts-length p ∙ L .same-length;
+      within = puts-within p;
+      onward = λ next after q. L .onward next after (puts-append p q);
+    }
+
+-- nothing is left
+pub left-end : {l m : List ℕ} {at to : ℕ} {all : List ℕ} → Left l at all m to [] → Puts l at all to m
+left-end {l} {m} {at} {to} L = L .onward to m (puts-nothing m to (L .within))
+
+-- pieces for the numbers of a range
+module _ (f : ℕ → List ℕ) where
+  pub pieces-more : (i n : ℕ) → i < n → joined f (upto i n) ≡ f i ++ joined f (upto (i + 1) n)
+  pieces-more i n h = ap (joined f) (upto-more i n h)
+
+  pub pieces-end : (i n : ℕ) → n ≤ i → joined f (upto i n) ≡ []
+  pieces-end i n h = ap (joined f) (upto-none i n h)
+
+  -- one piece put, and the last
+  pub range-more : {l m n : List ℕ} {at to next : ℕ} {all : List ℕ} (i e : ℕ) → i < e → Left l at all m to (joined f (upto i e))
+      → (v : List ℕ) → v ≡ f i → Puts m to v next n → Left l at all n next (joined f (upto (i + 1) e))
+  range-more {l} {m} {n} {at} {to} {next} {all} i e h L v k p =
+      left-more (f i) (joined f (upto (i + 1) e)) (subst (Left l at all m to) (pieces-more i e h) L) (subst (λ bs. Puts m to bs next n) k p)
+
+  pub range-end : {l m : List ℕ} {at to : ℕ} {all : List ℕ} (i e : ℕ) → e ≤ i → Left l at all m to (joined f (upto i e)) → Puts l at all to m
+  range-end {l} {m} {at} {to} {all} i e h L = left-end (subst (Left l at all m to) (pieces-end i e h) L)
+
+  -- and counted
+  pub count-more : (i e sum v all : ℕ) → i < e → v ≡ length (f i) → sum + length (joined f (upto i e)) ≡ all
+      → sum + v + length (joined f (upto (i + 1) e)) ≡ all
+  count-more i e sum v all h k s =
+      omega (arith, ap length (pieces-more i e h), length-append (f i) (joined f (upto (i + 1) e)))
+
+  pub count-end : (i e sum all : ℕ) → e ≤ i → sum + length (joined f (upto i e)) ≡ all → sum ≡ all
+  count-end i e sum all h s = omega (arith, ap length (pieces-end i e h))
+
+-- pieces for the members of a set
+module _ (f : ℕ → List ℕ) where
+  pub set-more : {l m n : List ℕ} {at to next : ℕ} {all : List ℕ} {s : ℕ} → Lowest 64 s → Left l at all m to (joined f (members s))
+      → Puts m to (f (trailingZeros 64 s)) next n → Left l at all n next (joined f (members (bitAnd s (s - 1))))
+  set-more {l} {m} {n} {at} {to} {next} {all} {s} low L p =
+      left-more (f (trailingZeros 64 s)) (joined f (members (bitAnd s (s - 1)))) (subst (Left l at all m to) (ap (joined f) (low .members)) L) p
+
+  pub set-end : {l m : List ℕ} {at to : ℕ} {all : List ℕ} (s : ℕ) → s ≡ 0 → Left l at all m to (joined f (members s)) → Puts l at all to m
+  set-end {l} {m} {at} {to} {all} s e L =
+      left-end (subst (Left l at all m to) (ap (λ k. joined f (members k)) e ∙ ap (joined f) (number-none 0 64)) L)
+
+-- pieces of one length
+pub pieces-length : (f : ℕ → List ℕ) (k : ℕ) → ((x : ℕ) → length (f x) ≡ k) → (xs : List ℕ) → length (joined f xs) ≡ k * length xs
+pieces-length f k h [] = omega arith
+pieces-length f k h (x ∷ xs) = omega (arith, length-append (f x) (joined f xs), h x, pieces-length f k h xs)
+
+-- the pieces of a graph: an event, an edge from x of relation r, a row
+abbrev pub anEvent : List ℕ → ℕ → List ℕ
+anEvent bs i = eventField (getD bs (2 * i) 0)
+
+abbrev pub anEdge : ℕ → ℕ → ℕ → List ℕ
+anEdge r x y = edgeField (edgeOf r x y)
+
+abbrev pub aRow : ℕ → List ℕ → ℕ → List ℕ
+aRow r rows x = rowBytes r x (getD rows x 0)
+
+pub events-begin : (l : List ℕ) (at : ℕ) (bs : List ℕ) (n : ℕ) → at ≤ length l → Left l at (eventsBytes bs n) l at (joined (anEvent bs) (upto 0 n))
+unfolding eventsBytes
+events-begin l at bs n h = left-begin l at (joined (anEvent bs) (upto 0 n)) h
+
+pub row-begin : (l : List ℕ) (at r x s : ℕ) → at ≤ length l → Left l at (rowBytes r x s) l at (joined (anEdge r x) (members s))
+unfolding rowBytes
+row-begin l at r x s h = left-begin l at (joined (anEdge r x) (members s)) h
+
+pub rows-begin : (l : List ℕ) (at r n : ℕ) (rows : List ℕ) → at ≤ length l → Left l at (rowsBytes r n rows) l at (joined (aRow r rows) (upto 0 n))
+unfolding rowsBytes
+rows-begin l at r n rows h = left-begin l at (joined (aRow r rows) (upto 0 n)) h
+
+pub edges-begin : (l : List ℕ) (at : ℕ) (bs : List ℕ) (n closed rs : ℕ) → at ≤ length l
+    → Left l at (edgesBytes bs n closed rs) l at (joined (relationBytes bs n closed) (upto 0 rs))
+unfolding edgesBytes
+edges-begin l at bs n closed rs h = left-begin l at (joined (relationBytes bs n closed) (upto 0 rs)) h
+
+-- one relation
+pub puts-relation : {l m : List ℕ} {at to : ℕ} (bs : List ℕ) (n closed r : ℕ) (b : Bool) (rows : List ℕ) → b ≡ bit r closed → rows ≡ relationRows bs n r b
+    → Puts l at (rowsBytes r n rows) to m → Puts l at (relationBytes bs n closed r) to m
+unfolding relationBytes
+puts-relation {l} {m} {at} {to} bs n closed r b rows e h p =
+    subst (λ (t : List ℕ). Puts l at (rowsBytes r n t) to m) (h ∙ ap (relationRows bs n r) e) p
+
+-- events, and then edges
+pub puts-graph : {l m k : List ℕ} {to next : ℕ} (bs : List ℕ) (n closed rs : ℕ) → Puts l 0 (eventsBytes bs n) to m → Puts m to (edgesBytes bs n closed rs) next k
+    → Puts l 0 (bytesOf bs n closed rs) next k
+unfolding bytesOf
+puts-graph bs n closed rs p q = puts-append p q
+
+-- the fields as bytes
+pub event-field : (a : ℕ) → 1 ∷ 0 ∷ 1 ∷ a ∷ [] ≡ eventField a
+unfolding field bigEndian
+event-field a = refl
+
+pub edge-field : (r x y : ℕ) → 2 ∷ 0 ∷ 3 ∷ r ∷ x ∷ y ∷ [] ≡ edgeField (edgeOf r x y)
+unfolding field bigEndian
+edge-field r x y = refl
+
+pub puts-field : {l m : List ℕ} {at to : ℕ} {bs : List ℕ} (cs : List ℕ) → bs ≡ cs → Puts l at bs to m → Puts l at cs to m
+puts-field {l} {m} {at} {to} cs e p = subst (λ (ds : List ℕ). Puts l at ds to m) e p
+
+-- and how long they are
+pub row-length : (r x s : ℕ) → s < 2 ^ 64 → 6 * ones s ≡ length (rowBytes r x s)
+unfolding rowBytes
+row-length r x s h =
+    ap (λ k. 6 * k) (sym (number-length 0 64 s h)) ∙ sym (pieces-length (anEdge r x) 6 (λ y. ap length (sym (edge-field r x y))) (members s))
+
+pub rows-count-begin : (r n : ℕ) (rows : List ℕ) → 0 + length (joined (aRow r rows) (upto 0 n)) ≡ length (rowsBytes r n rows)
+unfolding rowsBytes
+rows-count-begin r n rows = omega arith
+
+pub relation-length : (bs : List ℕ) (n closed r m : ℕ) (b : Bool) (rows : List ℕ) → b ≡ bit r closed → rows ≡ relationRows bs n r b
+    → m ≡ length (rowsBytes r n rows) → m ≡ length (relationBytes bs n closed r)
+unfolding relationBytes
+relation-length bs n closed r m b rows e h k = k ∙ ap (λ (t : List ℕ). length (rowsBytes r n t)) (h ∙ ap (relationRows bs n r) e)
+
+pub graph-count-begin : (bs : List ℕ) (n closed rs : ℕ)
+    → 4 * n + length (joined (relationBytes bs n closed) (upto 0 rs)) ≡ length (bytesOf bs n closed rs)
+unfolding bytesOf eventsBytes edgesBytes
+graph-count-begin bs n closed rs =
+    omega (
+      arith,
+      length-append (joined (anEvent bs) (upto 0 n)) (joined (relationBytes bs n closed) (upto 0 rs)),
+      pieces-length (anEvent bs) 4 (λ i. ap length (sym (event-field (getD bs (2 * i) 0)))) (upto 0 n),
+      upto-length n,
+    )

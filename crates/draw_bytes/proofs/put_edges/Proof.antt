@@ -1,0 +1,67 @@
+-- `draw_bytes::put_edges` meets its contract. The invariant: the relations that are left, put into the memory as it is, are all of them put into
+-- the memory at the start. The measure is what is left of the relations.
+-- Assumes nothing.
+use Prim.Native.Nat.{_-_, _≤_}
+use native.Mathlib.Omega.{arith}
+use mathlib.Core.Path.{refl}
+use Rattle.kat.specs.Lists.{upto}
+use Rattle.claims.specs.GraphWriting.{joined}
+use Rattle.draw_bytes.specs.Bytes.{relationBytes, edgesBytes}
+use Rattle.draw_bytes.proofs.Pieces.{Left, edges-begin, range-more, range-end}
+use borrow.Author.Needs.{needs}
+use Rattle.draw_bytes.proofs.put_edges.Statement.{statement}
+use Rattle.draw_bytes.proofs.put_edges.Tie as tie
+
+abbrev Inv-loop : tie.InvT-loop
+Inv-loop out₀ at word n closed relations to₀ r₀ out to r = (r ≤ relations) × Left out₀ at (edgesBytes word n closed relations) out to (joined (relationBytes word n closed) (upto r relations))
+
+abbrev μ-loop : tie.MeasureT-loop
+μ-loop out₀ at word n closed relations to₀ r₀ out to r = relations - r
+
+loop-holds : tie.Need-loop-holds Inv-loop μ-loop
+loop-holds c =
+    let a = c .before .before .args in
+    (omega arith, edges-begin (a .out .now) (a .at) (a .word .now) (a .n) (a .closed) (a .relations) (c .before .before .pre .0))
+
+put-relation-requires : tie.Need-put-relation-requires Inv-loop μ-loop
+put-relation-requires c κs =
+    let p = c .before .before .before .before .before .pre in
+    (c .before .before .loop .inv .1 .within, p .1, omega arith)
+
+add-r : tie.Need-add-r Inv-loop μ-loop
+add-r c = omega arith
+
+loop-less : tie.Need-loop-less Inv-loop μ-loop
+loop-less c = omega arith
+
+loop-again : tie.Need-loop-again Inv-loop μ-loop
+loop-again c =
+    let l = c .before .before .before .before .before .loop in
+    let a = c .before .before .before .before .before .before .before .before .args in (
+      omega arith,
+      range-more (relationBytes (a .word .now) (a .n) (a .closed)) (l .r) (a .relations) (omega arith) (l .inv .1) _ refl
+          (c .before .before .put-relation .ensures),
+    )
+
+same-length : tie.Need-same-length Inv-loop μ-loop
+same-length c = c .before .loop .inv .1 .same-length
+
+returns : tie.Need-returns Inv-loop μ-loop
+returns c =
+    let l = c .before .loop in
+    let a = c .before .before .before .before .args in
+    range-end (relationBytes (a .word .now) (a .n) (a .closed)) (l .r) (a .relations) (omega arith) (l .inv .1)
+
+pub put-edges-spec : {M : Type 1} → statement M
+put-edges-spec =
+    tie.close
+    (tie.spec
+    Inv-loop
+    μ-loop
+    loop-holds
+    put-relation-requires
+    add-r
+    loop-less
+    loop-again
+    same-length
+    returns)

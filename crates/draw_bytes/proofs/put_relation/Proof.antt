@@ -1,0 +1,43 @@
+-- `draw_bytes::put_relation` meets its contract: its rows are made, and put.
+-- Assumes nothing.
+use Rattle.draw_bytes.proofs.Pieces.{puts-relation}
+use borrow.Author.Needs.{needs}
+use Rattle.draw_bytes.proofs.put_relation.Statement.{statement}
+use Rattle.draw_bytes.proofs.put_relation.Tie as tie
+
+member-requires : tie.Need-member-requires
+member-requires c κs = search needs
+
+slice-aggregate-relation-rows : tie.Need-slice-aggregate-relation-rows
+slice-aggregate-relation-rows c = search needs
+
+relation-rows-requires : tie.Need-relation-rows-requires
+relation-rows-requires c κs = search needs
+
+slice-aggregate-put-rows : tie.Need-slice-aggregate-put-rows
+slice-aggregate-put-rows c = search needs
+
+put-rows-requires : tie.Need-put-rows-requires
+put-rows-requires c κs = search needs
+
+same-length : tie.Need-same-length
+same-length c = search needs
+
+returns : tie.Need-returns
+returns c =
+    let k = c .before .before .before .before .before .before in
+    let a = k .before .before .before .before .before .args in
+    puts-relation (a .word .now) (a .n) (a .closed) (a .r) _ _ (k .before .before .member .ensures) (k .relation-rows .ensures)
+    (c .before .before .put-rows .ensures)
+
+pub put-relation-spec : {M : Type 1} → statement M
+put-relation-spec =
+    tie.close
+    (tie.spec
+    member-requires
+    slice-aggregate-relation-rows
+    relation-rows-requires
+    slice-aggregate-put-rows
+    put-rows-requires
+    same-length
+    returns)
