@@ -12,16 +12,15 @@ use Rattle.kat.specs.Graph.{Finite}
 use Rattle.kat.specs.Word.{Word, numbers}
 use Rattle.kat.proofs.Sets.{upto-in}
 use Rattle.claims.specs.Query.{Query, bit, relations, closed}
-use Rattle.claims.specs.GraphBytes.{Edge}
 use Rattle.claims.specs.GraphWriting.{joined, eventField, edgeField, edgeOf, edgesOver, isEdge, graphBytes, listedOf}
 use Rattle.claims.specs.Drawn.{drawn}
 use Rattle.words.specs.Memory.{words}
-use Rattle.bits.specs.Sets.{members}
 use Rattle.bits.proofs.Members.{number-filter, number-wide}
 use Rattle.draw_rows.specs.Rows.{eventCount, relationRows}
 use Rattle.draw_rows.proofs.Drawn.{event-number, event-atoms, row-below, row-bit}
-use Rattle.draw_bytes.specs.Bytes.{eventsBytes, rowBytes, rowsBytes, relationBytes, edgesBytes, bytesOf}
-use Rattle.draw_bytes.proofs.Pieces.{anEvent, anEdge, aRow}
+use Rattle.draw_fields.specs.Fields.{eventsBytes, rowBytes, rowsBytes}
+use Rattle.draw_bytes.specs.Bytes.{relationBytes, edgesBytes, bytesOf}
+use Rattle.draw_fields.proofs.Pieces.{anEdge, aRow}
 
 -- pieces of other pieces
 module _ {A : Type 0} where

@@ -1,4 +1,4 @@
--- Pieces put one after another, and their lengths.
-pub mod Pieces
--- They are those of the drawn graph.
+-- Relations put one after another, and counted.
+pub mod Relations
+-- The bytes are those of the drawn graph.
 pub mod Drawn

@@ -21,9 +21,9 @@ use Rattle.claims.specs.Tokens.{isReserved}
 use Rattle.claims.specs.Tree.{Name, Claim, includes, empty, irreflexive, Line, testLine, relLine, letLine, neverLine, withinLine, closedLine, assumeEmpty, assumeIrreflexive, claimLine}
 use Rattle.claims.specs.Names.{declares, usesRelation, uses, kindOf, slip, firstSlip}
 use Rattle.claims.specs.Query.{Query, bit, each, indexOf, relationNames, closedNames, relations, closed}
-use Rattle.claims.proofs.Results.{same-is-equal, same-self}
+use Rattle.claims.proofs.Results.{same-self}
 use Rattle.codes.specs.Codes.{treeCodes, testCodes, claimCodes, lineCodes, linesCodes, queryCodes}
-use Rattle.codes.proofs.Below.{Below, below-append, below-ended, test-below, bracket-below, tree-below}
+use Rattle.codes.proofs.Below.{Below, below-append, test-below, bracket-below, tree-below}
 use Rattle.codes.proofs.NamedRelations.{named-relation, same-number}
 use Rattle.codes.proofs.NameKinds.{each-more}
 use Rattle.codes.proofs.Names.{has, has-append, index-lt, index-append}

@@ -9,13 +9,12 @@ use mathlib.Core.Logic.{_⊎_, ⊎-elim}
 use mathlib.Core.Logic._⊎_.{inl, inr}
 use mathlib.Core.Bool.{Bool, true, false, cond, _&&_, _||_, and-true, and-false, or-false}
 use mathlib.Core.List.{List, [], _∷_}
-use lib.Dec.{eqb, ltb, leb}
+use lib.Dec.{eqb, leb}
 use lib.ListN.{length, getD}
 use lib.Pow.{pow-pos, pow-lt}
 use borrow.Author.Tests.{eq-eqb, ne-eqb, le-ltb, le-leb, lt-leb, leb-false}
-use Rattle.kat.specs.Lists.{some, upto}
+use Rattle.kat.specs.Lists.{some}
 use Rattle.kat.specs.Closure.{entry, closure}
-use Rattle.kat.specs.Graph.{Finite}
 use Rattle.kat.specs.Word.{Word, end, at, size, numbers}
 use Rattle.kat.proofs.Bools.{lt-or-le}
 use Rattle.claims.specs.Query.{Query, bit, relations, closed}
@@ -31,7 +30,7 @@ use Rattle.bits.proofs.Bit.{bit-none}
 use Rattle.bits.proofs.Rows.{bit-including, including-in}
 use lib.Bits.{or-zero-l}
 use Rattle.draw_rows.specs.Rows.{eventCount, nextEvent, stepRow, stepRows, rounds, relationRows}
-use Rattle.draw_rows.proofs.Rounds.{rounds-closure, rounds-below, rounds-length}
+use Rattle.draw_rows.proofs.Rounds.{rounds-closure, rounds-below}
 
 -- the number of events, by the length of the word
 pub count-line : (w : Word) → eventCount false (length (numbers w)) ≡ suc (size w)

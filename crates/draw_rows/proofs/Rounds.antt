@@ -7,9 +7,9 @@ use native.Mathlib.Numerals.{add-one}
 use native.Mathlib.Omega.{arith}
 use mathlib.Core.Path.{_≡_, refl, sym, _∙_, ap, ap₂, subst}
 use mathlib.Core.Bool.{Bool, true, false, cond, _&&_, _||_}
-use mathlib.Core.List.{List, [], _∷_}
+use mathlib.Core.List.{List}
 use lib.Bits.{bitOr, or-zero-r, or-lt}
-use lib.Dec.{eqb, ltb, leb}
+use lib.Dec.{eqb}
 use lib.ListN.{length, getD, set, drop, drop-of-length-le}
 use lib.Pow.{pow-pos}
 use lib.Seq.{drop-cons}
@@ -18,7 +18,7 @@ use Rattle.kat.specs.Closure.{table, entry, through, closure}
 use Rattle.kat.proofs.Closure.{entry-table}
 use Rattle.claims.specs.Query.{bit}
 use Rattle.words.specs.Memory.{between, changed, words}
-use Rattle.words.proofs.Words.{words-at, words-length, changed-length, changed-in, changed-at, changed-end, changed-more}
+use Rattle.words.proofs.Words.{changed-length, changed-in, changed-at, changed-end, changed-more}
 use Rattle.bits.specs.Sets.{including}
 use Rattle.bits.proofs.Bit.{bit-none, bit-or}
 use Rattle.draw_rows.specs.Rows.{closedWith, closedSet, eventCount, nextEvent, stepRow, stepRows, joinedWhere, round, rounds, relationRows}

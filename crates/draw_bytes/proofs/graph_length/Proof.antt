@@ -8,7 +8,8 @@ use lib.ListN.{length}
 use Rattle.kat.specs.Lists.{upto}
 use Rattle.claims.specs.GraphWriting.{joined}
 use Rattle.draw_bytes.specs.Bytes.{relationBytes, bytesOf}
-use Rattle.draw_bytes.proofs.Pieces.{graph-count-begin, count-more, count-end}
+use Rattle.draw_fields.proofs.Pieces.{count-more, count-end}
+use Rattle.draw_bytes.proofs.Relations.{graph-count-begin}
 use borrow.Author.Needs.{needs}
 use Rattle.draw_bytes.proofs.graph_length.Statement.{statement}
 use Rattle.draw_bytes.proofs.graph_length.Tie as tie

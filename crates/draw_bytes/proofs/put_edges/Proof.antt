@@ -7,8 +7,8 @@ use mathlib.Core.Path.{refl}
 use Rattle.kat.specs.Lists.{upto}
 use Rattle.claims.specs.GraphWriting.{joined}
 use Rattle.draw_bytes.specs.Bytes.{relationBytes, edgesBytes}
-use Rattle.draw_bytes.proofs.Pieces.{Left, edges-begin, range-more, range-end}
-use borrow.Author.Needs.{needs}
+use Rattle.draw_fields.proofs.Pieces.{Left, range-more, range-end}
+use Rattle.draw_bytes.proofs.Relations.{edges-begin}
 use Rattle.draw_bytes.proofs.put_edges.Statement.{statement}
 use Rattle.draw_bytes.proofs.put_edges.Tie as tie
 

@@ -1,6 +1,6 @@
 -- `draw_bytes::put_graph` meets its contract: the events, and then the edges.
 -- Assumes nothing.
-use Rattle.draw_bytes.proofs.Pieces.{puts-graph}
+use Rattle.draw_bytes.proofs.Relations.{puts-graph}
 use borrow.Author.Needs.{needs}
 use Rattle.draw_bytes.proofs.put_graph.Statement.{statement}
 use Rattle.draw_bytes.proofs.put_graph.Tie as tie

@@ -1,6 +1,6 @@
 -- `draw_bytes::put_relation` meets its contract: its rows are made, and put.
 -- Assumes nothing.
-use Rattle.draw_bytes.proofs.Pieces.{puts-relation}
+use Rattle.draw_bytes.proofs.Relations.{puts-relation}
 use borrow.Author.Needs.{needs}
 use Rattle.draw_bytes.proofs.put_relation.Statement.{statement}
 use Rattle.draw_bytes.proofs.put_relation.Tie as tie

@@ -1,6 +1,6 @@
 -- `draw_bytes::relation_length` meets its contract: its rows are made, and counted.
 -- Assumes nothing.
-use Rattle.draw_bytes.proofs.Pieces.{relation-length}
+use Rattle.draw_bytes.proofs.Relations.{relation-length}
 use borrow.Author.Needs.{needs}
 use Rattle.draw_bytes.proofs.relation_length.Statement.{statement}
 use Rattle.draw_bytes.proofs.relation_length.Tie as tie

@@ -1,4 +1,4 @@
--- `draw_bytes::put_rows` meets its contract. The invariant: the rows that are left, put into the memory as it is, are all of them put into the
+-- `draw_fields::put_rows` meets its contract. The invariant: the rows that are left, put into the memory as it is, are all of them put into the
 -- memory at the start. The measure is what is left of the rows.
 -- Assumes nothing.
 use Prim.Native.Nat.{_-_, _≤_}
@@ -6,11 +6,11 @@ use native.Mathlib.Omega.{arith}
 use mathlib.Core.Path.{ap}
 use Rattle.kat.specs.Lists.{upto}
 use Rattle.claims.specs.GraphWriting.{joined}
-use Rattle.draw_bytes.specs.Bytes.{rowBytes, rowsBytes}
-use Rattle.draw_bytes.proofs.Pieces.{Left, aRow, rows-begin, range-more, range-end}
+use Rattle.draw_fields.specs.Fields.{rowBytes, rowsBytes}
+use Rattle.draw_fields.proofs.Pieces.{Left, aRow, rows-begin, range-more, range-end}
 use borrow.Author.Needs.{needs}
-use Rattle.draw_bytes.proofs.put_rows.Statement.{statement}
-use Rattle.draw_bytes.proofs.put_rows.Tie as tie
+use Rattle.draw_fields.proofs.put_rows.Statement.{statement}
+use Rattle.draw_fields.proofs.put_rows.Tie as tie
 
 abbrev Inv-loop : tie.InvT-loop
 Inv-loop out₀ at r rows n to₀ x₀ out to x = (x ≤ n) × Left out₀ at (rowsBytes r n rows) out to (joined (aRow r rows) (upto x n))

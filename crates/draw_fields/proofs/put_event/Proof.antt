@@ -1,10 +1,10 @@
--- `draw_bytes::put_event` meets its contract.
+-- `draw_fields::put_event` meets its contract.
 -- Assumes nothing.
 use Rattle.claims.specs.GraphWriting.{eventField}
-use Rattle.draw_bytes.proofs.Pieces.{event-field, puts-field}
+use Rattle.draw_fields.proofs.Pieces.{event-field, puts-field}
 use borrow.Author.Needs.{needs}
-use Rattle.draw_bytes.proofs.put_event.Statement.{statement}
-use Rattle.draw_bytes.proofs.put_event.Tie as tie
+use Rattle.draw_fields.proofs.put_event.Statement.{statement}
+use Rattle.draw_fields.proofs.put_event.Tie as tie
 
 slice-aggregate-put-text : tie.Need-slice-aggregate-put-text
 slice-aggregate-put-text c = search needs

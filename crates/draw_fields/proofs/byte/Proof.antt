@@ -1,10 +1,10 @@
--- `draw_bytes::byte` meets its contract.
+-- `draw_fields::byte` meets its contract.
 -- Assumes nothing.
 use mathlib.Core.Path.{sym}
 use lib.ListN.{List·getD-eq-default}
 use borrow.Author.Needs.{needs}
-use Rattle.draw_bytes.proofs.byte.Statement.{statement}
-use Rattle.draw_bytes.proofs.byte.Tie as tie
+use Rattle.draw_fields.proofs.byte.Statement.{statement}
+use Rattle.draw_fields.proofs.byte.Tie as tie
 
 shared-slice-read-result : tie.Need-shared-slice-read-result
 shared-slice-read-result c = search needs

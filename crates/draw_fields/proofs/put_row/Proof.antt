@@ -1,4 +1,4 @@
--- `draw_bytes::put_row` meets its contract. The invariant: the edges to the members that are left, put into the memory as it is, are all of them
+-- `draw_fields::put_row` meets its contract. The invariant: the edges to the members that are left, put into the memory as it is, are all of them
 -- put into the memory at the start. The measure is the count of ones of the set left.
 -- Assumes nothing.
 use Prim.Native.Nat.{_^_, _<_}
@@ -7,11 +7,11 @@ use lib.Count.{ones, trailing-le}
 use Rattle.claims.specs.GraphWriting.{joined}
 use Rattle.bits.specs.Sets.{members}
 use Rattle.bits.proofs.Lowest.{Lowest, lowest}
-use Rattle.draw_bytes.specs.Bytes.{rowBytes}
-use Rattle.draw_bytes.proofs.Pieces.{Left, anEdge, row-begin, set-more, set-end}
+use Rattle.draw_fields.specs.Fields.{rowBytes}
+use Rattle.draw_fields.proofs.Pieces.{Left, anEdge, row-begin, set-more, set-end}
 use borrow.Author.Needs.{needs}
-use Rattle.draw_bytes.proofs.put_row.Statement.{statement}
-use Rattle.draw_bytes.proofs.put_row.Tie as tie
+use Rattle.draw_fields.proofs.put_row.Statement.{statement}
+use Rattle.draw_fields.proofs.put_row.Tie as tie
 
 abbrev Inv-loop : tie.InvT-loop
 Inv-loop out₀ at r x s to₀ left₀ out to left = (left < 2 ^ 64) × Left out₀ at (rowBytes r x s) out to (joined (anEdge r x) (members left))

@@ -4,14 +4,11 @@
 use Prim.Native.Nat.{ℕ, _+_, _-_, _*_, _^_, _≤_, _<_}
 use native.Mathlib.Omega.{arith}
 use mathlib.Core.Path.{_≡_, refl, sym, _∙_, ap, subst}
-use mathlib.Core.Bool.{Bool}
 use mathlib.Core.List.{List, [], _∷_, _++_}
 use lib.Bits.{bitAnd}
 use lib.Count.{ones, trailingZeros}
 use lib.ListN.{length, getD, length-append}
 use Rattle.kat.specs.Lists.{upto}
-use Rattle.kat.proofs.Sets.{upto-length}
-use Rattle.claims.specs.Query.{bit}
 use Rattle.claims.specs.Fields.{bigEndian, field}
 use Rattle.claims.specs.GraphWriting.{joined, eventField, edgeField, edgeOf}
 use Rattle.print_line.specs.Puts.{Puts}
@@ -20,8 +17,7 @@ use Rattle.standings.proofs.Upto.{upto-more, upto-none}
 use Rattle.bits.specs.Sets.{members}
 use Rattle.bits.proofs.Members.{number-none, number-length}
 use Rattle.bits.proofs.Lowest.{Lowest}
-use Rattle.draw_rows.specs.Rows.{relationRows}
-use Rattle.draw_bytes.specs.Bytes.{eventsBytes, rowBytes, rowsBytes, relationBytes, edgesBytes, bytesOf}
+use Rattle.draw_fields.specs.Fields.{eventsBytes, rowBytes, rowsBytes}
 
 -- the bytes `rest` are left of the bytes `all`: the memory is `now` and the next place is `to`, after a start at place `at` of `start`
 pub record Left (start : List ℕ) (at : ℕ) (all now : List ℕ) (to : ℕ) (rest : List ℕ) : Type 0 where
@@ -109,24 +105,6 @@ pub rows-begin : (l : List ℕ) (at r n : ℕ) (rows : List ℕ) → at ≤ leng
 unfolding rowsBytes
 rows-begin l at r n rows h = left-begin l at (joined (aRow r rows) (upto 0 n)) h
 
-pub edges-begin : (l : List ℕ) (at : ℕ) (bs : List ℕ) (n closed rs : ℕ) → at ≤ length l
-    → Left l at (edgesBytes bs n closed rs) l at (joined (relationBytes bs n closed) (upto 0 rs))
-unfolding edgesBytes
-edges-begin l at bs n closed rs h = left-begin l at (joined (relationBytes bs n closed) (upto 0 rs)) h
-
--- one relation
-pub puts-relation : {l m : List ℕ} {at to : ℕ} (bs : List ℕ) (n closed r : ℕ) (b : Bool) (rows : List ℕ) → b ≡ bit r closed → rows ≡ relationRows bs n r b
-    → Puts l at (rowsBytes r n rows) to m → Puts l at (relationBytes bs n closed r) to m
-unfolding relationBytes
-puts-relation {l} {m} {at} {to} bs n closed r b rows e h p =
-    subst (λ (t : List ℕ). Puts l at (rowsBytes r n t) to m) (h ∙ ap (relationRows bs n r) e) p
-
--- events, and then edges
-pub puts-graph : {l m k : List ℕ} {to next : ℕ} (bs : List ℕ) (n closed rs : ℕ) → Puts l 0 (eventsBytes bs n) to m → Puts m to (edgesBytes bs n closed rs) next k
-    → Puts l 0 (bytesOf bs n closed rs) next k
-unfolding bytesOf
-puts-graph bs n closed rs p q = puts-append p q
-
 -- the fields as bytes
 pub event-field : (a : ℕ) → 1 ∷ 0 ∷ 1 ∷ a ∷ [] ≡ eventField a
 unfolding field bigEndian
@@ -144,23 +122,3 @@ pub row-length : (r x s : ℕ) → s < 2 ^ 64 → 6 * ones s ≡ length (rowByte
 unfolding rowBytes
 row-length r x s h =
     ap (λ k. 6 * k) (sym (number-length 0 64 s h)) ∙ sym (pieces-length (anEdge r x) 6 (λ y. ap length (sym (edge-field r x y))) (members s))
-
-pub rows-count-begin : (r n : ℕ) (rows : List ℕ) → 0 + length (joined (aRow r rows) (upto 0 n)) ≡ length (rowsBytes r n rows)
-unfolding rowsBytes
-rows-count-begin r n rows = omega arith
-
-pub relation-length : (bs : List ℕ) (n closed r m : ℕ) (b : Bool) (rows : List ℕ) → b ≡ bit r closed → rows ≡ relationRows bs n r b
-    → m ≡ length (rowsBytes r n rows) → m ≡ length (relationBytes bs n closed r)
-unfolding relationBytes
-relation-length bs n closed r m b rows e h k = k ∙ ap (λ (t : List ℕ). length (rowsBytes r n t)) (h ∙ ap (relationRows bs n r) e)
-
-pub graph-count-begin : (bs : List ℕ) (n closed rs : ℕ)
-    → 4 * n + length (joined (relationBytes bs n closed) (upto 0 rs)) ≡ length (bytesOf bs n closed rs)
-unfolding bytesOf eventsBytes edgesBytes
-graph-count-begin bs n closed rs =
-    omega (
-      arith,
-      length-append (joined (anEvent bs) (upto 0 n)) (joined (relationBytes bs n closed) (upto 0 rs)),
-      pieces-length (anEvent bs) 4 (λ i. ap length (sym (event-field (getD bs (2 * i) 0)))) (upto 0 n),
-      upto-length n,
-    )

@@ -1,4 +1,4 @@
--- `draw_bytes::put_events` meets its contract. The invariant: the events that are left, put into the memory as it is, are all of them put into
+-- `draw_fields::put_events` meets its contract. The invariant: the events that are left, put into the memory as it is, are all of them put into
 -- the memory at the start. The measure is what is left of the events.
 -- Assumes nothing.
 use Prim.Native.Nat.{_-_, _≤_}
@@ -6,11 +6,11 @@ use native.Mathlib.Omega.{arith}
 use mathlib.Core.Path.{ap}
 use Rattle.kat.specs.Lists.{upto}
 use Rattle.claims.specs.GraphWriting.{joined, eventField}
-use Rattle.draw_bytes.specs.Bytes.{eventsBytes}
-use Rattle.draw_bytes.proofs.Pieces.{Left, anEvent, events-begin, range-more, range-end}
+use Rattle.draw_fields.specs.Fields.{eventsBytes}
+use Rattle.draw_fields.proofs.Pieces.{Left, anEvent, events-begin, range-more, range-end}
 use borrow.Author.Needs.{needs}
-use Rattle.draw_bytes.proofs.put_events.Statement.{statement}
-use Rattle.draw_bytes.proofs.put_events.Tie as tie
+use Rattle.draw_fields.proofs.put_events.Statement.{statement}
+use Rattle.draw_fields.proofs.put_events.Tie as tie
 
 abbrev Inv-loop : tie.InvT-loop
 Inv-loop out₀ at word n to₀ i₀ out to i = (i ≤ n) × Left out₀ at (eventsBytes word n) out to (joined (anEvent word) (upto i n))

@@ -1,10 +1,10 @@
--- `draw_bytes::put_edge` meets its contract.
+-- `draw_fields::put_edge` meets its contract.
 -- Assumes nothing.
 use Rattle.claims.specs.GraphWriting.{edgeField, edgeOf}
-use Rattle.draw_bytes.proofs.Pieces.{edge-field, puts-field}
+use Rattle.draw_fields.proofs.Pieces.{edge-field, puts-field}
 use borrow.Author.Needs.{needs}
-use Rattle.draw_bytes.proofs.put_edge.Statement.{statement}
-use Rattle.draw_bytes.proofs.put_edge.Tie as tie
+use Rattle.draw_fields.proofs.put_edge.Statement.{statement}
+use Rattle.draw_fields.proofs.put_edge.Tie as tie
 
 cast-t7 : tie.Need-cast-t7
 cast-t7 c = search needs

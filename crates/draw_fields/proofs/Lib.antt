@@ -1,0 +1,2 @@
+-- Pieces put one after another, and their lengths.
+pub mod Pieces

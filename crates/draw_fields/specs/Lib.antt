@@ -1,0 +1,2 @@
+-- The fields of events, and of the edges of a relation.
+pub mod Fields
