@@ -75,3 +75,7 @@ puts-more {l} {m} {n} {at} {to} {next} {b} bs i h p e q =
 -- and all of it
 pub puts-whole : {l m : List ℕ} {at to : ℕ} (bs : List ℕ) (i : ℕ) → length bs ≤ i → Puts l at (take i bs) to m → Puts l at bs to m
 puts-whole {l} {m} {at} {to} bs i k p = subst (λ (cs : List ℕ). Puts l at cs to m) (take-all i bs k) p
+
+-- equal bytes
+pub puts-bytes : {l m bs cs : List ℕ} {at to : ℕ} → bs ≡ cs → Puts l at bs to m → Puts l at cs to m
+puts-bytes {l} {m} {bs} {cs} {at} {to} e p = subst (λ (ds : List ℕ). Puts l at ds to m) e p

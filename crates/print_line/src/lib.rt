@@ -56,6 +56,16 @@ fn digits(n: u64, to: &mut [u8]) -> usize
     i
 }
 
+// A number in decimal digits.
+pub fn put_decimal(out: &mut [u8], at: usize, n: u64) -> usize
+    requires { ⌜ at ≤ length (now out) ⌝ }
+    ensures { λ r. ⌜ Puts (now (out .entry)) at (decimal n) r (now (out .exit)) ⌝ }
+{
+    let mut ds = [0u8; 20];
+    let i = digits(n, &mut ds);
+    put_text(out, at, &ds[i..])
+}
+
 // A space and a number in decimal digits.
 fn put_number(out: &mut [u8], at: usize, n: u64) -> usize
     requires { ⌜ at ≤ length (now out) ⌝ }
