@@ -1,6 +1,6 @@
 // Pieces of a text: whether two are the same, a line by its number, the name that a line declares. (Document 01, "The query".) For words and
 // names beside an answer; the reader of queries is built apart.
-ghost use Prim.Native.Nat.{_+_, _≤_};
+ghost use Prim.Native.Nat.{_+_, _≤_, min};
 ghost use mathlib.Core.Path.{_≡_};
 ghost use lib.ListN.{length, drop};
 ghost use Rattle.claims.specs.Bytes.{same as sameBytes};
@@ -68,7 +68,7 @@ fn part_end(text: &[u8], at: usize, kind: Part) -> usize
 // Where the next line begins behind a place, which is required to be within the text: behind the next byte 10, or at the text's end.
 fn next_line(text: &[u8], at: usize) -> usize
     requires { ⌜ at ≤ length (now text) ⌝ }
-    ensures { λ r. ⌜ (at ≤ r) × (r ≤ length (now (text .entry))) × (drop r (now (text .entry)) ≡ behind (back inLine (drop at (now (text .entry))))) ⌝ }
+    ensures { λ r. ⌜ (at ≤ r) × (r ≤ length (now (text .entry))) × (min (at + 1) (length (now (text .entry))) ≤ r) × (drop r (now (text .entry)) ≡ behind (back inLine (drop at (now (text .entry))))) ⌝ }
 {
     let end = part_end(text, at, Part::Line);
     if end < text.len() {
@@ -106,4 +106,23 @@ pub fn declared<'a>(line: &'a [u8], word: &[u8]) -> &'a [u8]
         return &line[c..d];
     }
     &line[..0]
+}
+
+// The name that the line behind k others of its kind declares, where the first word of such a line is the given one; no bytes where there
+// is none. Lines that declare nothing do not count. What it gives is not described, only that it is safe: the cases compare it.
+pub fn name<'a>(text: &'a [u8], word: &[u8], k: usize) -> &'a [u8] {
+    let mut at = 0;
+    let mut left = k;
+    while at < text.len() {
+        let next = next_line(text, at);
+        let found = declared(&text[at..next], word);
+        if 0 < found.len() {
+            if left == 0 {
+                return found;
+            }
+            left -= 1;
+        }
+        at = next;
+    }
+    &text[..0]
 }

@@ -39,7 +39,7 @@ loop-less c = search needs
 loop-again : tie.Need-loop-again Inv-loop μ-loop
 loop-again c =
     let at = c .before .before .loop in
-    (c .next-line .ensures .1, omega arith, ap (lineAt (at .left - 1)) (c .next-line .ensures .2) ∙ line-more _ _ (c .before .loop-test .taken) ∙ at .inv .2)
+    (c .next-line .ensures .1, omega arith, ap (lineAt (at .left - 1)) (c .next-line .ensures .3) ∙ line-more _ _ (c .before .loop-test .taken) ∙ at .inv .2)
 
 part-end-requires : tie.Need-part-end-requires Inv-loop μ-loop
 part-end-requires c κs = search needs

@@ -13,10 +13,10 @@ add-result : tie.Need-add-result
 add-result c = search needs
 
 returns : tie.Need-returns
-returns c = (omega arith, omega arith, next-behind _ _ _ (c .if1 .taken) (c .before .part-end .ensures .2))
+returns c = (omega arith, omega arith, omega arith, next-behind _ _ _ (c .if1 .taken) (c .before .part-end .ensures .2))
 
 returns-2 : tie.Need-returns-2
-returns-2 c = (omega arith, omega arith, next-none _ _ _ (c .if1 .left) (c .before .part-end .ensures .2))
+returns-2 c = (omega arith, omega arith, omega arith, next-none _ _ _ (c .if1 .left) (c .before .part-end .ensures .2))
 
 pub next-line-spec : {M : Type 1} → statement M
 next-line-spec = tie.close (tie.spec part-end-requires add-result returns returns-2)

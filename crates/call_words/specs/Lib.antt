@@ -1,0 +1,2 @@
+-- What a single argument is.
+pub mod ArgumentWords
