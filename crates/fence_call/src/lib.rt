@@ -1,8 +1,11 @@
 // The arguments of the program, taken one after the other: which call they ask for. A file is known by the number of the argument that names
 // it, from 1; 0 stands for none. What each argument does is a definition, and so is the call in the end.
-ghost use Prim.Native.Nat.{_≤_};
+use call_words::Count;
+use call_words::Kind;
+use call_words::Verb;
 ghost use mathlib.Core.Path.{_≡_};
-ghost use Rattle.fence_call.specs.Arguments.{verbOf, kindOf, dashesFirst, more, allowanceIn, mostFiles, isUnsaid, takesAllowance, draws, noneSeen, opened, wrongAt, withCount, withFile, withArgument, taken, asks};
+ghost use Rattle.fence_call.specs.Arguments.{noneSeen, begun, wrongAt, withCount, withFile, withArgument, taken, asks};
+ghost use Rattle.fence_call.specs.inner.Shapes.{shapeOf};
 
 // What the arguments so far say: the call, the allowance, whether the next argument is the allowance, whether the graph is asked for as text,
 // the arguments that name the query and the sheet, and the first one that does not fit.
@@ -27,11 +30,12 @@ pub enum Call {
     Short,
 }
 
-// How many files a call names at most, whether it has an allowance, and whether it draws.
+// How many files a call names at most, whether it has an allowance, whether it draws, and whether it is one.
 struct Shape {
     files: usize,
     allowance: bool,
     draws: bool,
+    known: bool,
 }
 
 // What goes with a call.
@@ -43,41 +47,47 @@ fn shape_of(v: Verb) -> Shape
             files: 1,
             allowance: true,
             draws: false,
+            known: true,
         },
         Verb::Sheet => Shape {
             files: 1,
             allowance: true,
             draws: false,
+            known: true,
         },
         Verb::Check => Shape {
             files: 2,
             allowance: false,
             draws: false,
+            known: true,
         },
         Verb::Draw => Shape {
             files: 2,
             allowance: false,
             draws: true,
+            known: true,
         },
         Verb::Help => Shape {
             files: 0,
             allowance: false,
             draws: false,
+            known: true,
         },
         Verb::Unknown => Shape {
             files: 0,
             allowance: false,
             draws: false,
+            known: false,
         },
     }
 }
 
-// Before any argument.
+// Before any argument: the query program on standard input.
 pub fn start() -> Seen
     ensures { λ r. ⌜ r ≡ noneSeen ⌝ }
 {
     Seen {
-        verb: Verb::Unsaid,
+        verb: Verb::Query,
         allowance: 200,
         counting: false,
         dot: false,
@@ -104,19 +114,22 @@ fn wrong_at(s: Seen, i: usize) -> Seen
 }
 
 // The first argument is the call.
-fn open(v: Verb, i: usize) -> Seen
-    ensures { λ r. ⌜ r ≡ opened v i ⌝ }
+fn begin(v: Verb, i: usize) -> Seen
+    ensures { λ r. ⌜ r ≡ begun v i ⌝ }
 {
-    let wrong = if let Verb::Unknown = v { i } else { 0 };
-    Seen {
+    let s = Seen {
         verb: v,
         allowance: 200,
         counting: false,
         dot: false,
         query: 0,
         sheet: 0,
-        wrong,
+        wrong: 0,
+    };
+    if shape_of(v).known {
+        return s;
     }
+    wrong_at(s, i)
 }
 
 // An allowance where one is awaited.
@@ -143,7 +156,7 @@ fn with_file(s: Seen, i: usize) -> Seen
     ensures { λ r. ⌜ r ≡ withFile s i ⌝ }
 {
     let v = s.verb;
-    let most = most_files(v);
+    let most = shape_of(v).files;
     if s.query == 0 {
         if 0 < most {
             return Seen {
@@ -170,6 +183,7 @@ fn with_file(s: Seen, i: usize) -> Seen
                 wrong: 0,
             };
         }
+        return wrong_at(s, i);
     }
     wrong_at(s, i)
 }
@@ -181,7 +195,7 @@ fn with_argument(s: Seen, k: Kind, i: usize) -> Seen
     let v = s.verb;
     match k {
         Kind::Allowance => {
-            if takes_allowance(v) {
+            if shape_of(v).allowance {
                 return Seen {
                     verb: v,
                     allowance: s.allowance,
@@ -195,7 +209,7 @@ fn with_argument(s: Seen, k: Kind, i: usize) -> Seen
             wrong_at(s, i)
         }
         Kind::Dot => {
-            if is_draw(v) {
+            if shape_of(v).draws {
                 return Seen {
                     verb: v,
                     allowance: s.allowance,
@@ -213,21 +227,20 @@ fn with_argument(s: Seen, k: Kind, i: usize) -> Seen
     }
 }
 
-// One more argument, the one of number i. After one that does not fit nothing changes.
+// One more argument, the one of number i: the first names the call. After one that does not fit nothing changes.
 pub fn take(s: Seen, word: &[u8], i: usize) -> Seen
     ensures { λ r. ⌜ r ≡ taken s (now (word .entry)) i ⌝ }
 {
     if 0 < s.wrong {
         return s;
     }
-    let v = s.verb;
-    if is_unsaid(v) {
-        return open(verb_in(word), i);
+    if i == 1 {
+        return begin(call_words::verb_in(word), i);
     }
     if s.counting {
-        return with_count(s, count_in(word), i);
+        return with_count(s, call_words::count_in(word), i);
     }
-    with_argument(s, kind_in(word), i)
+    with_argument(s, call_words::kind_in(word), i)
 }
 
 // The call that all the arguments ask for.
@@ -242,7 +255,6 @@ pub fn asked(s: Seen) -> Call
     }
     let v = s.verb;
     match v {
-        Verb::Unsaid => Call::Query(200, 0),
         Verb::Query => Call::Query(s.allowance, s.query),
         Verb::Sheet => {
             if s.query == 0 {

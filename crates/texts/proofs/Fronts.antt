@@ -20,16 +20,16 @@ module _ (p : ℕ → Bool) where
       → i + 1 + length (front p (drop (i + 1) t)) ≡ i + length (front p (drop i t))
   front-more t i h e =
       let s : length (front p (drop i t)) ≡ suc (length (front p (drop (i + 1) t))) =
-          ap length (at-place t i h)
-          ∙ ap (λ (b : Bool). length (cond b (getD t i 0 ∷ front p (drop (suc i) t)) [])) e
-          ∙ ap (λ (j : ℕ). suc (length (front p (drop j t)))) (sym (add-one i)) in
+      ap length (at-place t i h)
+      ∙ ap (λ (b : Bool). length (cond b (getD t i 0 ∷ front p (drop (suc i) t)) [])) e
+      ∙ ap (λ (j : ℕ). suc (length (front p (drop j t)))) (sym (add-one i)) in
       omega arith
 
   -- a byte that is not as p says, and the end of the text
   pub front-stop : (t : List ℕ) (i : ℕ) → i < length t → p (getD t i 0) ≡ false → i ≡ i + length (front p (drop i t))
   front-stop t i h e =
       let s : length (front p (drop i t)) ≡ 0 =
-          ap length (at-place t i h) ∙ ap (λ (b : Bool). length (cond b (getD t i 0 ∷ front p (drop (suc i) t)) [])) e in
+      ap length (at-place t i h) ∙ ap (λ (b : Bool). length (cond b (getD t i 0 ∷ front p (drop (suc i) t)) [])) e in
       omega arith
 
   pub front-end : (t : List ℕ) (i : ℕ) → length t ≤ i → i ≡ i + length (front p (drop i t))

@@ -63,7 +63,7 @@ module _ (w t : List ℕ) (a b : ℕ) (ea : a ≡ 0 + length (front isSpace (dro
   unfolding declaredBy
   declared-hit c d ec ed e =
       let third : drop c t ≡ back isSpace (back inWord (back isSpace t)) =
-          part-back isSpace t b c ec ∙ ap (back isSpace) (part-back inWord t a b eb ∙ ap (back inWord) second) in
+      part-back isSpace t b c ec ∙ ap (back isSpace) (part-back inWord t a b eb ∙ ap (back inWord) second) in
       let yes : same (front inWord (back isSpace t)) w ≡ true = sym (ap (λ (x : List ℕ). same x w) first-word) ∙ e in
       part-front inWord t c d ed ∙ ap (front inWord) third
       ∙ sym (ap (λ (x : Bool). cond x (front inWord (back isSpace (back inWord (back isSpace t)))) []) yes)

@@ -1,0 +1,2 @@
+-- What an argument changes, by the tests on the way.
+pub mod Changes

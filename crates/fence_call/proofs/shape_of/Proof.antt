@@ -1,0 +1,66 @@
+-- `fence_call::shape_of` meets its contract. In each arm the call is known.
+-- Assumes nothing.
+use mathlib.Core.Path.{refl, sym, _∙_, ap}
+use Rattle.fence_call.specs.inner.Shapes.{shapeOf}
+use borrow.Author.Needs.{needs}
+use Rattle.fence_call.proofs.shape_of.Statement.{statement}
+use Rattle.fence_call.proofs.shape_of.Tie as tie
+
+enum-told : tie.Need-enum-told
+enum-told c = search needs
+
+enum-told-2 : tie.Need-enum-told-2
+enum-told-2 c = search needs
+
+enum-told-3 : tie.Need-enum-told-3
+enum-told-3 c = search needs
+
+enum-told-4 : tie.Need-enum-told-4
+enum-told-4 c = search needs
+
+enum-told-5 : tie.Need-enum-told-5
+enum-told-5 c = search needs
+
+enum-told-6 : tie.Need-enum-told-6
+enum-told-6 c = search needs
+
+returns : tie.Need-returns
+unfolding shapeOf
+returns c = ap shapeOf (sym (c .enum-told .given .1))
+
+returns-2 : tie.Need-returns-2
+unfolding shapeOf
+returns-2 c = ap shapeOf (sym (c .enum-told2 .given .1))
+
+returns-3 : tie.Need-returns-3
+unfolding shapeOf
+returns-3 c = ap shapeOf (sym (c .enum-told3 .given .1))
+
+returns-4 : tie.Need-returns-4
+unfolding shapeOf
+returns-4 c = ap shapeOf (sym (c .enum-told4 .given .1))
+
+returns-5 : tie.Need-returns-5
+unfolding shapeOf
+returns-5 c = ap shapeOf (sym (c .enum-told5 .given .1))
+
+returns-6 : tie.Need-returns-6
+unfolding shapeOf
+returns-6 c = ap shapeOf (sym (c .enum-told6 .given .1))
+
+pub shape-of-spec : {M : Type 1} → statement M
+shape-of-spec =
+    tie.close
+    (tie.spec
+    enum-told
+    enum-told-2
+    enum-told-3
+    enum-told-4
+    enum-told-5
+    enum-told-6
+    returns
+    returns-2
+    returns-3
+    returns-4
+    returns-5
+    returns-6)
