@@ -1,6 +1,4 @@
--- The rows of N joined, row by row.
+-- The rows of M.
 pub mod Rows
--- The pairs that open, one by one.
-pub mod Opened
 -- The cells of a standing, and that they have four bytes.
 pub mod Standing

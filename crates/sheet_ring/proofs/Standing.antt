@@ -21,8 +21,7 @@ use Rattle.standings.specs.Steps.{stepFrom, stepSet, endsSet, nullAt, joined}
 use Rattle.standings.proofs.Joined.{joined-small}
 use Rattle.sheet_cells.specs.Layout.{halves, wide}
 use Rattle.sheet_cells.specs.RingCells.{headCell, firstIn, flagIn, rowM, rowN, ringCells, raised, flag, opened, sent, ringBegin, ringOnward}
-use Rattle.sheet_ring.specs.inner.Rows.{headed, spreadOver}
-use Rattle.sheet_ring.proofs.Rows.{spread-clear}
+use Rattle.sheet_ring.specs.inner.Head.{headed}
 
 -- head and P, and what follows them
 pub head-laid : (to rest : List ℕ) (head p : ℕ) → length to ≡ 67 → take 3 (headed to head p) ++ rest ≡ head ∷ (halves p ++ rest)
@@ -135,7 +134,7 @@ module _ (left right : List ℕ) (l : Letter) (to mid out : List ℕ) (full : le
   -- the standing of a prefix one relation longer
   pub gone-on : (s : List ℕ) → Small s → (p z : ℕ) → p < 2 ^ 64 → mid ≡ headed to (headCell (firstIn s) z) p
       → out ≡ take 3 mid ++ (words 32 (λ q. raised (stepSet right (rowM s q / 2) (l .atom) (l .relation)))
-      ++ spreadOver right l (sent right s (l .atom)) (upto 0 32) (zeros 32))
+      ++ words 32 (λ q. cond (eqb q 0) 0 (joined right l (sent right s (l .atom)) q (upto 0 32))))
       → p ≡ stepSet left (wide s 1) (l .atom) (l .relation) → z ≡ flag (not (eqb (flagIn s) 0) || nullAt right (l .atom))
       → (out ≡ ringOnward left right s l) × Small out
   unfolding ringOnward ringCells
@@ -143,7 +142,7 @@ module _ (left right : List ℕ) (l : Letter) (to mid out : List ℕ) (full : le
       let rows : ℕ → ℕ = λ q. raised (stepSet right (rowM s q / 2) (l .atom) (l .relation)) in
       let pairs : ℕ → ℕ = λ q. cond (eqb q 0) 0 (joined right l (sent right s (l .atom)) q (upto 0 32)) in
       let e : out ≡ ringCells (headCell (firstIn s) z) p rows pairs =
-      eo ∙ ap₂ (λ m n. take 3 m ++ (words 32 rows ++ n)) em (spread-clear right l (sent right s (l .atom)) (upto 0 32))
+      eo ∙ ap (λ m. take 3 m ++ (words 32 rows ++ words 32 pairs)) em
       ∙ head-laid to (words 32 rows ++ words 32 pairs) (headCell (firstIn s) z) p full in
       let f : z ≤ 1 = subst (λ w. w ≤ 1) (sym ez) (flag-small (not (eqb (flagIn s) 0) || nullAt right (l .atom))) in (
         e ∙ ap₂ (λ x y. ringCells (headCell (firstIn s) x) y rows pairs) ez ep,

@@ -1,2 +1,2 @@
--- The rows of N, and the cells before the rows.
-pub mod Rows
+-- The cells before the rows.
+pub mod Head

@@ -1,7 +1,7 @@
 // Ring standings on cells, one letter on: a standing is 67 cells. (Document 01, "Standings".) Each row of M goes on by itself; a row of N is
 // sent into the rows of the occurrences that may be read next, and so are the pairs that open. A cell has four bytes: what is read of a
 // standing requires that its cells are below 2 ^ 32, and what is written of one ensures it.
-use sheet_steps::enders_at;
+use sheet_pairs::pairs_on;
 use sheet_steps::null_at;
 use sheet_steps::step_from;
 use sheet_steps::step_set;
@@ -16,93 +16,10 @@ ghost use lib.Dec.{eqb};
 ghost use lib.ListN.{length, getD, take};
 ghost use Rattle.kat.specs.Lists.{upto};
 ghost use Rattle.words.specs.Memory.{words, zeros};
-ghost use Rattle.bits.specs.Sets.{meets};
-ghost use Rattle.standings.specs.Steps.{stepFrom, stepSet};
+ghost use Rattle.standings.specs.Steps.{stepFrom, stepSet, joined};
 ghost use Rattle.sheet_cells.specs.Layout.{wide};
-ghost use Rattle.sheet_cells.specs.RingCells.{headCell, rowM, rowN, raised, flag, opened, sent, ringBegin, ringOnward};
-ghost use Rattle.sheet_ring.specs.inner.Rows.{rowJoined, pushed, spreadOver, headed};
-
-// Row k joined with w, where there is such a row.
-fn join(to: &mut [u64], k: usize, w: u64)
-    ensures { λ x. ⌜ now (to .exit) ≡ rowJoined (now (to .entry)) k w ⌝ }
-{
-    if k < to.len() {
-        to[k] = to[k] | w;
-    }
-}
-
-// The rows of the occurrences of s joined with w. N has 32 rows.
-fn push(to: &mut [u64], s: u64, w: u64)
-    requires { ⌜ length (now to) ≡ 32 ⌝ }
-    ensures { λ x. ⌜ now (to .exit) ≡ pushed (now (to .entry)) s w ⌝ }
-{
-    let mut rest = s;
-    while rest != 0 {
-        let k = u64::trailing_zeros(rest) as usize;
-        join(to, k + 1, w);
-        rest = rest & (rest - 1);
-    }
-}
-
-// The rows of the occurrences that may be read next, where o was read last, joined with w. Nothing is done where w is empty. N has 32 rows.
-fn send(right: &[u64; 4241], o: usize, a: usize, r: usize, w: u64, to: &mut [u64])
-    requires { ⌜ length (now to) ≡ 32 ⌝ }
-    ensures { λ x. ⌜ now (to .exit) ≡ pushed (now (to .entry)) (stepFrom (now (right .entry)) o a r) w ⌝ }
-{
-    if w == 0 {
-        return;
-    }
-    let s = step_from(right, o, a, r);
-    push(to, s, w);
-}
-
-// The rows 1 to 31 of N of a standing sent on. N has 32 rows.
-fn spread(right: &[u64; 4241], from: &[u64], a: usize, r: usize, to: &mut [u64])
-    requires { ⌜ length (now to) ≡ 32 ⌝ }
-    ensures { λ x. ⌜ now (to .exit)
-        ≡ spreadOver (now (right .entry)) (record { atom = a; relation = r }) (rowN (now (from .entry))) (upto 1 32) (now (to .entry)) ⌝ }
-{
-    let mut o = 1;
-    while o < 32 {
-        let w = word(from, 35 + o);
-        send(right, o, a, r, w, to);
-        o += 1;
-    }
-}
-
-// What row p of M adds to the pairs that open at an atom, whose enders are e: p, where a member of the row may end. M has 32 rows.
-fn opens(row: u64, e: u64, p: usize) -> u64
-    requires { ⌜ p < 32 ⌝ }
-    ensures { λ w. ⌜ w ≡ cond (meets (row / 2) e) (2 ^ p) 0 ⌝ }
-{
-    if ((row / 2) & e) != 0 { 1u64 << p } else { 0 }
-}
-
-// The pairs that open at an atom.
-fn opened_at(right: &[u64; 4241], from: &[u64], a: usize) -> u64
-    ensures { λ w. ⌜ w ≡ opened (now (right .entry)) (now (from .entry)) a ⌝ }
-{
-    let e = enders_at(right, a);
-    let mut set = 0;
-    let mut p = 0;
-    while p < 32 {
-        set = set + opens(word(from, 3 + p), e, p);
-        p += 1;
-    }
-    set
-}
-
-// The rows of N one letter on: the pairs that open, and those of each row. N has 32 rows.
-fn pairs_on(right: &[u64; 4241], from: &[u64], a: usize, r: usize, to: &mut [u64])
-    requires { ⌜ length (now to) ≡ 32 ⌝ }
-    ensures { λ x. ⌜ now (to .exit)
-        ≡ spreadOver (now (right .entry)) (record { atom = a; relation = r }) (sent (now (right .entry)) (now (from .entry)) a) (upto 0 32) (zeros 32) ⌝ }
-{
-    let fresh = opened_at(right, from, a);
-    clear(to);
-    send(right, 0, a, r, fresh, to);
-    spread(right, from, a, r, to);
-}
+ghost use Rattle.sheet_cells.specs.RingCells.{headCell, rowM, raised, flag, sent, ringBegin, ringOnward};
+ghost use Rattle.sheet_ring.specs.inner.Head.{headed};
 
 // A row of M one letter on, which is empty where the row is.
 fn row_on(right: &[u64; 4241], row: u64, a: usize, r: usize) -> u64
@@ -173,7 +90,8 @@ fn lay_on(right: &[u64; 4241], from: &[u64], a: usize, r: usize, to: &mut [u64])
     requires { ⌜ length (now to) ≡ 67 ⌝ }
     ensures { λ x. ⌜ now (to .exit) ≡ take 3 (now (to .entry))
         ++ (words 32 (λ p. raised (stepSet (now (right .entry)) (rowM (now (from .entry)) p / 2) a r))
-        ++ spreadOver (now (right .entry)) (record { atom = a; relation = r }) (sent (now (right .entry)) (now (from .entry)) a) (upto 0 32) (zeros 32)) ⌝ }
+        ++ words 32 (λ q. cond (eqb q 0) 0
+        (joined (now (right .entry)) (record { atom = a; relation = r }) (sent (now (right .entry)) (now (from .entry)) a) q (upto 0 32)))) ⌝ }
 {
     rows_on(right, from, a, r, &mut to[3..35]);
     pairs_on(right, from, a, r, &mut to[35..67]);

@@ -5,9 +5,6 @@ use mathlib.Core.Path.{_≡_}
 use lib.ListN.{length}
 use Rattle.words.proofs.Words.{words-length}
 use Rattle.sheet_ring.proofs.Standing.{rows-laid}
-use mathlib.Core.List.{_++_}
-use Rattle.words.specs.Memory.{words}
-use Rattle.sheet_ring.proofs.Rows.{spread-length}
 use borrow.Author.Needs.{needs}
 use Rattle.sheet_ring.proofs.lay_on.Statement.{statement}
 use Rattle.sheet_ring.proofs.lay_on.Tie as tie

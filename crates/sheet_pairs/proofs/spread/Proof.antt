@@ -1,4 +1,4 @@
--- `sheet_ring::spread` meets its contract. The invariant: the rows left, sent on into the memory as it is, give what all rows give on
+-- `sheet_pairs::spread` meets its contract. The invariant: the rows left, sent on into the memory as it is, give what all rows give on
 -- the memory at the start. The measure is what is left of the rows.
 -- Assumes nothing.
 use Prim.Native.Nat.{ℕ, _+_, _-_, _≤_}
@@ -9,11 +9,11 @@ use Rattle.kat.specs.Lists.{upto}
 use Rattle.claims.specs.Standings.{Letter}
 use Rattle.standings.proofs.Upto.{upto-none}
 use Rattle.sheet_cells.specs.RingCells.{rowN}
-use Rattle.sheet_ring.specs.inner.Rows.{spreadOver}
-use Rattle.sheet_ring.proofs.Rows.{spread-more, spread-end}
+use Rattle.sheet_pairs.specs.inner.Rows.{spreadOver}
+use Rattle.sheet_pairs.proofs.Rows.{spread-more, spread-end}
 use borrow.Author.Needs.{needs}
-use Rattle.sheet_ring.proofs.spread.Statement.{statement}
-use Rattle.sheet_ring.proofs.spread.Tie as tie
+use Rattle.sheet_pairs.proofs.spread.Statement.{statement}
+use Rattle.sheet_pairs.proofs.spread.Tie as tie
 
 abbrev letter : ℕ → ℕ → Letter
 letter a r = record { atom = a; relation = r }

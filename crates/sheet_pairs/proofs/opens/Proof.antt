@@ -1,4 +1,4 @@
--- `sheet_ring::opens` meets its contract.
+-- `sheet_pairs::opens` meets its contract.
 -- Assumes nothing.
 use Prim.Native.Nat.{_*_, _%_, _^_}
 use native.Mathlib.Omega.{arith}
@@ -6,8 +6,8 @@ use mathlib.Core.Path.{refl, sym, _∙_, ap}
 use mathlib.Core.Bool.{cond}
 use Rattle.bits.proofs.Rows.{shifted-one, meets-true, meets-false}
 use borrow.Author.Needs.{needs}
-use Rattle.sheet_ring.proofs.opens.Statement.{statement}
-use Rattle.sheet_ring.proofs.opens.Tie as tie
+use Rattle.sheet_pairs.proofs.opens.Statement.{statement}
+use Rattle.sheet_pairs.proofs.opens.Tie as tie
 
 shl-result : tie.Need-shl-result
 shl-result c = search needs

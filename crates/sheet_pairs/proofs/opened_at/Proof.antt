@@ -1,4 +1,4 @@
--- `sheet_ring::opened_at` meets its contract. The invariant: the pairs that open so far, and those that the rows left open, are all of them.
+-- `sheet_pairs::opened_at` meets its contract. The invariant: the pairs that open so far, and those that the rows left open, are all of them.
 -- The measure is what is left of the rows.
 -- Assumes nothing.
 use Prim.Native.Nat.{_+_, _-_, _^_, _≤_, _<_}
@@ -8,10 +8,10 @@ use mathlib.Core.Path.{_≡_, sym, _∙_}
 use mathlib.Core.Bool.{cond}
 use Rattle.standings.specs.Steps.{enders}
 use Rattle.sheet_cells.specs.RingCells.{rowM, opened}
-use Rattle.sheet_ring.proofs.Opened.{passing, passing-more, passing-end, sum-small, rowEnds, opened-all, row-opens}
+use Rattle.sheet_pairs.proofs.Opened.{passing, passing-more, passing-end, sum-small, rowEnds, opened-all, row-opens}
 use borrow.Author.Needs.{needs}
-use Rattle.sheet_ring.proofs.opened_at.Statement.{statement}
-use Rattle.sheet_ring.proofs.opened_at.Tie as tie
+use Rattle.sheet_pairs.proofs.opened_at.Statement.{statement}
+use Rattle.sheet_pairs.proofs.opened_at.Tie as tie
 
 abbrev Inv-loop : tie.InvT-loop
 Inv-loop right from a e set₀ p₀ set p =

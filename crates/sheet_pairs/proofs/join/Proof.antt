@@ -1,11 +1,11 @@
--- `sheet_ring::join` meets its contract: past the end nothing is stored.
+-- `sheet_pairs::join` meets its contract: past the end nothing is stored.
 -- Assumes nothing.
 use mathlib.Core.Path.{refl, sym}
 use lib.Seq.{set-out}
-use Rattle.sheet_ring.specs.inner.Rows.{rowJoined}
+use Rattle.sheet_pairs.specs.inner.Rows.{rowJoined}
 use borrow.Author.Needs.{needs}
-use Rattle.sheet_ring.proofs.join.Statement.{statement}
-use Rattle.sheet_ring.proofs.join.Tie as tie
+use Rattle.sheet_pairs.proofs.join.Statement.{statement}
+use Rattle.sheet_pairs.proofs.join.Tie as tie
 
 mul-to : tie.Need-mul-to
 mul-to c = search needs

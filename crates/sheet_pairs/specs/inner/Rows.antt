@@ -1,7 +1,6 @@
--- The 32 rows of N as the functions of this crate change them, and the three cells before the rows of a ring standing. (Document 01,
--- "Standings".)
+-- The 32 rows of N as the functions of this crate change them. (Document 01, "Standings".)
 -- Assumes nothing.
-use Prim.Native.Nat.{ℕ, _-_, _/_, _%_, _^_}
+use Prim.Native.Nat.{ℕ, _-_}
 use mathlib.Core.Bool.{Bool, cond, not, _&&_}
 use mathlib.Core.List.{List}
 use lib.Bits.{bitOr}
@@ -27,7 +26,3 @@ pushed to s w = words 32 (λ i. bitOr (getD to i 0) (cond (rowOf s i) w 0))
 -- each row but row 0 joined with what w has for those numbers of the list from which it is read
 unfoldable pub spreadOver : List ℕ → Letter → (ℕ → ℕ) → List ℕ → List ℕ → List ℕ
 spreadOver right l w os to = words 32 (λ i. bitOr (getD to i 0) (cond (eqb i 0) 0 (joined right l w i os)))
-
--- the head of a standing and P in their places
-unfoldable pub headed : List ℕ → ℕ → ℕ → List ℕ
-headed to head p = set (set (set to 0 head) 1 (p / 2 ^ 32)) 2 (p % 2 ^ 32)

@@ -1,4 +1,4 @@
--- `sheet_ring::pairs_on` meets its contract: the pairs that open are what 0 sends on.
+-- `sheet_pairs::pairs_on` meets its contract: the pairs that open are what 0 sends on.
 -- Assumes nothing.
 use native.Mathlib.Omega.{arith}
 use mathlib.Core.Path.{_≡_, refl, sym, _∙_, ap, ap₂}
@@ -10,11 +10,11 @@ use Rattle.claims.specs.Standings.{Letter}
 use Rattle.words.specs.Memory.{zeros}
 use Rattle.standings.specs.Steps.{stepFrom}
 use Rattle.sheet_cells.specs.RingCells.{rowN, opened, sent}
-use Rattle.sheet_ring.specs.inner.Rows.{pushed, spreadOver}
-use Rattle.sheet_ring.proofs.Rows.{spread-all}
+use Rattle.sheet_pairs.specs.inner.Rows.{pushed, spreadOver}
+use Rattle.sheet_pairs.proofs.Rows.{spread-all, spread-clear}
 use borrow.Author.Needs.{needs}
-use Rattle.sheet_ring.proofs.pairs_on.Statement.{statement}
-use Rattle.sheet_ring.proofs.pairs_on.Tie as tie
+use Rattle.sheet_pairs.proofs.pairs_on.Statement.{statement}
+use Rattle.sheet_pairs.proofs.pairs_on.Tie as tie
 
 opened-at-requires : tie.Need-opened-at-requires
 opened-at-requires c κs = search needs
@@ -45,6 +45,7 @@ returns c =
     ∙ ap (λ t. pushed t (stepFrom (a .right .now) 0 (a .a) (a .r)) (o .result)) (k .clear .ensures ∙ ap zeros full))
     ∙ spread-all (a .right .now) l (rowN (a .from .now)) (sent (a .right .now) (a .from .now) (a .a)) (o .result) (zeros 32) (o .ensures)
     (λ p h. sym (ap (λ b. cond b (opened (a .right .now) (a .from .now) (a .a)) (rowN (a .from .now) p)) (ne-eqb p 0 (λ e. omega arith))))
+    ∙ spread-clear (a .right .now) l (sent (a .right .now) (a .from .now) (a .a)) (upto 0 32)
 
 pub pairs-on-spec : {M : Type 1} → statement M
 pairs-on-spec =

@@ -1,4 +1,4 @@
--- `sheet_ring::push` meets its contract. The invariant: w joined into the rows of the members left, on the memory as it is, is w joined
+-- `sheet_pairs::push` meets its contract. The invariant: w joined into the rows of the members left, on the memory as it is, is w joined
 -- into those of all members on the memory at the start. The measure is the count of ones of the set left.
 -- Assumes nothing.
 use Prim.Native.Nat.{_-_, _^_, _<_}
@@ -8,11 +8,11 @@ use lib.Bits.{bitAnd}
 use lib.Count.{ones, trailing-le}
 use lib.ListN.{length}
 use Rattle.bits.proofs.Lowest.{Lowest, lowest}
-use Rattle.sheet_ring.specs.inner.Rows.{pushed}
-use Rattle.sheet_ring.proofs.Rows.{pushed-more, pushed-end}
+use Rattle.sheet_pairs.specs.inner.Rows.{pushed}
+use Rattle.sheet_pairs.proofs.Rows.{pushed-more, pushed-end}
 use borrow.Author.Needs.{needs}
-use Rattle.sheet_ring.proofs.push.Statement.{statement}
-use Rattle.sheet_ring.proofs.push.Tie as tie
+use Rattle.sheet_pairs.proofs.push.Statement.{statement}
+use Rattle.sheet_pairs.proofs.push.Tie as tie
 
 abbrev Inv-loop : tie.InvT-loop
 Inv-loop to₀ s w rest₀ to rest = (length to ≡ 32) × (rest < 2 ^ 64) × (pushed to rest w ≡ pushed to₀ s w)

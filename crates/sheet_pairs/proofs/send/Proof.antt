@@ -1,13 +1,13 @@
--- `sheet_ring::send` meets its contract: nothing joined into rows leaves the memory as it is.
+-- `sheet_pairs::send` meets its contract: nothing joined into rows leaves the memory as it is.
 -- Assumes nothing.
 use native.Mathlib.Omega.{arith}
 use mathlib.Core.Path.{_∙_, ap}
 use Rattle.standings.specs.Steps.{stepFrom}
-use Rattle.sheet_ring.specs.inner.Rows.{pushed}
-use Rattle.sheet_ring.proofs.Rows.{pushed-none}
+use Rattle.sheet_pairs.specs.inner.Rows.{pushed}
+use Rattle.sheet_pairs.proofs.Rows.{pushed-none}
 use borrow.Author.Needs.{needs}
-use Rattle.sheet_ring.proofs.send.Statement.{statement}
-use Rattle.sheet_ring.proofs.send.Tie as tie
+use Rattle.sheet_pairs.proofs.send.Statement.{statement}
+use Rattle.sheet_pairs.proofs.send.Tie as tie
 
 returns : tie.Need-returns
 returns c =

@@ -1,0 +1,2 @@
+-- The rows of N as they are changed.
+pub mod Rows
