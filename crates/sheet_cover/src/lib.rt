@@ -115,13 +115,14 @@ fn turns_cover(right: &[u64; 4241], m: usize, t: &[u64], s: &[u64]) -> bool
 pub fn covered(right: &[u64; 4241], n: usize, s: &[u64; 67]) -> bool
     ensures { λ b. ⌜ b ≡ ringCovered (now (right .entry)) n (now (s .entry)) ⌝ }
 {
-    if s[0] % 256 != 0 {
+    let all = &s[..];
+    if all[0] % 256 != 0 {
         return true;
     }
     let m = least(n, 31);
     let mut t = *s;
     close(&mut t[3..35], m + 1);
-    turns_cover(right, m, &t[3..35], s)
+    turns_cover(right, m, &t[3..35], all)
 }
 
 // Whether atom a is live and one of the set p may be read last at it.
