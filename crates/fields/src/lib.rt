@@ -1,8 +1,8 @@
 // Fields in bytes: a one-byte tag, a two-byte big-endian length, contents. (Document 01, "Sheet and graph bytes".) Sheets and graphs are read
 // by these functions, from any place on; no refusal is known here.
-ghost use Prim.Native.Nat.{_<_};
+ghost use Prim.Native.Nat.{_+_, _≤_, _<_};
 ghost use mathlib.Core.Path.{_≡_};
-ghost use lib.ListN.{drop};
+ghost use lib.ListN.{length, drop};
 ghost use Rattle.claims.specs.Fields.{nextField};
 ghost use Rattle.claims.specs.SheetReading.{tagged};
 ghost use Rattle.fields.specs.Places.{cellAt, Stands};
@@ -53,6 +53,19 @@ pub fn tagged(bytes: &[u8], at: usize, t: u64) -> bool
     tag == t
 }
 
+// The number of four bytes at place `at`. That they are there is required for loops over cells whose bounds are known before: a test for
+// each cell would be their greatest cost.
+pub fn cell_within(bytes: &[u8], at: usize) -> u64
+    requires { ⌜ at + 4 ≤ length (now bytes) ⌝ }
+    ensures { λ r. ⌜ r ≡ cellAt (now (bytes .entry)) at ⌝ }
+{
+    let a = wide(bytes[at]);
+    let b = wide(bytes[at + 1]);
+    let c = wide(bytes[at + 2]);
+    let d = wide(bytes[at + 3]);
+    a * 16777216 + b * 65536 + c * 256 + d
+}
+
 // The number of four bytes at place `at`, or 0 where there are fewer.
 pub fn cell(bytes: &[u8], at: usize) -> u64
     ensures { λ r. ⌜ r ≡ cellAt (now (bytes .entry)) at ⌝ }
@@ -63,9 +76,5 @@ pub fn cell(bytes: &[u8], at: usize) -> u64
     if bytes.len() - 4 < at {
         return 0;
     }
-    let a = wide(bytes[at]);
-    let b = wide(bytes[at + 1]);
-    let c = wide(bytes[at + 2]);
-    let d = wide(bytes[at + 3]);
-    a * 16777216 + b * 65536 + c * 256 + d
+    cell_within(bytes, at)
 }

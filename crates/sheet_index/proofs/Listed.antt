@@ -18,22 +18,22 @@ use Rattle.sheet_index.proofs.Hashes.{hash-more, same-all, same-not}
 
 module _ (bs : List ℕ) (from n : ℕ) where
   -- the cell at a place
-  cell-here : (at j v : ℕ) → j < n → at ≡ from + 4 * j → v ≡ cellAt bs at → v ≡ getD (cellsAt bs from n) j 0
-  cell-here at j v l e z = z ∙ ap (cellAt bs) e ∙ sym (cells-at bs from n j l)
+  cell-here : (j v : ℕ) → j < n → v ≡ cellAt bs (from + 4 * j) → v ≡ getD (cellsAt bs from n) j 0
+  cell-here j v l z = z ∙ sym (cells-at bs from n j l)
 
   -- one cell more in the hash
-  pub hash-cell : (h w at j v : ℕ) → j < n → at ≡ from + 4 * j → v ≡ cellAt bs at → w ≡ mixed h v
+  pub hash-cell : (h w j v : ℕ) → j < n → v ≡ cellAt bs (from + 4 * j) → w ≡ mixed h v
       → hashFrom w (drop (j + 1) (cellsAt bs from n)) ≡ hashFrom h (drop j (cellsAt bs from n))
-  hash-cell h w at j v l e z m =
-      hash-more (cellsAt bs from n) h w j v (omega (arith, cells-length bs from n)) (cell-here at j v l e z) m
+  hash-cell h w j v l z m =
+      hash-more (cellsAt bs from n) h w j v (omega (arith, cells-length bs from n)) (cell-here j v l z) m
 
   module _ (cells : List ℕ) where
     -- a cell that is not the candidate's
-    pub cells-differ : (at j v : ℕ) → j < n → at ≡ from + 4 * j → v ≡ cellAt bs at → (v ≡ getD cells j 0 → ⊥)
+    pub cells-differ : (j v : ℕ) → j < n → v ≡ cellAt bs (from + 4 * j) → (v ≡ getD cells j 0 → ⊥)
         → same (cellsAt bs from n) (take n cells) ≡ false
-    cells-differ at j v l e z d =
+    cells-differ j v l z d =
         same-not (cellsAt bs from n) (take n cells) j
-        (λ s. d (cell-here at j v l e z ∙ s ∙ getD-take n cells j 0 l))
+        (λ s. d (cell-here j v l z ∙ s ∙ getD-take n cells j 0 l))
 
     -- all are
     pub cells-agree : n ≤ length cells → ((i : ℕ) → i < n → cellAt bs (from + 4 * i) ≡ getD cells i 0)

@@ -48,12 +48,10 @@ fn slot_at(sheet: &[u8], from: usize, n: usize) -> usize
     ensures { λ r. ⌜ (r ≡ slotOf (cellsAt (now (sheet .entry)) from n)) × (r < 8192) ⌝ }
 {
     let mut h: u64 = 0;
-    let mut at = from;
     let mut j: usize = 0;
     while j < n {
-        let c = fields::cell(sheet, at);
+        let c = fields::cell_within(sheet, from + 4 * j);
         h = mixed(h, c);
-        at += 4;
         j += 1;
     }
     (h % 8192) as usize
@@ -78,13 +76,11 @@ fn equal_at(sheet: &[u8], from: usize, n: usize, cells: &[u64]) -> bool
     requires { ⌜ (from + 4 * n ≤ length (now sheet)) × (n ≤ length (now cells)) ⌝ }
     ensures { λ r. ⌜ r ≡ same (cellsAt (now (sheet .entry)) from n) (take n (now (cells .entry))) ⌝ }
 {
-    let mut at = from;
     let mut j: usize = 0;
     while j < n {
-        if fields::cell(sheet, at) != cells[j] {
+        if fields::cell_within(sheet, from + 4 * j) != cells[j] {
             return false;
         }
-        at += 4;
         j += 1;
     }
     true

@@ -6,7 +6,7 @@ use Rattle.sheet_index.specs.Index.{hashFrom}
 use Rattle.fields.proofs.Cells.{cells-length}
 use Rattle.fields.specs.Places.{cellsAt}
 use lib.ListN.{drop}
-use Prim.Native.Nat.{_+_, _*_, _-_, _≤_, _<_}
+use Prim.Native.Nat.{_-_, _≤_, _<_}
 use mathlib.Core.Path.{_≡_, refl, _∙_}
 use native.Mathlib.Omega.{arith}
 use borrow.Author.Needs.{needs}
@@ -14,23 +14,26 @@ use Rattle.sheet_index.proofs.slot_at.Statement.{statement}
 use Rattle.sheet_index.proofs.slot_at.Tie as tie
 
 abbrev Inv-loop : tie.InvT-loop
-Inv-loop sheet from n h₀ at₀ j₀ h at j =
-    (j ≤ n) × (at ≡ from + 4 * j) × (h < 4294967296) × (hashFrom h (drop j (cellsAt sheet from n)) ≡ hashFrom 0 (cellsAt sheet from n))
+Inv-loop sheet from n h₀ j₀ h j =
+    (j ≤ n) × (h < 4294967296) × (hashFrom h (drop j (cellsAt sheet from n)) ≡ hashFrom 0 (cellsAt sheet from n))
 
 abbrev μ-loop : tie.MeasureT-loop
-μ-loop sheet from n h₀ at₀ j₀ h at j = n - j
+μ-loop sheet from n h₀ j₀ h j = n - j
 
 loop-holds : tie.Need-loop-holds Inv-loop μ-loop
-loop-holds c = (omega arith, omega arith, omega arith, refl)
+loop-holds c = (omega arith, omega arith, refl)
 
-cell-requires : tie.Need-cell-requires Inv-loop μ-loop
-cell-requires c κs = search needs
+mul-cell-within : tie.Need-mul-cell-within Inv-loop μ-loop
+mul-cell-within c = search needs
+
+add-cell-within : tie.Need-add-cell-within Inv-loop μ-loop
+add-cell-within c = search needs
+
+cell-within-requires : tie.Need-cell-within-requires Inv-loop μ-loop
+cell-within-requires c κs = search needs
 
 mixed-requires : tie.Need-mixed-requires Inv-loop μ-loop
 mixed-requires c κs = search needs
-
-add-at : tie.Need-add-at Inv-loop μ-loop
-add-at c = search needs
 
 add-j : tie.Need-add-j Inv-loop μ-loop
 add-j c = search needs
@@ -43,11 +46,10 @@ loop-again c =
     let l = c .before .before .before .loop in
     let a = c .before .before .before .before .before .args in (
       omega arith,
-      omega arith,
       c .mixed .ensures .1,
-      hash-cell (a .sheet .now) (a .from) (a .n) (l .h) _ (l .at) (l .j) (c .before .cell .result) (omega arith) (l .inv .1)
-          (c .before .cell .ensures) (c .mixed .ensures .0)
-          ∙ l .inv .3,
+      hash-cell (a .sheet .now) (a .from) (a .n) (l .h) _ (l .j) (c .before .cell-within .result) (omega arith)
+          (c .before .cell-within .ensures) (c .mixed .ensures .0)
+          ∙ l .inv .2,
     )
 
 returns : tie.Need-returns Inv-loop μ-loop
@@ -55,7 +57,7 @@ returns c =
     let l = c .before .loop in
     let a = c .before .before .before .args in (
       hash-end (cellsAt (a .sheet .now) (a .from) (a .n)) (l .h) (l .j)
-          (omega (arith, cells-length (a .sheet .now) (a .from) (a .n))) (l .inv .3),
+          (omega (arith, cells-length (a .sheet .now) (a .from) (a .n))) (l .inv .2),
       omega arith,
     )
 
@@ -66,9 +68,10 @@ slot-at-spec =
     Inv-loop
     μ-loop
     loop-holds
-    cell-requires
+    mul-cell-within
+    add-cell-within
+    cell-within-requires
     mixed-requires
-    add-at
     add-j
     loop-less
     loop-again
