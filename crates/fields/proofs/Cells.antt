@@ -29,7 +29,8 @@ pub four-bytes : (bs : List ℕ) (at : ℕ) → at + 4 ≤ length bs
     → take 4 (drop at bs) ≡ getD bs at 0 ∷ getD bs (at + 1) 0 ∷ getD bs (at + 2) 0 ∷ getD bs (at + 3) 0 ∷ []
 four-bytes bs at h =
     ap (take 4) (header-first bs at (omega arith))
-    ∙ ap (λ l. getD bs at 0 ∷ getD bs (at + 1) 0 ∷ getD bs (at + 2) 0 ∷ take 1 l) (byte-first bs (at + 3) (at + 4) (omega arith) (omega arith))
+    ∙ ap (λ l. getD bs at 0 ∷ getD bs (at + 1) 0 ∷ getD bs (at + 2) 0 ∷ take 1 l)
+    (byte-first bs (at + 3) (at + 4) (omega arith) (omega arith))
 
 -- where there are four bytes, the number that they are
 pub cell-read : (bs : List ℕ) (at : ℕ) → at + 4 ≤ length bs → cellAt bs at ≡ fromBytes 0 (take 4 (drop at bs))

@@ -4,11 +4,13 @@ use Prim.Native.Nat.{ℕ, zero, suc, _+_, _%_, _≤_, _<_}
 use native.Mathlib.Omega.{arith}
 use native.Mathlib.Numerals.{add-one}
 use mathlib.Core.Path.{_≡_, refl, sym, _∙_, ap, subst}
+use mathlib.Core.Logic.{⊎-elim}
 use mathlib.Core.Bool.{Bool, true, false}
 use mathlib.Core.List.{List, [], _∷_}
 use lib.ListN.{length, getD, drop, drop-of-length-le}
 use lib.Seq.{drop-cons, ext-getD}
-use Rattle.kat.proofs.Bools.{false-of-not}
+use borrow.Author.Count.{below-more}
+use Rattle.kat.proofs.Bools.{lt-or-le, false-of-not}
 use Rattle.claims.specs.Bytes.{same}
 use Rattle.claims.proofs.Results.{same-is-equal, same-self}
 use Rattle.sheet_index.specs.Index.{mixed, hashFrom, slotOf}
@@ -34,3 +36,8 @@ module _ (l m : List ℕ) where
   -- a cell that is not
   pub same-not : (i : ℕ) → (getD l i 0 ≡ getD m i 0 → ⊥) → same l m ≡ false
   same-not i d = false-of-not (same l m) (λ e. d (ap (λ k. getD k i 0) (same-is-equal l m e)))
+
+-- what holds below j, at j and at the next holds below the one after
+pub two-more : (A : ℕ → Type 0) (j : ℕ) → ((i : ℕ) → i < j → A i) → A j → A (j + 1) → (i : ℕ) → i < j + 2 → A i
+two-more A j h a b i l =
+    ⊎-elim (below-more A j h a i) (λ k. let e : j + 1 ≡ i = omega arith in subst A e b) (lt-or-le i (j + 1))

@@ -108,8 +108,8 @@ below-fits true base n i size h l = omega arith
 below-fits false base n i size h l = omega arith
 
 -- its cells, from where they begin
-pub cells-listed : (ring : Bool) (bs : List ℕ) (base i from k : ℕ) → from ≡ base + fieldLength ring * i + cellStart ring → k ≡ cellCount ring
-    → cellsAt bs from k ≡ listedCells ring bs base i
+pub cells-listed : (ring : Bool) (bs : List ℕ) (base i from k : ℕ)
+    → from ≡ base + fieldLength ring * i + cellStart ring → k ≡ cellCount ring → cellsAt bs from k ≡ listedCells ring bs base i
 unfolding listedCells standingCells
 cells-listed ring bs base i from k e z = ap₂ (cellsAt bs) e z
 

@@ -71,17 +71,26 @@ fn slot_of(cells: &[u64], n: usize) -> usize
     (h % 8192) as usize
 }
 
-// Whether n cells in the sheet are the first n of a candidate.
+// Whether n cells in the sheet are the first n of a candidate; two a turn.
 fn equal_at(sheet: &[u8], from: usize, n: usize, cells: &[u64]) -> bool
     requires { ⌜ (from + 4 * n ≤ length (now sheet)) × (n ≤ length (now cells)) ⌝ }
     ensures { λ r. ⌜ r ≡ same (cellsAt (now (sheet .entry)) from n) (take n (now (cells .entry))) ⌝ }
 {
     let mut j: usize = 0;
-    while j < n {
+    while j + 1 < n {
         if fields::cell_within(sheet, from + 4 * j) != cells[j] {
             return false;
         }
-        j += 1;
+        if fields::cell_within(sheet, from + 4 * (j + 1)) != cells[j + 1] {
+            return false;
+        }
+        j += 2;
+    }
+    if j < n {
+        if fields::cell_within(sheet, from + 4 * j) != cells[j] {
+            return false;
+        }
+        return true;
     }
     true
 }
