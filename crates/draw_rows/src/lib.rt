@@ -23,8 +23,8 @@ fn closed_with(s: u64, code: u64) -> u64
     with(s, (code - codes::CLOSED_LINE) as usize)
 }
 
-// The relations that the lines of a query close, from its codes.
-pub fn closed_set(codes: &[u64]) -> u64
+// The relations that the lines with these codes close.
+fn closed_in(codes: &[u64]) -> u64
     ensures { λ r. ⌜ r ≡ closedSet 0 (now (codes .entry)) ⌝ }
 {
     let mut s: u64 = 0;
@@ -34,6 +34,13 @@ pub fn closed_set(codes: &[u64]) -> u64
         i += 1;
     }
     s
+}
+
+// The relations that the lines of a query close, from the codes that its reading leaves.
+pub fn closed_set(codes: &[u64; 4096]) -> u64
+    ensures { λ r. ⌜ r ≡ closedSet 0 (now (codes .entry)) ⌝ }
+{
+    closed_in(codes)
 }
 
 // How many events the graph of a word of so many numbers has: in a line one more than its length, in a ring as many, and one for length 0.

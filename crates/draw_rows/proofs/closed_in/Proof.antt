@@ -1,4 +1,4 @@
--- `draw_rows::closed_set` meets its contract. The invariant: the codes that are left make of the set so far the whole set. The measure is what
+-- `draw_rows::closed_in` meets its contract. The invariant: the codes that are left make of the set so far the whole set. The measure is what
 -- is left of the codes.
 -- Assumes nothing.
 use Prim.Native.Nat.{_-_, _≤_}
@@ -8,8 +8,8 @@ use lib.ListN.{length, drop}
 use Rattle.draw_rows.specs.Rows.{closedSet}
 use Rattle.draw_rows.proofs.Rounds.{closed-more, closed-end}
 use borrow.Author.Needs.{needs}
-use Rattle.draw_rows.proofs.closed_set.Statement.{statement}
-use Rattle.draw_rows.proofs.closed_set.Tie as tie
+use Rattle.draw_rows.proofs.closed_in.Statement.{statement}
+use Rattle.draw_rows.proofs.closed_in.Tie as tie
 
 abbrev Inv-loop : tie.InvT-loop
 Inv-loop codes s₀ i₀ s i = (i ≤ length codes) × (closedSet s (drop i codes) ≡ closedSet 0 codes)
@@ -46,8 +46,8 @@ returns c =
     let l = c .before .loop in
     closed-end (c .before .before .before .args .codes .now) (l .i) (l .s) (omega arith) ∙ l .inv .1
 
-pub closed-set-spec : {M : Type 1} → statement M
-closed-set-spec =
+pub closed-in-spec : {M : Type 1} → statement M
+closed-in-spec =
     tie.close
     (tie.spec
     Inv-loop
