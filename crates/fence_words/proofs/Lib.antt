@@ -1,0 +1,2 @@
+-- The words of a refusal, piece by piece.
+pub mod Pieces
