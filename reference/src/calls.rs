@@ -1,5 +1,6 @@
 //! The calls on bytes, each with the line or the bytes it answers.
 
+use crate::dot::dot_text;
 use crate::draw::draw;
 use crate::graph::{read_graph, write_graph};
 use crate::judge::judge;
@@ -74,5 +75,14 @@ pub fn drawn_bytes(query: &[u8], sheet: &[u8]) -> Result<Option<Vec<u8>>, Refusa
     Ok(match passed {
         Passed::Proved => None,
         Passed::Refuted(word) => draw(&query, &word).map(|graph| write_graph(&graph)),
+    })
+}
+
+/// The same as text for the program `dot`.
+pub fn drawn_dot(query: &[u8], sheet: &[u8]) -> Result<Option<Vec<u8>>, Refusal> {
+    let (query, passed) = check(query, sheet)?;
+    Ok(match passed {
+        Passed::Proved => None,
+        Passed::Refuted(word) => draw(&query, &word).map(|graph| dot_text(&query, &word, &graph).into_bytes()),
     })
 }

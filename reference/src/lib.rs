@@ -29,6 +29,7 @@ pub mod sheet_check;
 pub mod graph;
 pub mod judge;
 pub mod draw;
+pub mod dot;
 
 // The calls.
 pub mod calls;

@@ -3,65 +3,101 @@
 use std::io::{self, Read, Write};
 use std::process::ExitCode;
 
+use fence_reference::refusal::Refusal;
 use fence_reference::{calls, vectors};
 
-const USAGE: &str = "usage: fence-reference query [--allowance N] | read
-       fence-reference sheet QUERY ALLOWANCE | check QUERY SHEET
-       fence-reference judge QUERY GRAPH | draw QUERY SHEET
-       fence-reference generate KIND SEED COUNT | answer KIND";
+const USAGE: &str = "usage: fence-reference [query [--allowance N] [FILE]]
+       fence-reference sheet [--allowance N] QUERY | check QUERY SHEET
+       fence-reference draw [--dot] QUERY SHEET | judge QUERY GRAPH | read
+       fence-reference generate KIND SEED COUNT | answer KIND
+FILE, QUERY, SHEET and GRAPH are names of files, - is standard input";
 
 const DEFAULT_ALLOWANCE: usize = 200;
 
-/// What to print: bytes for standard output, or a message and status 1.
+/// What to print: bytes for standard output, or a message for standard error.
 type Printed = Result<Vec<u8>, String>;
 
 fn main() -> ExitCode {
     let arguments: Vec<String> = std::env::args_os().skip(1).map(|a| a.to_string_lossy().into_owned()).collect();
     let arguments: Vec<&str> = arguments.iter().map(String::as_str).collect();
-    match run(&arguments) {
+    let status = match run(&arguments) {
         Some(Ok(bytes)) => match io::stdout().write_all(&bytes) {
-            Ok(()) => ExitCode::SUCCESS,
-            Err(_) => ExitCode::from(1),
+            Ok(()) => status_of(&bytes),
+            Err(_) => 2,
         },
         Some(Err(message)) => {
             eprintln!("{message}");
-            ExitCode::from(1)
+            2
         }
         None => {
             eprintln!("{USAGE}");
-            ExitCode::from(2)
+            2
         }
+    };
+    ExitCode::from(status)
+}
+
+/// 1 for a refuted claim, 2 for a refusal, 0 for all else.
+fn status_of(printed: &[u8]) -> u8 {
+    if printed.starts_with(b"refuted ") {
+        1
+    } else if printed.starts_with(b"refusal ") {
+        2
+    } else {
+        0
     }
 }
 
 fn run(arguments: &[&str]) -> Option<Printed> {
     Some(match arguments {
-        ["query"] => standard_input().map(|query| line(calls::query_line(&query, DEFAULT_ALLOWANCE))),
-        ["query", "--allowance", allowance] => {
-            let allowance = number(allowance)?;
-            standard_input().map(|query| line(calls::query_line(&query, allowance)))
+        [] => file("-").map(|query| line(calls::query_line(&query, DEFAULT_ALLOWANCE))),
+        ["query", rest @ ..] => {
+            let (allowance, files) = with_allowance(rest)?;
+            let [name] = files[..] else { return if files.is_empty() { run(&["query", "-"]) } else { None } };
+            file(name).map(|query| line(calls::query_line(&query, allowance)))
         }
-        ["read"] => standard_input().map(|query| line(calls::read_line(&query))),
-        ["sheet", query, allowance] => {
-            let allowance = number(allowance)?;
-            file(query).and_then(|query| calls::sheet_bytes(&query, allowance).map_err(|refused| refused.to_string()))
+        ["sheet", rest @ ..] => {
+            let (allowance, files) = with_allowance(rest)?;
+            let [name] = files[..] else { return None };
+            file(name).map(|query| calls::sheet_bytes(&query, allowance).unwrap_or_else(|refused| line(refused.to_string())))
         }
         ["check", query, sheet] => both(query, sheet).map(|(query, sheet)| line(calls::check_line(&query, &sheet))),
         ["judge", query, graph] => both(query, graph).map(|(query, graph)| line(calls::judge_line(&query, &graph))),
-        ["draw", query, sheet] => both(query, sheet).and_then(|(query, sheet)| {
-            match calls::drawn_bytes(&query, &sheet) {
-                Ok(Some(graph)) => Ok(graph),
-                Ok(None) => Err("no graph: the sheet says proved or its word has more than 64 events".to_string()),
-                Err(refused) => Err(refused.to_string()),
-            }
-        }),
+        ["draw", query, sheet] => both(query, sheet).and_then(|(query, sheet)| drawn(calls::drawn_bytes(&query, &sheet))),
+        ["draw", "--dot", query, sheet] => both(query, sheet).and_then(|(query, sheet)| drawn(calls::drawn_dot(&query, &sheet))),
+        ["read"] => file("-").map(|query| line(calls::read_line(&query))),
         ["generate", kind, seed, count] => {
             let made = vectors::inputs(kind, seed.parse().ok()?, number(count)?);
             made.map(joined).ok_or(format!("{kind} is no kind of case"))
         }
-        ["answer", kind] => standard_input().and_then(|cases| answers(kind, &cases)),
+        ["answer", kind] => file("-").and_then(|cases| answers(kind, &cases)),
         _ => return None,
     })
+}
+
+/// The allowance among the arguments, and the others.
+fn with_allowance<'a>(arguments: &[&'a str]) -> Option<(usize, Vec<&'a str>)> {
+    let mut allowance = DEFAULT_ALLOWANCE;
+    let mut files = Vec::new();
+    let mut rest = arguments.iter();
+    while let Some(&argument) = rest.next() {
+        if argument == "--allowance" {
+            allowance = number(rest.next()?)?;
+        } else if argument.starts_with("--") {
+            return None;
+        } else {
+            files.push(argument);
+        }
+    }
+    Some((allowance, files))
+}
+
+fn drawn(answer: Result<Option<Vec<u8>>, Refusal>) -> Printed {
+    match answer {
+        Ok(Some(bytes)) => Ok(bytes),
+        Ok(None) => Err("no graph: the sheet says proved or its word has more than 64 events".to_string()),
+        Err(refused) => Ok(line(refused.to_string())),
+    }
 }
 
 /// The answer to each case on standard input.
@@ -83,14 +119,14 @@ fn number(text: &str) -> Option<usize> {
     text.parse().ok()
 }
 
-fn standard_input() -> Printed {
+/// The bytes of a file, or of standard input for `-`.
+fn file(name: &str) -> Printed {
+    if name != "-" {
+        return std::fs::read(name).map_err(|error| format!("{name}: {error}"));
+    }
     let mut bytes = Vec::new();
     io::stdin().read_to_end(&mut bytes).map_err(|error| error.to_string())?;
     Ok(bytes)
-}
-
-fn file(name: &str) -> Printed {
-    std::fs::read(name).map_err(|error| format!("{name}: {error}"))
 }
 
 fn both(one: &str, two: &str) -> Result<(Vec<u8>, Vec<u8>), String> {
