@@ -22,6 +22,7 @@ fn main() -> ExitCode {
     let arguments: Vec<&str> = arguments.iter().map(String::as_str).collect();
     let status = match run(&arguments) {
         Some(Ok(bytes)) => match io::stdout().write_all(&bytes) {
+            Ok(()) if matches!(arguments.first(), Some(&("generate" | "answer"))) => 0,
             Ok(()) => status_of(&bytes),
             Err(_) => 2,
         },

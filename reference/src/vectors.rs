@@ -24,7 +24,7 @@ const MOST_RING_STANDINGS: usize = 6;
 const MOST_SMALL_STANDINGS: usize = 12;
 
 /// So many input lines of a kind, or nothing where the kind is unknown. Cases
-/// chosen by hand stand before the random ones.
+/// chosen by hand stand before the random ones; of `edits` there are no others.
 pub fn inputs(kind: &str, seed: u64, count: usize) -> Option<Vec<String>> {
     let mut rng = Rng::new(seed);
     let rng = &mut rng;
@@ -41,6 +41,7 @@ pub fn inputs(kind: &str, seed: u64, count: usize) -> Option<Vec<String>> {
             let chosen = every_way::sheets().into_iter().chain(every_way::highest_numbers());
             many.into_iter().chain(chosen).map(with_hex).collect()
         }
+        "edits" => every_way::edited_sheets().into_iter().map(with_hex).collect(),
         "small-check" => every_way::sheets().into_iter().map(with_hex).collect(),
         "judge" => every_way::many_events().into_iter().chain(every_way::graphs()).map(with_hex).collect(),
         "small-judge" => every_way::graphs().into_iter().map(with_hex).collect(),
@@ -81,6 +82,8 @@ pub fn output(kind: &str, line: &str) -> Option<String> {
             Err(refused) => refused.to_string(),
         },
         "check" => check_line(&query, &unhex(first)?),
+        "edits" => edit_lines(&query, &unhex(first)?),
+        "searched" => searched_line(&query, first.parse().ok()?),
         "judge" => judge_line(&query, &unhex(first)?),
         "draw" => match drawn_bytes(&query, &unhex(first)?) {
             Ok(Some(graph)) => hex(&graph),
@@ -89,6 +92,40 @@ pub fn output(kind: &str, line: &str) -> Option<String> {
         },
         _ => return None,
     })
+}
+
+/// The line of the search, and behind an answer that of the check of its sheet.
+fn searched_line(query: &[u8], allowance: usize) -> String {
+    let line = query_line(query, allowance);
+    match sheet_bytes(query, allowance) {
+        Ok(sheet) => format!("{line}, {}", check_line(query, &sheet)),
+        Err(_) => line,
+    }
+}
+
+/// The answers to a sheet cut at every place, and for each place of it those
+/// to every byte there; equal ones in a row are counted.
+fn edit_lines(query: &[u8], sheet: &[u8]) -> String {
+    let mut lines = vec![runs((0..=sheet.len()).map(|end| check_line(query, &sheet[..end])))];
+    for place in 0..sheet.len() {
+        let mut changed = sheet.to_vec();
+        lines.push(runs((0..=255).map(|byte| {
+            changed[place] = byte;
+            check_line(query, &changed)
+        })));
+    }
+    lines.join("\n")
+}
+
+fn runs(answers: impl Iterator<Item = String>) -> String {
+    let mut runs: Vec<(usize, String)> = Vec::new();
+    for answer in answers {
+        match runs.last_mut() {
+            Some((count, last)) if *last == answer => *count += 1,
+            _ => runs.push((1, answer)),
+        }
+    }
+    runs.iter().map(|(count, answer)| format!("{count} {answer}")).collect::<Vec<_>>().join(", ")
 }
 
 fn with_hex((query, bytes): (Vec<u8>, Vec<u8>)) -> String {

@@ -18,7 +18,7 @@ pub struct Place {
 }
 
 // The number of a lowercase hex digit.
-fn digit(b: u8) -> u8 {
+pub fn digit(b: u8) -> u8 {
     match b {
         b'0'..=b'9' => b - b'0',
         b'a'..=b'f' => b - b'a' + 10,

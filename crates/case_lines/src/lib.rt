@@ -106,3 +106,51 @@ pub fn number(text: &[u8], n: usize) -> Digits
     }
     Digits { value, count: i }
 }
+
+// Bytes that stand in hex at the start of a text: how many there are, and how many bytes of the text they take.
+pub struct HexBytes {
+    pub bytes: usize,
+    pub count: usize,
+}
+
+// The byte that two hex digits are; a byte that is no digit counts as the digit 0.
+fn hex_byte(high: u8, low: u8) -> u8 {
+    (escape::digit(high) << 4) | escape::digit(low)
+}
+
+// The bytes that two hex digits each are at the start of a text, up to the first space, as many as there is room for; a `-` stands for no
+// bytes.
+pub fn hex(text: &[u8], to: &mut [u8]) -> HexBytes {
+    let mut used = 0;
+    let mut at = 0;
+    while at < text.len() {
+        if text.len() - at < 2 {
+            return HexBytes {
+                bytes: used,
+                count: at,
+            };
+        }
+        if text[at] == b'-' {
+            return HexBytes { bytes: 0, count: 1 };
+        }
+        if text[at] == b' ' {
+            return HexBytes {
+                bytes: used,
+                count: at,
+            };
+        }
+        if to.len() <= used {
+            return HexBytes {
+                bytes: used,
+                count: at,
+            };
+        }
+        to[used] = hex_byte(text[at], text[at + 1]);
+        used += 1;
+        at += 2;
+    }
+    HexBytes {
+        bytes: used,
+        count: at,
+    }
+}

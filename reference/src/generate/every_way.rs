@@ -45,6 +45,20 @@ fn extended(query: &str, more: &[u8]) -> Case {
     (query.into(), [written(query), more.to_vec()].concat())
 }
 
+/// Sheets to be cut everywhere and changed at every byte: of a proof and of a
+/// refutation, for a path and for a ring claim.
+pub fn edited_sheets() -> Vec<Case> {
+    let order = "test R\ntest W\nrel rf\nrel co\nnever R & W\nwithin rf [W] [R]\nwithin co [W] [W]\n";
+    let claim = "let eco = (rf | co)+\nclaim include eco in rf | co;rf?\n";
+    let queries = [
+        format!("{order}closed co\n{claim}"),
+        "rel r\nassume irreflexive r;r\nclaim irreflexive r\n".to_string(),
+        format!("{order}{claim}"),
+        "rel r\nassume irreflexive r\nclaim irreflexive r;r\n".to_string(),
+    ];
+    queries.iter().map(|query| (query.as_bytes().to_vec(), written(query))).collect()
+}
+
 pub fn sheets() -> Vec<Case> {
     let mut cases = Vec::new();
     for query in [PATH, RING, PATH_REFUTED, RING_REFUTED, LENGTH_ZERO[0], LENGTH_ZERO[1]] {
