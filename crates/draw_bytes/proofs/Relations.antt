@@ -24,14 +24,15 @@ unfolding edgesBytes
 edges-begin l at bs n closed rs h = left-begin l at (joined (relationBytes bs n closed) (upto 0 rs)) h
 
 -- one relation
-pub puts-relation : {l m : List ℕ} {at to : ℕ} (bs : List ℕ) (n closed r : ℕ) (b : Bool) (rows : List ℕ) → b ≡ bit r closed → rows ≡ relationRows bs n r b
-    → Puts l at (rowsBytes r n rows) to m → Puts l at (relationBytes bs n closed r) to m
+pub puts-relation : {l m : List ℕ} {at to : ℕ} (bs : List ℕ) (n closed r : ℕ) (b : Bool) (rows : List ℕ) → b ≡ bit r closed
+    → rows ≡ relationRows bs n r b → Puts l at (rowsBytes r n rows) to m → Puts l at (relationBytes bs n closed r) to m
 unfolding relationBytes
 puts-relation {l} {m} {at} {to} bs n closed r b rows e h p =
     subst (λ (t : List ℕ). Puts l at (rowsBytes r n t) to m) (h ∙ ap (relationRows bs n r) e) p
 
 -- events, and then edges
-pub puts-graph : {l m k : List ℕ} {to next : ℕ} (bs : List ℕ) (n closed rs : ℕ) → Puts l 0 (eventsBytes bs n) to m → Puts m to (edgesBytes bs n closed rs) next k
+pub puts-graph : {l m k : List ℕ} {to next : ℕ} (bs : List ℕ) (n closed rs : ℕ) → Puts l 0 (eventsBytes bs n) to m
+    → Puts m to (edgesBytes bs n closed rs) next k
     → Puts l 0 (bytesOf bs n closed rs) next k
 unfolding bytesOf
 puts-graph bs n closed rs p q = puts-append p q

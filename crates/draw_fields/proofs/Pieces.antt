@@ -29,7 +29,8 @@ pub left-begin : (l : List ℕ) (at : ℕ) (bs : List ℕ) → at ≤ length l �
 left-begin l at bs h = record { same-length = refl; within = h; onward = λ next after p. p }
 
 -- one piece is put
-pub left-more : {l m n : List ℕ} {at to next : ℕ} {all : List ℕ} (f rest : List ℕ) → Left l at all m to (f ++ rest) → Puts m to f next n → Left l at all n next rest
+pub left-more : {l m n : List ℕ} {at to next : ℕ} {all : List ℕ} (f rest : List ℕ) → Left l at all m to (f ++ rest)
+    → Puts m to f next n → Left l at all n next rest
 left-more f rest L p =
     record {
       same-length = puts-length p ∙ L .same-length;

@@ -151,7 +151,8 @@ module _ (f : ℕ → ℕ) (r y : ℕ) where
           (lt-or-le (2 * j + 1) (length (numbers w)))
 
 -- a step of the graph is the one bit of its row
-module _ (f : ℕ → ℕ) (ns : List ℕ) (n : ℕ) (few : n ≤ 64) (next : (x : ℕ) → 2 * x + 1 < length ns → (nextEvent n x ≡ f (suc x)) × (nextEvent n x < n)) where
+module _ (f : ℕ → ℕ) (ns : List ℕ) (n : ℕ) (few : n ≤ 64)
+    (next : (x : ℕ) → 2 * x + 1 < length ns → (nextEvent n x ≡ f (suc x)) × (nextEvent n x < n)) where
   step-bit : (r x y : ℕ) → bit y (stepRow ns n r x) ≡ stepAt f 0 ns r x y
   unfolding stepRow
   step-bit r x y = ⊎-elim inside past (lt-or-le (2 * x + 1) (length ns))
@@ -224,7 +225,8 @@ module _ (w : Word) where
   to false j = j
   to true j = cond (eqb j (size w)) 0 j
 
-  next-to : (ring : Bool) (x : ℕ) → 2 * x + 1 < length (numbers w) → (nextEvent (events ring) x ≡ to ring (suc x)) × (nextEvent (events ring) x < events ring)
+  next-to : (ring : Bool) (x : ℕ) → 2 * x + 1 < length (numbers w)
+      → (nextEvent (events ring) x ≡ to ring (suc x)) × (nextEvent (events ring) x < events ring)
   next-to false x h = subst (λ n. (nextEvent n x ≡ suc x) × (nextEvent n x < n)) (sym (count-line w)) (line-next w x h)
   next-to true x h =
       let l = numbers-length w in
@@ -277,7 +279,8 @@ module _ (w : Word) where
         count : events ring ≡ length (finite (stepsOf ring w) .atoms)
         count = sym (event-number q ring w)
 
-        go : (b : Bool) → bit y (getD (cond b (rounds (stepRows (numbers w) (events ring) r) (events ring) (events ring)) (stepRows (numbers w) (events ring) r)) x 0)
+        go : (b : Bool)
+            → bit y (getD (cond b (rounds (stepRows (numbers w) (events ring) r) (events ring) (events ring)) (stepRows (numbers w) (events ring) r)) x 0)
             ≡ elim b [
               | true ↦ entry (closure (length (finite (stepsOf ring w) .atoms)) (finite (stepsOf ring w) .edges r)) x y
               | false ↦ finite (stepsOf ring w) .edges r x y

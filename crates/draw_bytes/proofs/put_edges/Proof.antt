@@ -13,7 +13,8 @@ use Rattle.draw_bytes.proofs.put_edges.Statement.{statement}
 use Rattle.draw_bytes.proofs.put_edges.Tie as tie
 
 abbrev Inv-loop : tie.InvT-loop
-Inv-loop out₀ at word n closed relations to₀ r₀ out to r = (r ≤ relations) × Left out₀ at (edgesBytes word n closed relations) out to (joined (relationBytes word n closed) (upto r relations))
+Inv-loop out₀ at word n closed relations to₀ r₀ out to r =
+    (r ≤ relations) × Left out₀ at (edgesBytes word n closed relations) out to (joined (relationBytes word n closed) (upto r relations))
 
 abbrev μ-loop : tie.MeasureT-loop
 μ-loop out₀ at word n closed relations to₀ r₀ out to r = relations - r
