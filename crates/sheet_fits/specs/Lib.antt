@@ -1,0 +1,4 @@
+-- Cells of four bytes.
+pub mod Small
+-- Promises between the functions of this crate.
+pub mod inner

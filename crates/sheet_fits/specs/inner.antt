@@ -1,0 +1,2 @@
+-- Rows of M and of N.
+pub mod Rows
