@@ -1,7 +1,6 @@
 -- Sets and rows that have no bit too large, as the code tests them; and the rows of a table one behind the other. What is left of the rows
 -- passes exactly where all do.
 -- Assumes nothing.
--- a machine word has no bit from n on where it is no more than all bits below n
 use Prim.Native.Nat.{ℕ, suc, _+_, _-_, _%_, _^_, _≤_, _<_, min}
 use native.Mathlib.Nat.{pow-le-pow-right, min-eq-left, min-eq-right}
 use native.Mathlib.Omega.{arith}
@@ -19,6 +18,7 @@ use Rattle.claims.specs.SheetReading.{rowOfM, rowOfN, rowsPass}
 use Rattle.bits.specs.Sets.{allBelow}
 use Rattle.bits.proofs.Rows.{all-small, all-large}
 
+-- a machine word has no bit from n on where it is no more than all bits below n
 pub below-test : (s n : ℕ) → s < 2 ^ 64 → leb s (allBelow 64 n) ≡ ltb s (2 ^ n)
 below-test s n h = ⊎-elim few many (le-or-lt n 64)
   where

@@ -1,6 +1,5 @@
 -- The cells of a standing as the code tests them, one test behind the other: the first that fails decides.
 -- Assumes nothing.
--- a cell among the first n is small
 use Prim.Native.Nat.{ℕ, suc, _+_, _*_, _/_, _%_, _^_, _≤_, _<_}
 use native.Mathlib.Omega.{arith}
 use mathlib.Core.Path.{_≡_, _∙_, ap, ap₂, subst}
@@ -16,6 +15,7 @@ use Rattle.sheet_cells.specs.PathCells.{pathFits}
 use Rattle.sheet_cells.specs.RingCells.{ringFits, firstIn, flagIn}
 use Rattle.sheet_fits.specs.Small.{SmallCells}
 
+-- a cell among the first n is small
 pub small-cell : (n : ℕ) (s : List ℕ) → SmallCells n s → (i : ℕ) → i < n → getD s i 0 < 2 ^ 32
 small-cell n s c i h = subst (λ m. m < 2 ^ 32) (getD-take n s i 0 h) (c .small i)
 

@@ -1,12 +1,11 @@
 -- Bytes are read as a word exactly where they fit, and then they are the word that they are read as. By two bytes at a time.
 -- Assumes nothing.
 use Prim.Native.Nat.{ℕ, suc, _+_, _-_, _≤_, _<_}
-use native.Mathlib.Numerals.{add-one}
 use native.Mathlib.Omega.{arith}
 use mathlib.Core.Path.{_≡_, refl, sym, _∙_, ap}
 use mathlib.Core.Bool.{Bool, true, false, _&&_}
 use mathlib.Core.List.{List, [], _∷_}
-use mathlib.Core.Option.{Option, some, none}
+use mathlib.Core.Option.{some, none}
 use lib.Dec.{ltb}
 use lib.ListN.{length, getD, drop, drop-of-length-le}
 use lib.Seq.{drop-cons}
@@ -15,7 +14,6 @@ use Rattle.kat.specs.Word.{Word, at}
 use Rattle.claims.specs.Sides.{Decision}
 use Rattle.claims.specs.Fields.{provided}
 use Rattle.claims.specs.SheetReading.{wordOf}
-use Rattle.claims.proofs.Results.{provided-some}
 use Rattle.sheet_word.specs.ByteWords.{wordFits, wordRead}
 
 -- what is read, if the bytes fit

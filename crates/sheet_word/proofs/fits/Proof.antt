@@ -71,7 +71,7 @@ returns-3 : tie.Need-returns-3 Inv-loop μ-loop
 returns-3 c =
     let a = c .before .before .before .before .before .before .args in
     let l = c .before .before .before .before .loop in
-    ap (λ n. ltb n (a .atoms)) (c .wide3 .ensures)
+    ap (λ n. ltb n (a .atoms)) (c .wide3 .ensures .0)
     ∙ sym (last-atom (a .atoms) (a .relations) (a .word .now) (l .i) (omega arith) (omega arith)) ∙ l .inv .1
 
 returns-4 : tie.Need-returns-4 Inv-loop μ-loop

@@ -1,0 +1,69 @@
+-- `sheet_fields::is_sized` meets its contract, by the kind of the claim.
+-- Assumes nothing.
+use Prim.Native.Nat.{_-_}
+use mathlib.Core.Path.{sym, _∙_, ap}
+use lib.Dec.{eqb}
+use lib.ListN.{drop}
+use borrow.Author.Needs.{needs}
+use Rattle.claims.specs.Fields.{nextField}
+use Rattle.claims.specs.SheetBytes.{contentsLength}
+use Rattle.claims.specs.Width.{width, rowLength}
+use Rattle.sheet_fields.proofs.Verdicts.{stands-whole, stands-cut, sized-whole, sized-cut}
+use Rattle.sheet_fields.proofs.is_sized.Statement.{statement}
+use Rattle.sheet_fields.proofs.is_sized.Tie as tie
+
+next-requires : tie.Need-next-requires
+next-requires c κs = search needs
+
+enum-known-from : tie.Need-enum-known-from
+enum-known-from c = search needs
+
+enum-told : tie.Need-enum-told
+enum-told c = search needs
+
+returns : tie.Need-returns
+returns c =
+    let a = c .before .before .before .before .args in
+    sym (sized-cut (a .ring) (nextField (drop (a .at) (a .sheet .now)))
+    (stands-cut (a .sheet .now) (a .at) (nextField (drop (a .at) (a .sheet .now))) (c .before .before .next .result) (c .before .before .next .ensures) (c .enum-told .given .1)))
+
+sub-result : tie.Need-sub-result
+sub-result c =
+    let a = c .before .before .before .before .before .before .args in
+    let w = stands-whole (a .sheet .now) (a .at) (nextField (drop (a .at) (a .sheet .now))) (c .before .before .before .before .next .result) _ _ _ (c .before .before .before .before .next .ensures) (c .before .before .from .given .1) in
+    w .order
+
+returns-2 : tie.Need-returns-2
+unfolding contentsLength width rowLength
+returns-2 c =
+    let a = c .before .before .before .before .before .before .args in
+    let w = stands-whole (a .sheet .now) (a .at) (nextField (drop (a .at) (a .sheet .now))) (c .before .before .before .before .next .result) _ _ _ (c .before .before .before .before .next .ensures) (c .before .before .from .given .1) in
+    let n = c .before .before .from .given .0 .1 .1 .0 - c .before .before .from .given .0 .1 .0 in
+    ap (λ b. eqb n (contentsLength b)) (sym (c .if1 .taken)) ∙ sized-whole w (a .ring)
+
+sub-result-2 : tie.Need-sub-result-2
+sub-result-2 c =
+    let a = c .before .before .before .before .before .before .args in
+    let w = stands-whole (a .sheet .now) (a .at) (nextField (drop (a .at) (a .sheet .now))) (c .before .before .before .before .next .result) _ _ _ (c .before .before .before .before .next .ensures) (c .before .before .from .given .1) in
+    w .order
+
+returns-3 : tie.Need-returns-3
+unfolding contentsLength width rowLength
+returns-3 c =
+    let a = c .before .before .before .before .before .before .args in
+    let w = stands-whole (a .sheet .now) (a .at) (nextField (drop (a .at) (a .sheet .now))) (c .before .before .before .before .next .result) _ _ _ (c .before .before .before .before .next .ensures) (c .before .before .from .given .1) in
+    let n = c .before .before .from .given .0 .1 .1 .0 - c .before .before .from .given .0 .1 .0 in
+    ap (λ b. eqb n (contentsLength b)) (sym (c .if1 .left)) ∙ sized-whole w (a .ring)
+
+pub is-sized-spec : {M : Type 1} → statement M
+is-sized-spec =
+    tie.close
+    (tie.spec
+    next-requires
+    enum-known-from
+    enum-told
+    returns
+    sub-result
+    returns-2
+    sub-result-2
+    returns-3)

@@ -1,0 +1,87 @@
+-- `sheet_fields::verdict` meets its contract: a field that is cut, of another tag, length or byte is none.
+-- Assumes nothing.
+use native.Mathlib.Omega.{arith}
+use mathlib.Core.Path.{sym, _∙_}
+use lib.ListN.{drop}
+use borrow.Author.Needs.{needs}
+use Rattle.claims.specs.Fields.{nextField}
+use Rattle.sheet_fields.proofs.Verdicts.{stands-whole, stands-cut, cut-at, tag-at, size-at, proved-at, refuted-at, neither-at}
+use Rattle.sheet_fields.proofs.verdict.Statement.{statement}
+use Rattle.sheet_fields.proofs.verdict.Tie as tie
+
+next-requires : tie.Need-next-requires
+next-requires c κs = search needs
+
+enum-known-tag : tie.Need-enum-known-tag
+enum-known-tag c = search needs
+
+enum-told : tie.Need-enum-told
+enum-told c = search needs
+
+returns : tie.Need-returns
+returns c =
+    let a = c .before .before .before .before .args in
+    cut-at (a .sheet .now) (a .at)
+    (stands-cut (a .sheet .now) (a .at) (nextField (drop (a .at) (a .sheet .now))) (c .before .before .next .result) (c .before .before .next .ensures) (c .enum-told .given .1))
+
+returns-2 : tie.Need-returns-2
+returns-2 c =
+    let a = c .before .before .before .before .before .before .args in
+    let w = stands-whole (a .sheet .now) (a .at) (nextField (drop (a .at) (a .sheet .now))) (c .before .before .before .before .next .result) _ _ _ (c .before .before .before .before .next .ensures) (c .before .before .tag .given .1) in
+    tag-at (a .sheet .now) (a .at) w (omega arith)
+
+sub-if2 : tie.Need-sub-if2
+sub-if2 c =
+    let a = c .before .before .before .before .before .before .args in
+    let w = stands-whole (a .sheet .now) (a .at) (nextField (drop (a .at) (a .sheet .now))) (c .before .before .before .before .next .result) _ _ _ (c .before .before .before .before .next .ensures) (c .before .before .tag .given .1) in
+    w .order
+
+returns-3 : tie.Need-returns-3
+returns-3 c =
+    let a = c .before .before .before .before .before .before .before .args in
+    let w = stands-whole (a .sheet .now) (a .at) (nextField (drop (a .at) (a .sheet .now))) (c .before .before .before .before .before .next .result) _ _ _ (c .before .before .before .before .before .next .ensures) (c .before .before .before .tag .given .1) in
+    size-at (a .sheet .now) (a .at) w (omega arith)
+
+shared-slice-read-wide : tie.Need-shared-slice-read-wide
+shared-slice-read-wide c =
+    let a = c .before .before .before .before .before .before .before .before .args in
+    let w = stands-whole (a .sheet .now) (a .at) (nextField (drop (a .at) (a .sheet .now))) (c .before .before .before .before .before .before .next .result) _ _ _ (c .before .before .before .before .before .before .next .ensures) (c .before .before .before .before .tag .given .1) in
+    omega (arith, w .inside, w .order)
+
+wide-requires : tie.Need-wide-requires
+wide-requires c κs = search needs
+
+returns-4 : tie.Need-returns-4
+returns-4 c =
+    let a = c .before .before .before .before .before .before .before .before .before .before .args in
+    let w = stands-whole (a .sheet .now) (a .at) (nextField (drop (a .at) (a .sheet .now))) (c .before .before .before .before .before .before .before .before .next .result) _ _ _ (c .before .before .before .before .before .before .before .before .next .ensures) (c .before .before .before .before .before .before .tag .given .1) in
+    proved-at (a .sheet .now) (a .at) w (omega arith) (omega arith) (sym (c .before .wide .ensures) ∙ omega arith)
+
+returns-5 : tie.Need-returns-5
+returns-5 c =
+    let a = c .before .before .before .before .before .before .before .before .before .before .before .args in
+    let w = stands-whole (a .sheet .now) (a .at) (nextField (drop (a .at) (a .sheet .now))) (c .before .before .before .before .before .before .before .before .before .next .result) _ _ _ (c .before .before .before .before .before .before .before .before .before .next .ensures) (c .before .before .before .before .before .before .before .tag .given .1) in
+    refuted-at (a .sheet .now) (a .at) w (omega arith) (omega arith) (sym (c .before .before .wide .ensures) ∙ omega arith)
+
+returns-6 : tie.Need-returns-6
+returns-6 c =
+    let a = c .before .before .before .before .before .before .before .before .before .before .before .args in
+    let w = stands-whole (a .sheet .now) (a .at) (nextField (drop (a .at) (a .sheet .now))) (c .before .before .before .before .before .before .before .before .before .next .result) _ _ _ (c .before .before .before .before .before .before .before .before .before .next .ensures) (c .before .before .before .before .before .before .before .tag .given .1) in
+    neither-at (a .sheet .now) (a .at) w (omega arith) (omega arith) (omega arith) (omega arith)
+
+pub verdict-spec : {M : Type 1} → statement M
+verdict-spec =
+    tie.close
+    (tie.spec
+    next-requires
+    enum-known-tag
+    enum-told
+    returns
+    returns-2
+    sub-if2
+    returns-3
+    shared-slice-read-wide
+    wide-requires
+    returns-4
+    returns-5
+    returns-6)
