@@ -1,0 +1,2 @@
+-- What each way through the functions says.
+pub mod Ways

@@ -1,0 +1,2 @@
+-- Which standings have to be listed, by the letters that are tried.
+pub mod Listed

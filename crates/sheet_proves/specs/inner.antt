@@ -1,0 +1,2 @@
+-- What each standing has to pass.
+pub mod Standings
