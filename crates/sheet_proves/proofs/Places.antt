@@ -4,9 +4,9 @@ use Prim.Native.Nat.{ℕ, zero, suc, _+_, _*_, _^_, _≤_, _<_}
 use native.Mathlib.Omega.{arith}
 use mathlib.Core.Path.{_≡_, sym, ap, subst}
 use mathlib.Core.Bool.{Bool, true, false}
-use mathlib.Core.List.{List, [], _∷_}
+use mathlib.Core.List.{List, _∷_}
 use lib.ListN.{getD, take, replicate}
-use Rattle.kat.specs.Lists.{In, here, there}
+use Rattle.kat.specs.Lists.{here, there}
 use Rattle.claims.specs.SheetWriting.{AllBytes}
 use Rattle.fields.proofs.Cells.{cells-small}
 use Rattle.sheet_cells.specs.Layout.{cellCount, cellStart, fieldLength, standingCells}
