@@ -27,11 +27,11 @@ pub record ListedAt (ring : Bool) (bs heads chain : List ℕ) (base count next :
   pub inside : next ≤ length bs
   pub index : Indexed heads chain (listedCells ring bs base) count
 
--- where the answer's standings, or its word, stand ("Sheet and graph bytes")
+-- where the answer's standings, or its word, stand; a part has at most 4,096 fields behind its verdict ("Sheet and graph bytes")
 abbrev pub Inside : Bool → List ℕ → List ℕ → List ℕ → Part → Type 0
 Inside ring bs heads chain (Proved base count next) = ListedAt ring bs heads chain base count next
 Inside ring bs heads chain (Refuted from to) = (from ≤ to) × (to ≤ length bs)
-Inside ring bs heads chain (Wrong i) = Unit {0}
+Inside ring bs heads chain (Wrong i) = i ≤ 4097
 
 -- the cells of the standings, in their order ("Sheet and graph bytes")
 abbrev pub cellsListed : Bool → List ℕ → ℕ → ℕ → List (List ℕ)

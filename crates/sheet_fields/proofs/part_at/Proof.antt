@@ -42,7 +42,7 @@ returns-2 c =
 returns-3 : tie.Need-returns-3
 returns-3 c =
     let a = c .before .before .before .before .args in
-    (tt, (λ left right D d k. part-wrong (a .f .ring) D (a .sheet .now) (a .at) k (c .before .before .verdict .result) (c .before .before .verdict .ensures) (omega arith) (omega arith)))
+    (omega arith, (λ left right D d k. part-wrong (a .f .ring) D (a .sheet .now) (a .at) k (c .before .before .verdict .result) (c .before .before .verdict .ensures) (omega arith) (omega arith)))
 
 pub part-at-spec : {M : Type 1} → statement M
 part-at-spec =

@@ -49,7 +49,7 @@ returns : tie.Need-returns Inv-loop μ-loop
 returns c =
     let a = c .before .before .before .before .before .before .args in
     let l = c .before .before .before .loop in (
-      tt,
+      omega arith,
       reading-full (a .f) (a .sheet .now) (all-bytes (a .sheet .now) (c .before .before .before .before .before .shared-slice-known .given)) (a .base) (l .n) (l .at) (l .inv .5) (omega arith)
           (sym (c .before .before .tagged .ensures) ∙ c .before .if1 .taken),
     )
@@ -66,7 +66,7 @@ returns-2 : tie.Need-returns-2 Inv-loop μ-loop
 returns-2 c =
     let a = c .before .before .before .before .before .before .before .before .before .before .args in
     let l = c .before .before .before .before .before .before .before .loop in (
-      tt,
+      omega arith,
       reading-wrong (a .f) (a .sheet .now) (all-bytes (a .sheet .now) (c .before .before .before .before .before .before .before .before .before .shared-slice-known .given)) (a .base) (l .n) (l .at) (l .inv .5) (omega arith)
           (sym (c .before .before .before .before .before .before .tagged .ensures) ∙ c .before .before .before .before .before .if1 .taken) (sym (c .before .may-list .ensures) ∙ not-true (c .before .may-list .result) (c .if3 .taken)),
     )

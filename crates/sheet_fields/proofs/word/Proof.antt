@@ -23,13 +23,13 @@ returns : tie.Need-returns
 returns c =
     let a = c .before .before .before .before .args in
     let e = stands-cut (a .sheet .now) (a .at) (nextField (drop (a .at) (a .sheet .now))) (c .before .before .next .result) (c .before .before .next .ensures) (c .enum-told .given .1) in
-    ((λ heads chain. tt), (λ left right D d k. word-cut d (a .sheet .now) (a .at) k e))
+    ((λ heads chain. omega arith), (λ left right D d k. word-cut d (a .sheet .now) (a .at) k e))
 
 returns-2 : tie.Need-returns-2
 returns-2 c =
     let a = c .before .before .before .before .before .before .args in
     let w = stands-whole (a .sheet .now) (a .at) (nextField (drop (a .at) (a .sheet .now))) (c .before .before .before .before .next .result) _ _ _ (c .before .before .before .before .next .ensures) (c .before .before .tag .given .1) in
-    ((λ heads chain. tt), (λ left right D d k. word-tag d (a .sheet .now) (a .at) k w (omega arith)))
+    ((λ heads chain. omega arith), (λ left right D d k. word-tag d (a .sheet .now) (a .at) k w (omega arith)))
 
 sub-bytes : tie.Need-sub-bytes
 sub-bytes c =
@@ -62,7 +62,7 @@ returns-4 : tie.Need-returns-4
 returns-4 c =
     let a = c .before .before .before .before .before .before .before .before .before .args in
     let w = stands-whole (a .sheet .now) (a .at) (nextField (drop (a .at) (a .sheet .now))) (c .before .before .before .before .before .before .before .next .result) _ _ _ (c .before .before .before .before .before .before .before .next .ensures) (c .before .before .before .before .before .tag .given .1) in
-    ((λ heads chain. tt), (λ left right D d k. word-wrong d (a .sheet .now) (a .at) k w (omega arith) (sym (c .before .fits2 .ensures) ∙ c .if2 .left)))
+    ((λ heads chain. omega arith), (λ left right D d k. word-wrong d (a .sheet .now) (a .at) k w (omega arith) (sym (c .before .fits2 .ensures) ∙ c .if2 .left)))
 
 pub word-spec : {M : Type 1} → statement M
 word-spec =

@@ -1,0 +1,41 @@
+-- `sheet::check` meets its contract: a refusal of the reader is handed on, and the sheet of an accepted query is checked.
+-- Assumes nothing.
+use borrow.Author.Needs.{needs}
+use Rattle.sheet.proofs.Ended.{refused-says, accepted-says}
+use Rattle.sheet.proofs.Evidence.{passes-proved, passes-refuted}
+use Rattle.sheet.proofs.check.Statement.{statement}
+use Rattle.sheet.proofs.check.Tie as tie
+use Rattle.sheet.proofs.check.Reads as reads
+use Rattle.sheet.proofs.check.Lts as lts
+use Rattle.query.proofs.read.Reads as read-reads
+use Rattle.sheet.proofs.whole.Reads as whole-reads
+
+read-requires : tie.Need-read-requires
+read-requires c κs = search needs
+
+enum-known-asked : tie.Need-enum-known-asked
+enum-known-asked c = search needs
+
+enum-known-asked-2 : tie.Need-enum-known-asked-2
+enum-known-asked-2 c = search needs
+
+whole-requires : tie.Need-whole-requires
+whole-requires c κs = search needs
+
+returns : tie.Need-returns
+returns c =
+    let r = c .before .before .before .read in
+    let says = refused-says _ _ (r .result) (r .ensures .0) _ _ (c .before .asked .given .1) in
+    (says, (passes-proved _ _ _ says, passes-refuted _ _ _ says))
+
+returns-2 : tie.Need-returns-2
+returns-2 c =
+    let a = c .before .before .before .before in
+    let r = a .before .before .read in
+    let says = accepted-says _ _ (r .result) (r .ensures .0) _ (a .asked2 .given .1) _ _ (r .ensures .2) (r .ensures .3) (c .whole .result) (c .whole .ensures) in
+    (says, (passes-proved _ _ _ says, passes-refuted _ _ _ says))
+
+pub check-spec : {M : Type 1} → statement M
+check-spec =
+    tie.close
+    (tie.spec read-requires enum-known-asked enum-known-asked-2 whole-requires returns returns-2)

@@ -1,0 +1,2 @@
+-- What was read and tested, as document 01 reads and tests it.
+pub mod Answers

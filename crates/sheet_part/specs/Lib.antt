@@ -1,0 +1,2 @@
+-- What is answered of a part of a sheet.
+pub mod Tests
