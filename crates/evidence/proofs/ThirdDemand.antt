@@ -1,0 +1,37 @@
+-- The third demand holds of the calls: from what a passing sheet is evidence of (`sheet`'s laws), and from each answer's own sheet, which passes as
+-- what the search answered.
+-- Assumes nothing.
+use mathlib.Core.Path.{subst}
+use Rattle.claims.specs.Refusals.{ok}
+use Rattle.claims.specs.Calls.{Answer, provedWith, refutedBy}
+use Rattle.claims.specs.Sheets.{passedAs}
+use Rattle.search_run.specs.declared.Outcome.{Outcome}
+use Rattle.search_run.specs.declared.Outcome.the-variants.{Proved, Refuted}
+use Rattle.search_run.specs.Outcomes.{Says as SaysAnswer}
+use Rattle.sheet.specs.declared.Checked.{Checked}
+use Rattle.sheet.specs.declared.Checked.the-variants.{Proved as PassesProved, Refuted as PassesRefuted}
+use Rattle.sheet.specs.Checks.{Says}
+use Rattle.sheet.proofs.Evidence.{passes-proved, passes-refuted}
+use Rattle.evidence.specs.ThirdDemand.{Confirms, ThirdDemand}
+use Rattle.evidence.proofs.Sizes.{OwnSheet, search-owns}
+
+-- an outcome is confirmed by what the sheet of its answer passes as
+confirms : (ans : Answer) (r : Outcome) → SaysAnswer (ok ans) r → (c : Checked) → Says (ok (passedAs ans)) c → Confirms r c
+confirms (provedWith n) (Proved m) s PassesProved p = tt
+confirms (refutedBy w) (Refuted m) s PassesRefuted p = tt
+
+-- the third demand
+pub third-demand : ThirdDemand
+third-demand =
+    record {
+      proved = passes-proved;
+      refuted = passes-refuted;
+      written = λ text allowance before after r gives answers.
+          let own : OwnSheet text (before .buffer) (after .buffer) r = search-owns text allowance before after r gives answers in
+          record {
+            sheet = own .sheet;
+            stands = own .stands;
+            part = own .part;
+            passes = λ c says. confirms (own .answer) r (own .says) c (subst (λ x. Says x c) (own .passes) says);
+          };
+    }

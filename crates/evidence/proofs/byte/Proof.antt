@@ -1,0 +1,23 @@
+-- `evidence::byte` meets its contract.
+-- Assumes nothing.
+use native.Mathlib.Omega.{arith}
+use mathlib.Core.Path.{refl, sym}
+use lib.ListN.{List·getD-eq-default}
+use borrow.Author.Needs.{needs}
+use Rattle.evidence.proofs.byte.Statement.{statement}
+use Rattle.evidence.proofs.byte.Tie as tie
+
+shared-slice-read-result : tie.Need-shared-slice-read-result
+shared-slice-read-result c = search needs
+
+cast-result : tie.Need-cast-result
+cast-result c = record { fits = omega (arith, c .shared-slice-known .given (c .before .before .args .at)) }
+
+returns : tie.Need-returns
+returns c = (refl, c .shared-slice-known .given (c .before .before .args .at) .fits)
+
+returns-2 : tie.Need-returns-2
+returns-2 c = (sym (List·getD-eq-default (c .before .args .bytes .now) 0 (c .if1 .left)), omega arith)
+
+pub byte-spec : {M : Type 1} → statement M
+byte-spec = tie.close (tie.spec shared-slice-read-result cast-result returns returns-2)

@@ -1,0 +1,50 @@
+-- The customer's third demand, about the calls `search::search` and `sheet::check`, for every text, every sheet, every allowance and every lent
+-- memory. It speaks of an answer of a call as that call's contract has it: `Says (check-call text sheet) c` is what `sheet::check` ensures
+-- of its answer c, and `Gives (search-call text allowance before) r after` is what `search::search` ensures of its outcome r and of what it
+-- leaves. (Document 01, "Sheet and graph bytes".)
+-- Assumes nothing.
+use Prim.Native.Nat.{ℕ}
+use mathlib.Core.Path.{_≡_}
+use mathlib.Core.List.{List, _++_}
+use lib.ListN.{length, take, drop}
+use Rattle.claims.specs.Calls.{Lent, search-call, check-call}
+use Rattle.search_run.specs.declared.Outcome.{Outcome}
+use Rattle.search_run.specs.declared.Outcome.the-variants.{Proved as ProvedBySearch, Refuted as RefutedBySearch, Refused as RefusedBySearch}
+use Rattle.search_run.specs.Outcomes.{Gives}
+use Rattle.sheet.specs.declared.Checked.{Checked}
+use Rattle.sheet.specs.declared.Checked.the-variants.{Proved, Refuted, Refused}
+use Rattle.sheet.specs.Checks.{Says}
+use Rattle.sheet.specs.Evidence.{HoldsInEveryGraph, DrawnGraphBreaks}
+use Rattle.evidence.specs.Sizes.{answerSize}
+
+-- the check says of the sheet what the search answered ("Sheet and graph bytes")
+abbrev pub Confirms : Outcome → Checked → Type 0
+Confirms (ProvedBySearch n) Proved = Unit {0}
+Confirms (ProvedBySearch n) Refuted = ⊥
+Confirms (ProvedBySearch n) (Refused why p) = ⊥
+Confirms (RefutedBySearch n) Proved = ⊥
+Confirms (RefutedBySearch n) Refuted = Unit {0}
+Confirms (RefutedBySearch n) (Refused why p) = ⊥
+Confirms (RefusedBySearch why p) c = ⊥
+
+-- the outcome is an answer, no refusal ("Refusals with an example each")
+abbrev pub Answers : Outcome → Type 0
+Answers (ProvedBySearch n) = Unit {0}
+Answers (RefutedBySearch n) = Unit {0}
+Answers (RefusedBySearch why p) = ⊥
+
+-- a sheet at the start of the buffer, as long as the outcome says, past which the buffer is as it was; and the check confirms the outcome by it
+-- ("Sheet and graph bytes")
+pub record PassingSheet (text before after : List ℕ) (r : Outcome) : Type 0 where
+  pub sheet : List ℕ
+  pub stands : after ≡ sheet ++ drop (length sheet) before
+  pub part : take (answerSize r after) after ≡ sheet
+  pub passes : (c : Checked) → Says (check-call text sheet) c → Confirms r c
+
+-- the third demand: a sheet that passes as proved has a claim that holds in every graph; the graph drawn from a sheet that passes as refuted
+-- breaks it; every sheet that the search writes passes, and says what the search answered ("Sheet and graph bytes")
+pub record ThirdDemand : Type 0 where
+  pub proved : (text sheet : List ℕ) (c : Checked) → Says (check-call text sheet) c → c ≡ Proved → HoldsInEveryGraph text
+  pub refuted : (text sheet : List ℕ) (c : Checked) → Says (check-call text sheet) c → c ≡ Refuted → DrawnGraphBreaks text sheet
+  pub written : (text : List ℕ) (allowance : ℕ) (before after : Lent) (r : Outcome) → Gives (search-call text allowance before) r after
+      → Answers r → PassingSheet text (before .buffer) (after .buffer) r

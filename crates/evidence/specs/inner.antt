@@ -1,0 +1,2 @@
+-- An outcome that the check confirms.
+pub mod Kept

@@ -1,0 +1,110 @@
+// Evidence for every answer: the search, and the check of the sheet that it wrote. (Document 01, "Sheet and graph bytes".) The two calls share
+// only the reading of the query; `specs/ThirdDemand.antt` says what they owe together.
+use refusals::Reason;
+use search_run::Outcome;
+use sheet::Checked;
+use words::least;
+ghost use Prim.Native.Nat.{_+_, _*_, _<_};
+ghost use mathlib.Core.Path.{_≡_};
+ghost use lib.ListN.{getD, take};
+ghost use Rattle.claims.specs.Calls.{search-call, check-call};
+ghost use Rattle.search_run.specs.Outcomes.{lentOf, Gives};
+ghost use Rattle.evidence.specs.Sizes.{atMost, answerSize};
+ghost use Rattle.evidence.specs.inner.Kept.{keptProved, keptRefuted, kept as keptBy};
+
+// The byte at a place as a number, 0 past the end.
+fn byte(bytes: &[u8], at: usize) -> usize
+    ensures { λ r. ⌜ (r ≡ getD (now (bytes .entry)) at 0) × (r < 256) ⌝ }
+{
+    if at < bytes.len() {
+        bytes[at] as usize
+    } else {
+        0
+    }
+}
+
+// The length of a proved sheet of n standings, the first of which has so long contents. It requires that two bytes say that, as they do in a
+// field, so that the sum fits.
+fn proved_size(n: usize, contents: usize) -> usize
+    requires { ⌜ contents < 65536 ⌝ }
+    ensures { λ r. ⌜ r ≡ atMost n (4 + (3 + contents) * n) ⌝ }
+{
+    if n <= 4096 { 4 + (3 + contents) * n } else { 0 }
+}
+
+// The length of a refuted sheet whose word has n relations.
+fn refuted_size(n: usize) -> usize
+    ensures { λ r. ⌜ r ≡ atMost n (8 + 2 * n) ⌝ }
+{
+    if n <= 4096 { 8 + 2 * n } else { 0 }
+}
+
+// The length of the sheet that an answer left at the start of the buffer; 0 for a refusal.
+pub fn sheet_size(r: Outcome, buffer: &[u8]) -> usize
+    ensures { λ n. ⌜ n ≡ answerSize r (now (buffer .entry)) ⌝ }
+{
+    match r {
+        Outcome::Proved(n) => proved_size(n, byte(buffer, 5) * 256 + byte(buffer, 6)),
+        Outcome::Refuted(n) => refuted_size(n),
+        Outcome::Refused(why, place) => 0,
+    }
+}
+
+// The sheet that an answer left at the start of the buffer.
+pub fn sheet_of(r: Outcome, buffer: &[u8]) -> &[u8]
+    ensures { λ s. ⌜ now s ≡ take (answerSize r (now (buffer .entry))) (now (buffer .entry)) ⌝ }
+{
+    let n = least(sheet_size(r, buffer), buffer.len());
+    &buffer[..n]
+}
+
+// Proved, if the check says so.
+fn kept_proved(n: usize, c: Checked) -> Outcome
+    ensures { λ o. ⌜ o ≡ keptProved n c ⌝ }
+{
+    match c {
+        Checked::Proved => Outcome::Proved(n),
+        Checked::Refuted => Outcome::Refused(Reason::DoesNotPass, 0),
+        Checked::Refused(why, place) => Outcome::Refused(Reason::DoesNotPass, 0),
+    }
+}
+
+// Refuted, if the check says so.
+fn kept_refuted(n: usize, c: Checked) -> Outcome
+    ensures { λ o. ⌜ o ≡ keptRefuted n c ⌝ }
+{
+    match c {
+        Checked::Proved => Outcome::Refused(Reason::DoesNotPass, 0),
+        Checked::Refuted => Outcome::Refuted(n),
+        Checked::Refused(why, place) => Outcome::Refused(Reason::DoesNotPass, 0),
+    }
+}
+
+// The outcome, if the check says the same of the sheet.
+fn kept(r: Outcome, text: &[u8], sheet: &[u8]) -> Outcome
+    ensures { λ o. ⌜ o ≡ keptBy r (check-call (now (text .entry)) (now (sheet .entry))) ⌝ }
+{
+    match r {
+        Outcome::Proved(n) => kept_proved(n, sheet::check(text, sheet)),
+        Outcome::Refuted(n) => kept_refuted(n, sheet::check(text, sheet)),
+        Outcome::Refused(why, place) => Outcome::Refused(why, place),
+    }
+}
+
+// The search, whose every answer is handed on only after the check of its sheet has said the same. That the outcome is nevertheless that of the
+// search, for every text, allowance and lent memory, is the end of the third demand: the check never fails a sheet that the search wrote.
+pub fn search_and_check(
+    text: &[u8],
+    allowance: usize,
+    records: &mut [[u64; 4]],
+    words: &mut [u64],
+    buffer: &mut [u8],
+) -> Outcome
+    ensures { λ r.
+        ⌜ Gives (search-call (now (text .entry)) allowance (lentOf (now (records .entry)) (now (words .entry)) (now (buffer .entry)))) r
+        (lentOf (now (records .exit)) (now (words .exit)) (now (buffer .exit))) ⌝ }
+{
+    let r = search::search(text, allowance, records, words, buffer);
+    let sheet = sheet_of(r, buffer);
+    kept(r, text, sheet)
+}
