@@ -1,5 +1,5 @@
--- The outcome of a search, kept by the check of its sheet, is the outcome: the sheet is the answer's own and passes as what the search answered, so
--- the check says the same. And what the check answers settles what is kept.
+-- The outcome of a search, kept by the check of its sheet, is the outcome: the sheet is the answer's own and passes as what the search
+-- answered, so the check says the same. And what the check answers settles what is kept.
 -- Assumes nothing.
 use Prim.Native.Nat.{ℕ}
 use mathlib.Core.Path.{_≡_, refl, sym, _∙_, ap, subst⁻¹}
@@ -30,12 +30,12 @@ refuted-by n (ok passedProved) PassesProved s = refl
 refuted-by n (ok passedRefuted) PassesRefuted s = refl
 refuted-by n (refused r) (Fails why p) s = refl
 
-pub kept-proved-by : (r : Outcome) (n : ℕ) (x : Result Passed) → r ≡ Proved n → (c : Checked) → Says x c → {o : Outcome} → o ≡ keptProved n c
-    → o ≡ kept r x
+pub kept-proved-by : (r : Outcome) (n : ℕ) (x : Result Passed) → r ≡ Proved n → (c : Checked) → Says x c
+    → {o : Outcome} → o ≡ keptProved n c → o ≡ kept r x
 kept-proved-by r n x e c s k = k ∙ proved-by n x c s ∙ ap (λ o. kept o x) (sym e)
 
-pub kept-refuted-by : (r : Outcome) (n : ℕ) (x : Result Passed) → r ≡ Refuted n → (c : Checked) → Says x c → {o : Outcome} → o ≡ keptRefuted n c
-    → o ≡ kept r x
+pub kept-refuted-by : (r : Outcome) (n : ℕ) (x : Result Passed) → r ≡ Refuted n → (c : Checked) → Says x c
+    → {o : Outcome} → o ≡ keptRefuted n c → o ≡ kept r x
 kept-refuted-by r n x e c s k = k ∙ refuted-by n x c s ∙ ap (λ o. kept o x) (sym e)
 
 pub kept-refused-by : (r : Outcome) (why : Reason) (p : ℕ) (x : Result Passed) → r ≡ Refused why p → Refused why p ≡ kept r x

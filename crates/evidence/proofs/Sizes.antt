@@ -1,6 +1,7 @@
--- The sheet of an answer, from the outcome and the buffer alone. After an answer of the search the buffer starts with that answer's own sheet
--- (claims' `answer-leaves-own-sheet`), and as many of its bytes as `answerSize` says are that sheet. The idea: a sheet's length is known from the
--- answer and the kind of the claim, the kind shows in the length of the first standing's field, and with no standing it does not matter.
+-- The sheet of an answer, from the outcome and the buffer alone. After an answer of the search the buffer starts with that answer's own
+-- sheet (claims' `answer-leaves-own-sheet`), and as many of its bytes as `answerSize` says are that sheet. The idea: a sheet's length is
+-- known from the answer and the kind of the claim, the kind shows in the length of the first standing's field, and with no standing it
+-- does not matter.
 -- Assumes nothing.
 use Prim.Native.Nat.{ℕ, zero, suc, _+_, _*_, _≤_, _<_, min}
 use native.Mathlib.Nat.{mul-zero, mul-le-mul}
@@ -61,7 +62,8 @@ unfolding answerSize
 proved-sized r buffer n hi lo e h l s =
     s ∙ (λ i. atMost n (4 + (3 + (h i * 256 + l i)) * n)) ∙ ap (λ o. answerSize o buffer) (sym e)
 
-pub refuted-sized : (r : Outcome) (buffer : List ℕ) (n : ℕ) → r ≡ Refuted n → {bytes : ℕ} → bytes ≡ atMost n (8 + 2 * n) → bytes ≡ answerSize r buffer
+pub refuted-sized : (r : Outcome) (buffer : List ℕ) (n : ℕ) → r ≡ Refuted n
+    → {bytes : ℕ} → bytes ≡ atMost n (8 + 2 * n) → bytes ≡ answerSize r buffer
 unfolding answerSize
 refuted-sized r buffer n e s = s ∙ ap (λ o. answerSize o buffer) (sym e)
 

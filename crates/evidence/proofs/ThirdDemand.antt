@@ -1,9 +1,9 @@
--- The third demand holds of the calls: from what a passing sheet is evidence of (`sheet`'s laws), and from each answer's own sheet, which passes as
--- what the search answered.
+-- The third demand holds of the calls: from what a passing sheet is evidence of (`sheet`'s laws), and from each answer's own sheet, which
+-- passes as what the search answered.
 -- Assumes nothing.
-use mathlib.Core.Path.{subst}
-use Rattle.claims.specs.Refusals.{ok}
-use Rattle.claims.specs.Calls.{Answer, provedWith, refutedBy}
+use mathlib.Core.Path.{_≡_, sym, subst}
+use Rattle.claims.specs.Refusals.{Result, ok}
+use Rattle.claims.specs.Calls.{Answer, provedWith, refutedBy, Passed}
 use Rattle.claims.specs.Sheets.{passedAs}
 use Rattle.search_run.specs.declared.Outcome.{Outcome}
 use Rattle.search_run.specs.declared.Outcome.the-variants.{Proved, Refuted}
@@ -20,6 +20,11 @@ confirms : (ans : Answer) (r : Outcome) → SaysAnswer (ok ans) r → (c : Check
 confirms (provedWith n) (Proved m) s PassesProved p = tt
 confirms (refutedBy w) (Refuted m) s PassesRefuted p = tt
 
+-- and the check has such an answer
+answered : (ans : Answer) {x : Result Passed} → ok (passedAs ans) ≡ x → (c : Checked) × Says x c
+answered (provedWith n) e = (PassesProved, subst (λ x. Says x PassesProved) e tt)
+answered (refutedBy w) e = (PassesRefuted, subst (λ x. Says x PassesRefuted) e tt)
+
 -- the third demand
 pub third-demand : ThirdDemand
 third-demand =
@@ -32,6 +37,7 @@ third-demand =
             sheet = own .sheet;
             stands = own .stands;
             part = own .part;
+            answered = answered (own .answer) (sym (own .passes));
             passes = λ c says. confirms (own .answer) r (own .says) c (subst (λ x. Says x c) (own .passes) says);
           };
     }

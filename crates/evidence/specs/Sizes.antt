@@ -1,5 +1,5 @@
--- How long the sheet of an answer is, from the outcome and the buffer: a refuted sheet by the length of its word, a proved one by the count and the
--- length that its first standing's field has. (Document 01, "Sheet and graph bytes".)
+-- How long the sheet of an answer is, from the outcome and the buffer: a refuted sheet by the length of its word, a proved one by the count
+-- and the length that its first standing's field has. (Document 01, "Sheet and graph bytes".)
 -- Assumes nothing.
 use Prim.Native.Nat.{ℕ, _+_, _*_}
 use mathlib.Core.Bool.{cond}

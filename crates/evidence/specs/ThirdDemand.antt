@@ -33,12 +33,13 @@ Answers (ProvedBySearch n) = Unit {0}
 Answers (RefutedBySearch n) = Unit {0}
 Answers (RefusedBySearch why p) = ⊥
 
--- a sheet at the start of the buffer, as long as the outcome says, past which the buffer is as it was; and the check confirms the outcome by it
--- ("Sheet and graph bytes")
+-- a sheet at the start of the buffer, as long as the outcome says, past which the buffer is as it was; the check has an answer to it, and each
+-- answer that it may give confirms the outcome ("Sheet and graph bytes")
 pub record PassingSheet (text before after : List ℕ) (r : Outcome) : Type 0 where
   pub sheet : List ℕ
   pub stands : after ≡ sheet ++ drop (length sheet) before
   pub part : take (answerSize r after) after ≡ sheet
+  pub answered : (c : Checked) × Says (check-call text sheet) c
   pub passes : (c : Checked) → Says (check-call text sheet) c → Confirms r c
 
 -- the third demand: a sheet that passes as proved has a claim that holds in every graph; the graph drawn from a sheet that passes as refuted

@@ -26,7 +26,9 @@ same-length-3 c = search needs
 
 returns : tie.Need-returns
 unfolding lentOf
-returns c = still-gives _ _ _ _ _ _ (c .before .before .before .before .before .before .before .before .search .ensures) (c .before .sheet-of .ensures) (c .kept .ensures)
+returns c =
+    still-gives _ _ _ _ _ _ (c .before .before .before .before .before .before .before .before .search .ensures)
+    (c .before .sheet-of .ensures) (c .kept .ensures)
 
 pub search-and-check-spec : {M : Type 1} → statement M
 search-and-check-spec =

@@ -33,7 +33,9 @@ enum-known-r-3 : tie.Need-enum-known-r-3
 enum-known-r-3 c = search needs
 
 returns : tie.Need-returns
-returns c = proved-sized _ _ _ _ _ (c .before .before .before .before .r .given .1) (c .before .before .byte .ensures .0) (c .before .byte2 .ensures .0) (c .proved-size .ensures)
+returns c =
+    let b = c .before .before in
+    proved-sized _ _ _ _ _ (b .before .before .r .given .1) (b .byte .ensures .0) (c .before .byte2 .ensures .0) (c .proved-size .ensures)
 
 returns-2 : tie.Need-returns-2
 returns-2 c = refuted-sized _ _ _ (c .before .before .r2 .given .1) (c .refuted-size .ensures)

@@ -1,4 +1,5 @@
--- An outcome of the search that is kept where the check says the same of a sheet, and is else no answer. (Document 01, "Sheet and graph bytes".)
+-- An outcome of the search that is kept where the check says the same of a sheet, and is else no answer. (Document 01, "Sheet and graph
+-- bytes".)
 -- Assumes nothing.
 use Prim.Native.Nat.{ℕ}
 use Rattle.claims.specs.Refusals.{Result, ok, refused}
