@@ -1,0 +1,79 @@
+// The drawn graph's bytes, from a query and a sheet from anybody: where the sheet passes as refuted, the graph that its word draws, which meets the
+// query's assumptions and breaks its claim. (Document 01, "Words", Drawn graph, and "Sheet and graph bytes".) The query and the sheet are checked
+// first, refusals 1 to 8, 13 and 14. For every input the answer is said, and every byte that was lent.
+use query::Answer;
+use refusals::Reason;
+use sheet::Checked;
+ghost use Prim.Native.Nat.{ℕ, _≤_};
+ghost use mathlib.Core.Path.{_≡_};
+ghost use lib.ListN.{length, take};
+ghost use Rattle.claims.specs.Refusals.{ok};
+ghost use Rattle.claims.specs.Calls.{passedRefuted, check-call};
+ghost use Rattle.draw_rows.specs.Rows.{eventCount};
+ghost use Rattle.draw_bytes.specs.Bytes.{bytesOf};
+ghost use Rattle.draw.specs.DrawCall.{drew, drawCall};
+ghost use Rattle.draw.specs.Drawings.{Draws};
+ghost use Rattle.draw.specs.Breaking.{JudgedToBreak};
+ghost use Rattle.draw.specs.declared.Drawing.the-variants.{Graph};
+
+// The graph's bytes, so many, stand at the start of the lent memory; the graph has so many events, more than 64; the sheet says proved; the
+// memory is shorter than the graph; or the reason and the place of a refusal. Only a graph changes the memory.
+pub enum Drawing {
+    Graph(usize),
+    TooLarge(usize),
+    Proved,
+    Short,
+    Refused(Reason, usize),
+}
+
+// The graph drawn from the numbers of a word, for a query of at most 16 relations, as the reader's are.
+fn draw_word(word: &[u8], ring: bool, closed: u64, relations: usize, out: &mut [u8]) -> Drawing
+    requires { ⌜ relations ≤ 16 ⌝ }
+    ensures { λ r. ⌜ Draws (drew (eventCount ring (length (now (word .entry))))
+        (bytesOf (now (word .entry)) (eventCount ring (length (now (word .entry)))) closed relations) (now (out .entry))) r (now (out .exit)) ⌝ }
+{
+    let n = draw_rows::event_count(ring, word.len());
+    if 64 < n {
+        return Drawing::TooLarge(n);
+    }
+    let size = draw_bytes::graph_length(word, n, closed, relations);
+    if out.len() < size {
+        return Drawing::Short;
+    }
+    draw_bytes::put_graph(out, word, n, closed, relations);
+    Drawing::Graph(size)
+}
+
+// The graph of a sheet that passes as refuted, which is required: its word stands behind seven bytes.
+fn draw_refuted(text: &[u8], sheet: &[u8], out: &mut [u8]) -> Drawing
+    requires { ⌜ check-call (now text) (now sheet) ≡ ok passedRefuted ⌝ }
+    ensures { λ r. ⌜ Draws (drawCall (now (text .entry)) (now (sheet .entry)) (now (out .entry))) r (now (out .exit)) ⌝ }
+{
+    let mut codes = [0u64; 4096];
+    let mut left = [0u64; 4241];
+    let mut right = [0u64; 4241];
+    let answer = query::read(text, &mut codes, &mut left, &mut right);
+    match answer {
+        Answer::Refused(why, place) => Drawing::Refused(why, place),
+        Answer::Accepted(f) => draw_word(
+            &sheet[7..],
+            f.ring,
+            draw_rows::closed_set(&codes),
+            f.relations,
+            out,
+        ),
+    }
+}
+
+// Draws the graph of a sheet for the query that the text is. The judge, given its bytes, answers that it meets the assumptions and breaks the claim.
+pub fn draw(text: &[u8], sheet: &[u8], out: &mut [u8]) -> Drawing
+    ensures draws { λ r. ⌜ Draws (drawCall (now (text .entry)) (now (sheet .entry)) (now (out .entry))) r (now (out .exit)) ⌝ }
+    ensures breaks { λ r. ⌜ ((n : ℕ) → r ≡ Graph n → JudgedToBreak (now (text .entry)) (take n (now (out .exit)))) ⌝ }
+{
+    let checked = sheet::check(text, sheet);
+    match checked {
+        Checked::Proved => Drawing::Proved,
+        Checked::Refused(why, place) => Drawing::Refused(why, place),
+        Checked::Refuted => draw_refuted(text, sheet, out),
+    }
+}
