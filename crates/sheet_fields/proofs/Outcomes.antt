@@ -173,14 +173,16 @@ module _ (ring : Bool) (D : Decision) (bs : List ℕ) (at k v : ℕ) (verdict : 
   unfolding partIn partFrom
   part-by a b p q = ap (λ c. by-verdict c (verdictIs 2 first)) p ∙ ap (by-verdict a) q
 
-  pub part-proved : v ≡ 1 → Reads ring D bs k (standingsIn D 4096 (suc k) [] (drop (at + 4) bs)) r → Reads ring D bs k (partIn D k (drop at bs)) r
+  pub part-proved : v ≡ 1 → Reads ring D bs k (standingsIn D 4096 (suc k) [] (drop (at + 4) bs)) r → Reads ring D bs k
+      (partIn D k (drop at bs)) r
   unfolding verdictOf
   part-proved e =
       subst⁻¹ (λ x. Reads ring D bs k x r)
       (part-by true (verdictIs 2 first) (verdict-one (verdictIs 1 first) (verdictIs 2 first) (sym e ∙ verdict .says)) refl
       ∙ ap (λ rest. standingsIn D 4096 (suc k) [] rest) (verdict .behind (omega arith)))
 
-  pub part-refuted : v ≡ 2 → Reads ring D bs k (wordFrom D (suc k) (nextField (drop (at + 4) bs))) r → Reads ring D bs k (partIn D k (drop at bs)) r
+  pub part-refuted : v ≡ 2 → Reads ring D bs k (wordFrom D (suc k) (nextField (drop (at + 4) bs))) r → Reads ring D bs k
+      (partIn D k (drop at bs)) r
   unfolding verdictOf
   part-refuted e =
       let (p, q) = verdict-two (verdictIs 1 first) (verdictIs 2 first) (sym e ∙ verdict .says) in

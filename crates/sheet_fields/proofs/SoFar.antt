@@ -1,5 +1,6 @@
 -- The standings of a part read so far: what is left to read, from where they end, is the whole reading; and each of them is one that a
--- sheet may list. One standing more keeps this; a wrong one, a 4,097th and the end decide. The idea: a field is taken as the next standing exactly
+-- sheet may list. One standing more keeps this; a wrong one, a 4,097th and the end decide. The idea: a field is taken as the next standing
+-- exactly
 -- where it may be listed, since cells show standings and equal cells equal ones.
 -- Assumes nothing.
 use Prim.Native.Nat.{ℕ, zero, suc, _+_, _*_, _-_, _≤_, _<_}
@@ -312,5 +313,6 @@ module _ {f : Facts} {left right : List ℕ} {D : Decision} (d : Decided f left 
                 ∙ ap (λ b. onward D (k + n) (map (cellsShow (D .ring) D) (cellsListed (D .ring) bs base n)) (drop at bs) (fuel - (n + 1))
                 (provided b (cellsShow (D .ring) D (standingCells (D .ring) bs at)))) m
                 ∙ ap₂ (λ ss rest. standingsIn D (fuel - (n + 1)) (suc (k + n)) ss rest) shown-more (sized-behind (D .ring) bs at long)
-                ∙ ap (λ j. standingsIn D (fuel - (n + 1)) j (map (cellsShow (D .ring) D) (cellsListed (D .ring) bs base (n + 1))) (drop (at + F) bs)) z;
+                ∙ ap (λ j. standingsIn D (fuel - (n + 1)) j (map (cellsShow (D .ring) D) (cellsListed (D .ring) bs base (n + 1)))
+                (drop (at + F) bs)) z;
           }

@@ -40,9 +40,9 @@ pub record WholeAt (bs : List ℕ) (at : ℕ) (field : FieldRead) (tag start end
   pub part : contents ≡ take (end - start) (drop start bs)
   pub behind : rest ≡ drop end bs
 
-pub stands-whole : (bs : List ℕ) (at : ℕ) (field : FieldRead) (answer : Field) (tag start end : ℕ) → Stands bs at field answer
-    → answer ≡ Whole tag start end → WholeAt bs at field tag start end
-stands-whole bs at field answer tag start end s e = go field (subst (Stands bs at field) e s)
+pub whole-here : (bs : List ℕ) (at : ℕ) {answer : Field} {tag start end : ℕ} → answer ≡ Whole tag start end
+    → Stands bs at (nextField (drop at bs)) answer → WholeAt bs at (nextField (drop at bs)) tag start end
+whole-here bs at {answer} {tag} {start} {end} e s = go (nextField (drop at bs)) (subst (Stands bs at (nextField (drop at bs))) e s)
   where
     go : (field : FieldRead) → Stands bs at field (Whole tag start end) → WholeAt bs at field tag start end
     go cut s = absurd s
@@ -58,8 +58,9 @@ stands-whole bs at field answer tag start end s e = go field (subst (Stands bs a
           behind = g;
         }
 
-pub stands-cut : (bs : List ℕ) (at : ℕ) (field : FieldRead) (answer : Field) → Stands bs at field answer → answer ≡ Cut → field ≡ cut
-stands-cut bs at field answer s e = go field (subst (Stands bs at field) e s)
+pub cut-here : (bs : List ℕ) (at : ℕ) {answer : Field} → answer ≡ Cut → Stands bs at (nextField (drop at bs)) answer
+    → nextField (drop at bs) ≡ cut
+cut-here bs at e s = go (nextField (drop at bs)) (subst (Stands bs at (nextField (drop at bs))) e s)
   where
     go : (field : FieldRead) → Stands bs at field Cut → field ≡ cut
     go cut s = refl

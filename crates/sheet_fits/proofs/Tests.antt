@@ -56,7 +56,8 @@ module _ (atoms l r : ℕ) (s : List ℕ) where
   unfolding ringFits firstIn flagIn
   tests =
       ap (λ h. ltb (h / 256 % 256) atoms && leb (h % 256) 1 && ltb (wide t 1) (2 ^ l) && rowsM && rowsN) (getD-take 67 s 0 0 (omega arith))
-      ∙ ap (λ w. ltb (getD s 0 0 / 256 % 256) atoms && leb (getD s 0 0 % 256) 1 && ltb w (2 ^ l) && rowsM && rowsN) (wide-taken 67 s 1 (omega arith))
+      ∙ ap (λ w. ltb (getD s 0 0 / 256 % 256) atoms && leb (getD s 0 0 % 256) 1 && ltb w (2 ^ l) && rowsM && rowsN)
+      (wide-taken 67 s 1 (omega arith))
 
   pub first-wrong : atoms ≤ getD s 0 0 / 256 % 256 → ringFits atoms l r t ≡ false
   first-wrong h = tests ∙ rw (le-ltb (getD s 0 0 / 256 % 256) atoms h)

@@ -1,4 +1,5 @@
--- A refuted sheet's word passes exactly where it refutes on cells: the cells of a decided claim show its standings, and the word that is read is
+-- A refuted sheet's word passes exactly where it refutes on cells: the cells of a decided claim show its standings, and the word that is
+-- read is
 -- the word that the bytes are.
 -- Assumes nothing.
 use Prim.Native.Nat.{ℕ, suc, _≤_}
@@ -50,7 +51,8 @@ module _ {f : Facts} {left right : List ℕ} {D : Decision} (d : Decided f left 
   unfolding factsOf
   decided-shows =
       subst⁻¹
-      (λ g. Shows (claimSystem D) (cellSystem (g .ring) (g .right) (g .live) (g .relations) left right) (cellsShow (D .ring) D) (GoodCells (D .ring) D))
+      (λ g. Shows (claimSystem D) (cellSystem (g .ring) (g .right) (g .live) (g .relations) left right) (cellsShow (D .ring) D)
+      (GoodCells (D .ring) D))
       (d .facts)
       (subst⁻¹
       (λ l. Shows (claimSystem D) (cellSystem (D .ring) (occurrences (D .right)) (setNumber 0 (D .live)) (D .relations) l right)
@@ -60,7 +62,8 @@ module _ {f : Facts} {left right : List ℕ} {D : Decision} (d : Decided f left 
       (λ r. Shows (claimSystem D) (cellSystem (D .ring) (occurrences (D .right)) (setNumber 0 (D .live)) (D .relations) (sideTable (D .left)) r)
       (cellsShow (D .ring) D) (GoodCells (D .ring) D))
       (d .right-table)
-      (cells-show letters-of (d .few-atoms) (d .live-rising) (d .few-left) (d .few-right) (d .few-right-of-rings) (occurrences (D .right)) refl)))
+      (cells-show letters-of (d .few-atoms) (d .live-rising) (d .few-left) (d .few-right) (d .few-right-of-rings)
+      (occurrences (D .right)) refl)))
 
   -- the word that is read is the word that the bytes are
   pub word-is-read : (ns : List ℕ) (w : Word) → wordOf D ns ≡ some w → wordRead ns ≡ w

@@ -69,11 +69,13 @@ module _ (ring : Bool) (n live relations : ℕ) (left right : List ℕ) (word : 
 
     module _ (t : List ℕ) where
       more : 1 < length bs - i
-          → completes W t (wordRead (drop i bs)) ≡ (bit a live && completes W (onwardCells ring n live relations left right t l) (wordRead (drop (i + 2) bs)))
+          → completes W t (wordRead (drop i bs)) ≡ (bit a live && completes W (onwardCells ring n live relations left right t l)
+          (wordRead (drop (i + 2) bs)))
       unfolding completes
       more h =
           ap (completes W t) (letter-left bs i h)
-          ∙ ap (λ b. b && completes W (onwardCells ring n live relations left right t l) (wordRead (drop (i + 2) bs))) (member-bit 64 live a word)
+          ∙ ap (λ b. b && completes W (onwardCells ring n live relations left right t l) (wordRead (drop (i + 2) bs)))
+          (member-bit 64 live a word)
 
       pub dead-stops : 1 < length bs - i → bit a live ≡ false → completes W t (wordRead (drop i bs)) ≡ false
       dead-stops h e =
@@ -99,11 +101,13 @@ module _ (ring : Bool) (n live relations : ℕ) (left right : List ℕ) (word : 
     atom-refutes h = ap (refuting W) (atom-left bs 0 (omega arith))
 
     letter-refutes : 2 ≤ length bs
-        → refuting W (wordRead bs) ≡ (bit (getD bs 0 0) live && completes W (beginCells ring n live relations left right first) (wordRead (drop 2 bs)))
+        → refuting W (wordRead bs) ≡ (bit (getD bs 0 0) live && completes W (beginCells ring n live relations left right first)
+        (wordRead (drop 2 bs)))
     unfolding refuting
     letter-refutes h =
         ap (refuting W) (letter-left bs 0 (omega arith))
-        ∙ ap (λ b. b && completes W (beginCells ring n live relations left right first) (wordRead (drop 2 bs))) (member-bit 64 live (getD bs 0 0) word)
+        ∙ ap (λ b. b && completes W (beginCells ring n live relations left right first) (wordRead (drop 2 bs)))
+        (member-bit 64 live (getD bs 0 0) word)
 
     pub dead-refutes : 2 ≤ length bs → bit (getD bs 0 0) live ≡ false → refuting W (wordRead bs) ≡ false
     dead-refutes h e =

@@ -8,7 +8,7 @@ use borrow.Author.Needs.{needs}
 use Rattle.claims.specs.Fields.{nextField}
 use Rattle.claims.specs.SheetBytes.{contentsLength}
 use Rattle.claims.specs.Width.{width, rowLength}
-use Rattle.sheet_fields.proofs.Verdicts.{stands-whole, stands-cut, sized-whole, sized-cut}
+use Rattle.sheet_fields.proofs.Verdicts.{whole-here, cut-here, sized-whole, sized-cut}
 use Rattle.sheet_fields.proofs.is_sized.Statement.{statement}
 use Rattle.sheet_fields.proofs.is_sized.Tie as tie
 
@@ -23,36 +23,45 @@ enum-told c = search needs
 
 returns : tie.Need-returns
 returns c =
+    let next′ = c .before .before .next in
     let a = c .before .before .before .before .args in
     sym (sized-cut (a .ring) (nextField (drop (a .at) (a .sheet .now)))
-    (stands-cut (a .sheet .now) (a .at) (nextField (drop (a .at) (a .sheet .now))) (c .before .before .next .result) (c .before .before .next .ensures) (c .enum-told .given .1)))
+    (cut-here (a .sheet .now) (a .at) (c .enum-told .given .1) (next′ .ensures)))
 
 sub-result : tie.Need-sub-result
 sub-result c =
+    let from′ = c .before .before .from in
+    let next′ = c .before .before .before .before .next in
     let a = c .before .before .before .before .before .before .args in
-    let w = stands-whole (a .sheet .now) (a .at) (nextField (drop (a .at) (a .sheet .now))) (c .before .before .before .before .next .result) _ _ _ (c .before .before .before .before .next .ensures) (c .before .before .from .given .1) in
+    let w = whole-here (a .sheet .now) (a .at) (from′ .given .1) (next′ .ensures) in
     w .order
 
 returns-2 : tie.Need-returns-2
 unfolding contentsLength width rowLength
 returns-2 c =
+    let from′ = c .before .before .from in
+    let next′ = c .before .before .before .before .next in
     let a = c .before .before .before .before .before .before .args in
-    let w = stands-whole (a .sheet .now) (a .at) (nextField (drop (a .at) (a .sheet .now))) (c .before .before .before .before .next .result) _ _ _ (c .before .before .before .before .next .ensures) (c .before .before .from .given .1) in
-    let n = c .before .before .from .given .0 .1 .1 .0 - c .before .before .from .given .0 .1 .0 in
+    let w = whole-here (a .sheet .now) (a .at) (from′ .given .1) (next′ .ensures) in
+    let n = from′ .given .0 .1 .1 .0 - from′ .given .0 .1 .0 in
     ap (λ b. eqb n (contentsLength b)) (sym (c .if1 .taken)) ∙ sized-whole w (a .ring)
 
 sub-result-2 : tie.Need-sub-result-2
 sub-result-2 c =
+    let from′ = c .before .before .from in
+    let next′ = c .before .before .before .before .next in
     let a = c .before .before .before .before .before .before .args in
-    let w = stands-whole (a .sheet .now) (a .at) (nextField (drop (a .at) (a .sheet .now))) (c .before .before .before .before .next .result) _ _ _ (c .before .before .before .before .next .ensures) (c .before .before .from .given .1) in
+    let w = whole-here (a .sheet .now) (a .at) (from′ .given .1) (next′ .ensures) in
     w .order
 
 returns-3 : tie.Need-returns-3
 unfolding contentsLength width rowLength
 returns-3 c =
+    let from′ = c .before .before .from in
+    let next′ = c .before .before .before .before .next in
     let a = c .before .before .before .before .before .before .args in
-    let w = stands-whole (a .sheet .now) (a .at) (nextField (drop (a .at) (a .sheet .now))) (c .before .before .before .before .next .result) _ _ _ (c .before .before .before .before .next .ensures) (c .before .before .from .given .1) in
-    let n = c .before .before .from .given .0 .1 .1 .0 - c .before .before .from .given .0 .1 .0 in
+    let w = whole-here (a .sheet .now) (a .at) (from′ .given .1) (next′ .ensures) in
+    let n = from′ .given .0 .1 .1 .0 - from′ .given .0 .1 .0 in
     ap (λ b. eqb n (contentsLength b)) (sym (c .if1 .left)) ∙ sized-whole w (a .ring)
 
 pub is-sized-spec : {M : Type 1} → statement M

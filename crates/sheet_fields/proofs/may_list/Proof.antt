@@ -27,27 +27,41 @@ load-requires c κs = search needs
 
 fits-requires : tie.Need-fits-requires
 fits-requires c κs =
+    let load′ = c .before .load in
+    let shared-slice-known′ = c .before .before .before .before .before .shared-slice-known in
     let a = c .before .before .before .before .before .before .args in
-    loaded-small (a .f .ring) (a .sheet .now) (a .at) (c .before .load .last .1 .1 .1 .0) (all-bytes (a .sheet .now) (c .before .before .before .before .before .shared-slice-known .given)) (c .before .load .ensures)
+    loaded-small (a .f .ring) (a .sheet .now) (a .at) (load′ .last .1 .1 .1 .0) (all-bytes (a .sheet .now) (shared-slice-known′ .given))
+    (load′ .ensures)
 
 returns-2 : tie.Need-returns-2
 returns-2 c =
+    let fits2′ = c .before .fits2 in
+    let load′ = c .before .before .before .load in
+    let if1′ = c .before .before .before .before .before .if1 in
+    let is-sized′ = c .before .before .before .before .before .before .is-sized in
     let a = c .before .before .before .before .before .before .before .before .args in
     sym (not-fitting (a .f .ring) (a .f .atoms) (a .f .left) (a .f .right) (a .sheet .now) (a .base) (a .n) (a .at)
-    (sym (c .before .before .before .before .before .before .is-sized .ensures) ∙ not-false (c .before .before .before .before .before .before .is-sized .result) (c .before .before .before .before .before .if1 .left))
-    (ap (cellsFit (a .f .ring) (a .f .atoms) (a .f .left) (a .f .right)) (sym (c .before .before .before .load .ensures)) ∙ sym (c .before .fits2 .ensures) ∙ not-true (c .before .fits2 .result) (c .if2 .taken)))
+    (sym (is-sized′ .ensures) ∙ not-false (is-sized′ .result) (if1′ .left))
+    (ap (cellsFit (a .f .ring) (a .f .atoms) (a .f .left) (a .f .right)) (sym (load′ .ensures)) ∙ sym (fits2′ .ensures) ∙ not-true
+    (fits2′ .result) (c .if2 .taken)))
 
 find-requires : tie.Need-find-requires
 find-requires c κs = c .before .before .before .before .before .before .before .before .before .pre
 
 returns-3 : tie.Need-returns-3
 returns-3 c =
+    let if2′ = c .before .before .if2 in
+    let fits2′ = c .before .before .before .fits2 in
+    let load′ = c .before .before .before .before .before .load in
+    let if1′ = c .before .before .before .before .before .before .before .if1 in
+    let is-sized′ = c .before .before .before .before .before .before .before .before .is-sized in
     let a = c .before .before .before .before .before .before .before .before .before .before .args in
     ap (λ k. eqb k 0) (c .find .ensures
-    ∙ ap (λ s. lastWhere (λ i. same (listedCells (a .f .ring) (a .sheet .now) (a .base) i) s) (a .n)) (c .before .before .before .before .before .load .ensures))
+    ∙ ap (λ s. lastWhere (λ i. same (listedCells (a .f .ring) (a .sheet .now) (a .base) i) s) (a .n)) (load′ .ensures))
     ∙ sym (found-decides (a .f .ring) (a .f .atoms) (a .f .left) (a .f .right) (a .sheet .now) (a .base) (a .n) (a .at)
-    (sym (c .before .before .before .before .before .before .before .before .is-sized .ensures) ∙ not-false (c .before .before .before .before .before .before .before .before .is-sized .result) (c .before .before .before .before .before .before .before .if1 .left))
-    (ap (cellsFit (a .f .ring) (a .f .atoms) (a .f .left) (a .f .right)) (sym (c .before .before .before .before .before .load .ensures)) ∙ sym (c .before .before .before .fits2 .ensures) ∙ not-false (c .before .before .before .fits2 .result) (c .before .before .if2 .left)))
+    (sym (is-sized′ .ensures) ∙ not-false (is-sized′ .result) (if1′ .left))
+    (ap (cellsFit (a .f .ring) (a .f .atoms) (a .f .left) (a .f .right)) (sym (load′ .ensures)) ∙ sym (fits2′ .ensures) ∙ not-false
+    (fits2′ .result) (if2′ .left)))
 
 pub may-list-spec : {M : Type 1} → statement M
 may-list-spec =

@@ -1,4 +1,5 @@
--- `sheet_fields::standings` meets its contract. The invariant: the standings before place `at` are in the index, and what is left to read is the whole reading. The measure
+-- `sheet_fields::standings` meets its contract. The invariant: the standings before place `at` are in the index, and what is left to read
+-- is the whole reading. The measure
 -- is how many may still follow.
 -- Assumes nothing.
 use Prim.Native.Nat.{suc, _+_, _*_, _-_, _≤_}
@@ -47,35 +48,47 @@ tagged-requires c κs = search needs
 
 returns : tie.Need-returns Inv-loop μ-loop
 returns c =
+    let if1′ = c .before .if1 in
+    let tagged′ = c .before .before .tagged in
+    let shared-slice-known′ = c .before .before .before .before .before .shared-slice-known in
     let a = c .before .before .before .before .before .before .args in
     let l = c .before .before .before .loop in (
-      omega arith,
-      reading-full (a .f) (a .sheet .now) (all-bytes (a .sheet .now) (c .before .before .before .before .before .shared-slice-known .given)) (a .base) (l .n) (l .at) (l .inv .5) (omega arith)
-          (sym (c .before .before .tagged .ensures) ∙ c .before .if1 .taken),
+      tt,
+      reading-full (a .f) (a .sheet .now) (all-bytes (a .sheet .now) (shared-slice-known′ .given)) (a .base) (l .n) (l .at) (l .inv .5)
+          (omega arith)
+          (sym (tagged′ .ensures) ∙ if1′ .taken),
     )
 
 may-list-requires : tie.Need-may-list-requires Inv-loop μ-loop
 may-list-requires c κs =
+    let args′ = c .before .before .before .before .before .before .before .before .args in
     let l = c .before .before .before .before .before .loop in
-    (l .inv .4, l .inv .0, subst (λ i. i ≤ length (c .before .before .before .before .before .before .before .before .args .sheet .now)) (l .inv .1) (l .inv .2))
+    (l .inv .4, l .inv .0, subst (λ i. i ≤ length (args′ .sheet .now)) (l .inv .1) (l .inv .2))
 
 add-t14 : tie.Need-add-t14 Inv-loop μ-loop
 add-t14 c = omega arith
 
 returns-2 : tie.Need-returns-2 Inv-loop μ-loop
 returns-2 c =
+    let may-list′ = c .before .may-list in
+    let if1′ = c .before .before .before .before .before .if1 in
+    let tagged′ = c .before .before .before .before .before .before .tagged in
+    let shared-slice-known′ = c .before .before .before .before .before .before .before .before .before .shared-slice-known in
     let a = c .before .before .before .before .before .before .before .before .before .before .args in
     let l = c .before .before .before .before .before .before .before .loop in (
-      omega arith,
-      reading-wrong (a .f) (a .sheet .now) (all-bytes (a .sheet .now) (c .before .before .before .before .before .before .before .before .before .shared-slice-known .given)) (a .base) (l .n) (l .at) (l .inv .5) (omega arith)
-          (sym (c .before .before .before .before .before .before .tagged .ensures) ∙ c .before .before .before .before .before .if1 .taken) (sym (c .before .may-list .ensures) ∙ not-true (c .before .may-list .result) (c .if3 .taken)),
+      tt,
+      reading-wrong (a .f) (a .sheet .now) (all-bytes (a .sheet .now) (shared-slice-known′ .given)) (a .base) (l .n) (l .at) (l .inv .5)
+          (omega arith)
+          (sym (tagged′ .ensures) ∙ if1′ .taken) (sym (may-list′ .ensures) ∙ not-true (may-list′ .result) (c .if3 .taken)),
     )
 
 add-requires : tie.Need-add-requires Inv-loop μ-loop
 add-requires c κs =
+    let if3′ = c .before .before .if3 in
+    let may-list′ = c .before .before .before .may-list in
     let a = c .before .before .before .before .before .before .before .before .before .before .before .before .args in
     let l = c .before .before .before .before .before .before .before .before .before .loop in
-    let m = sym (c .before .before .before .may-list .ensures) ∙ not-false (c .before .before .before .may-list .result) (c .before .before .if3 .left) in (
+    let m = sym (may-list′ .ensures) ∙ not-false (may-list′ .result) (if3′ .left) in (
       l .inv .4,
       omega arith,
       next-inside (fieldLength (a .f .ring)) (a .base) (l .n) (l .at) (length (a .sheet .now)) (l .inv .1)
@@ -88,9 +101,11 @@ add-n c = omega arith
 
 add-at : tie.Need-add-at Inv-loop μ-loop
 add-at c =
+    let if3′ = c .before .before .before .if3 in
+    let may-list′ = c .before .before .before .before .may-list in
     let a = c .before .before .before .before .before .before .before .before .before .before .before .before .before .args in
     let l = c .before .before .before .before .before .before .before .before .before .before .loop in
-    let m = sym (c .before .before .before .before .may-list .ensures) ∙ not-false (c .before .before .before .before .may-list .result) (c .before .before .before .if3 .left) in
+    let m = sym (may-list′ .ensures) ∙ not-false (may-list′ .result) (if3′ .left) in
     omega (
       arith,
       l .inv .3,
@@ -103,28 +118,44 @@ loop-less c = omega arith
 
 loop-again : tie.Need-loop-again Inv-loop μ-loop
 loop-again c =
+    let if3′ = c .before .before .before .if3 in
+    let may-list′ = c .before .before .before .before .may-list in
+    let if1′ = c .before .before .before .before .before .before .before .before .if1 in
+    let tagged′ = c .before .before .before .before .before .before .before .before .before .tagged in
+    let stride′ = c .before .before .before .before .before .before .before .before .before .before .before .stride in
+    let shared-slice-known′ = c .before .before .before .before .before .before .before .before .before .before .before .before .shared-slice-known in
     let a = c .before .before .before .before .before .before .before .before .before .before .before .before .before .args in
     let l = c .before .before .before .before .before .before .before .before .before .before .loop in
-    let m = sym (c .before .before .before .before .may-list .ensures) ∙ not-false (c .before .before .before .before .may-list .result) (c .before .before .before .if3 .left) in
+    let m = sym (may-list′ .ensures) ∙ not-false (may-list′ .result) (if3′ .left) in
     let room = sized-room (a .f .ring) (a .sheet .now) (l .at)
     (listable-sized (a .f .ring) (a .f .atoms) (a .f .left) (a .f .right) (a .sheet .now) (a .base) (l .n) (l .at) m) in
     let e : l .n + 1 ≡ suc (l .n) = omega arith in (
       omega arith,
-      omega (arith, l .inv .3, ap (λ k. fieldLength (a .f .ring) * k) e, next-place (fieldLength (a .f .ring)) (a .base) (l .n) (l .at) (l .inv .1)),
+      omega (
+        arith,
+        l .inv .3,
+        ap (λ k. fieldLength (a .f .ring) * k) e,
+        next-place (fieldLength (a .f .ring)) (a .base) (l .n) (l .at)
+            (l .inv .1),
+      ),
       omega (arith, l .inv .3, room),
       l .inv .3,
-      subst (λ k. Indexed (c .add .last .1 .1 .1 .0) (c .add .last .1 .1 .1 .1 .0) (listedCells (a .f .ring) (a .sheet .now) (a .base)) k) (sym e) (c .add .ensures),
-      reading-more (a .f) (a .sheet .now) (all-bytes (a .sheet .now) (c .before .before .before .before .before .before .before .before .before .before .before .before .shared-slice-known .given)) (a .base) (l .n) (l .at) (l .inv .5) (c .before .before .before .before .before .before .before .before .before .before .before .stride .result) (omega arith)
-          (sym (c .before .before .before .before .before .before .before .before .before .tagged .ensures) ∙ c .before .before .before .before .before .before .before .before .if1 .taken) m (l .inv .1) (l .inv .3),
+      subst (λ k. Indexed (c .add .last .1 .1 .1 .0) (c .add .last .1 .1 .1 .1 .0) (listedCells (a .f .ring) (a .sheet .now) (a .base)) k)
+          (sym e) (c .add .ensures),
+      reading-more (a .f) (a .sheet .now) (all-bytes (a .sheet .now) (shared-slice-known′ .given)) (a .base) (l .n) (l .at) (l .inv .5)
+          (stride′ .result) (omega arith)
+          (sym (tagged′ .ensures) ∙ if1′ .taken) m (l .inv .1) (l .inv .3),
     )
 
 returns-3 : tie.Need-returns-3 Inv-loop μ-loop
 returns-3 c =
+    let tagged′ = c .before .tagged in
+    let shared-slice-known′ = c .before .before .before .before .shared-slice-known in
     let a = c .before .before .before .before .before .args in
     let l = c .before .before .loop in (
       record { few = l .inv .0; places = sym (l .inv .1); inside = l .inv .2; index = l .inv .4 },
-      reading-end (a .f) (a .sheet .now) (all-bytes (a .sheet .now) (c .before .before .before .before .shared-slice-known .given)) (a .base) (l .n) (l .at) (l .inv .5)
-          (sym (c .before .tagged .ensures) ∙ c .if1 .left),
+      reading-end (a .f) (a .sheet .now) (all-bytes (a .sheet .now) (shared-slice-known′ .given)) (a .base) (l .n) (l .at) (l .inv .5)
+          (sym (tagged′ .ensures) ∙ c .if1 .left),
     )
 
 pub standings-spec : {M : Type 1} → statement M

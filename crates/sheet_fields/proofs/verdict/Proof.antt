@@ -2,10 +2,8 @@
 -- Assumes nothing.
 use native.Mathlib.Omega.{arith}
 use mathlib.Core.Path.{sym, _∙_}
-use lib.ListN.{drop}
 use borrow.Author.Needs.{needs}
-use Rattle.claims.specs.Fields.{nextField}
-use Rattle.sheet_fields.proofs.Verdicts.{stands-whole, stands-cut, cut-at, tag-at, size-at, proved-at, refuted-at, neither-at}
+use Rattle.sheet_fields.proofs.Verdicts.{whole-here, cut-here, cut-at, tag-at, size-at, proved-at, refuted-at, neither-at}
 use Rattle.sheet_fields.proofs.verdict.Statement.{statement}
 use Rattle.sheet_fields.proofs.verdict.Tie as tie
 
@@ -20,32 +18,41 @@ enum-told c = search needs
 
 returns : tie.Need-returns
 returns c =
+    let next′ = c .before .before .next in
     let a = c .before .before .before .before .args in
     cut-at (a .sheet .now) (a .at)
-    (stands-cut (a .sheet .now) (a .at) (nextField (drop (a .at) (a .sheet .now))) (c .before .before .next .result) (c .before .before .next .ensures) (c .enum-told .given .1))
+    (cut-here (a .sheet .now) (a .at) (c .enum-told .given .1) (next′ .ensures))
 
 returns-2 : tie.Need-returns-2
 returns-2 c =
+    let tag′ = c .before .before .tag in
+    let next′ = c .before .before .before .before .next in
     let a = c .before .before .before .before .before .before .args in
-    let w = stands-whole (a .sheet .now) (a .at) (nextField (drop (a .at) (a .sheet .now))) (c .before .before .before .before .next .result) _ _ _ (c .before .before .before .before .next .ensures) (c .before .before .tag .given .1) in
+    let w = whole-here (a .sheet .now) (a .at) (tag′ .given .1) (next′ .ensures) in
     tag-at (a .sheet .now) (a .at) w (omega arith)
 
 sub-if2 : tie.Need-sub-if2
 sub-if2 c =
+    let tag′ = c .before .before .tag in
+    let next′ = c .before .before .before .before .next in
     let a = c .before .before .before .before .before .before .args in
-    let w = stands-whole (a .sheet .now) (a .at) (nextField (drop (a .at) (a .sheet .now))) (c .before .before .before .before .next .result) _ _ _ (c .before .before .before .before .next .ensures) (c .before .before .tag .given .1) in
+    let w = whole-here (a .sheet .now) (a .at) (tag′ .given .1) (next′ .ensures) in
     w .order
 
 returns-3 : tie.Need-returns-3
 returns-3 c =
+    let tag′ = c .before .before .before .tag in
+    let next′ = c .before .before .before .before .before .next in
     let a = c .before .before .before .before .before .before .before .args in
-    let w = stands-whole (a .sheet .now) (a .at) (nextField (drop (a .at) (a .sheet .now))) (c .before .before .before .before .before .next .result) _ _ _ (c .before .before .before .before .before .next .ensures) (c .before .before .before .tag .given .1) in
+    let w = whole-here (a .sheet .now) (a .at) (tag′ .given .1) (next′ .ensures) in
     size-at (a .sheet .now) (a .at) w (omega arith)
 
 shared-slice-read-wide : tie.Need-shared-slice-read-wide
 shared-slice-read-wide c =
+    let tag′ = c .before .before .before .before .tag in
+    let next′ = c .before .before .before .before .before .before .next in
     let a = c .before .before .before .before .before .before .before .before .args in
-    let w = stands-whole (a .sheet .now) (a .at) (nextField (drop (a .at) (a .sheet .now))) (c .before .before .before .before .before .before .next .result) _ _ _ (c .before .before .before .before .before .before .next .ensures) (c .before .before .before .before .tag .given .1) in
+    let w = whole-here (a .sheet .now) (a .at) (tag′ .given .1) (next′ .ensures) in
     omega (arith, w .inside, w .order)
 
 wide-requires : tie.Need-wide-requires
@@ -53,20 +60,28 @@ wide-requires c κs = search needs
 
 returns-4 : tie.Need-returns-4
 returns-4 c =
+    let wide′ = c .before .wide in
+    let tag′ = c .before .before .before .before .before .before .tag in
+    let next′ = c .before .before .before .before .before .before .before .before .next in
     let a = c .before .before .before .before .before .before .before .before .before .before .args in
-    let w = stands-whole (a .sheet .now) (a .at) (nextField (drop (a .at) (a .sheet .now))) (c .before .before .before .before .before .before .before .before .next .result) _ _ _ (c .before .before .before .before .before .before .before .before .next .ensures) (c .before .before .before .before .before .before .tag .given .1) in
-    proved-at (a .sheet .now) (a .at) w (omega arith) (omega arith) (sym (c .before .wide .ensures) ∙ omega arith)
+    let w = whole-here (a .sheet .now) (a .at) (tag′ .given .1) (next′ .ensures) in
+    proved-at (a .sheet .now) (a .at) w (omega arith) (omega arith) (sym (wide′ .ensures) ∙ omega arith)
 
 returns-5 : tie.Need-returns-5
 returns-5 c =
+    let wide′ = c .before .before .wide in
+    let tag′ = c .before .before .before .before .before .before .before .tag in
+    let next′ = c .before .before .before .before .before .before .before .before .before .next in
     let a = c .before .before .before .before .before .before .before .before .before .before .before .args in
-    let w = stands-whole (a .sheet .now) (a .at) (nextField (drop (a .at) (a .sheet .now))) (c .before .before .before .before .before .before .before .before .before .next .result) _ _ _ (c .before .before .before .before .before .before .before .before .before .next .ensures) (c .before .before .before .before .before .before .before .tag .given .1) in
-    refuted-at (a .sheet .now) (a .at) w (omega arith) (omega arith) (sym (c .before .before .wide .ensures) ∙ omega arith)
+    let w = whole-here (a .sheet .now) (a .at) (tag′ .given .1) (next′ .ensures) in
+    refuted-at (a .sheet .now) (a .at) w (omega arith) (omega arith) (sym (wide′ .ensures) ∙ omega arith)
 
 returns-6 : tie.Need-returns-6
 returns-6 c =
+    let tag′ = c .before .before .before .before .before .before .before .tag in
+    let next′ = c .before .before .before .before .before .before .before .before .before .next in
     let a = c .before .before .before .before .before .before .before .before .before .before .before .args in
-    let w = stands-whole (a .sheet .now) (a .at) (nextField (drop (a .at) (a .sheet .now))) (c .before .before .before .before .before .before .before .before .before .next .result) _ _ _ (c .before .before .before .before .before .before .before .before .before .next .ensures) (c .before .before .before .before .before .before .before .tag .given .1) in
+    let w = whole-here (a .sheet .now) (a .at) (tag′ .given .1) (next′ .ensures) in
     neither-at (a .sheet .now) (a .at) w (omega arith) (omega arith) (omega arith) (omega arith)
 
 pub verdict-spec : {M : Type 1} → statement M

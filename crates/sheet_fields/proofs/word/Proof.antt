@@ -2,10 +2,8 @@
 -- Assumes nothing.
 use native.Mathlib.Omega.{arith}
 use mathlib.Core.Path.{sym, _∙_}
-use lib.ListN.{drop}
 use borrow.Author.Needs.{needs}
-use Rattle.claims.specs.Fields.{nextField}
-use Rattle.sheet_fields.proofs.Verdicts.{stands-whole, stands-cut}
+use Rattle.sheet_fields.proofs.Verdicts.{whole-here, cut-here}
 use Rattle.sheet_fields.proofs.Outcomes.{word-cut, word-tag, word-wrong, word-right}
 use Rattle.sheet_fields.proofs.word.Statement.{statement}
 use Rattle.sheet_fields.proofs.word.Tie as tie
@@ -21,32 +19,41 @@ enum-told c = search needs
 
 returns : tie.Need-returns
 returns c =
+    let next′ = c .before .before .next in
     let a = c .before .before .before .before .args in
-    let e = stands-cut (a .sheet .now) (a .at) (nextField (drop (a .at) (a .sheet .now))) (c .before .before .next .result) (c .before .before .next .ensures) (c .enum-told .given .1) in
-    ((λ heads chain. omega arith), (λ left right D d k. word-cut d (a .sheet .now) (a .at) k e))
+    let e = cut-here (a .sheet .now) (a .at) (c .enum-told .given .1) (next′ .ensures) in
+    ((λ heads chain. tt), (λ left right D d k. word-cut d (a .sheet .now) (a .at) k e))
 
 returns-2 : tie.Need-returns-2
 returns-2 c =
+    let tag′ = c .before .before .tag in
+    let next′ = c .before .before .before .before .next in
     let a = c .before .before .before .before .before .before .args in
-    let w = stands-whole (a .sheet .now) (a .at) (nextField (drop (a .at) (a .sheet .now))) (c .before .before .before .before .next .result) _ _ _ (c .before .before .before .before .next .ensures) (c .before .before .tag .given .1) in
-    ((λ heads chain. omega arith), (λ left right D d k. word-tag d (a .sheet .now) (a .at) k w (omega arith)))
+    let w = whole-here (a .sheet .now) (a .at) (tag′ .given .1) (next′ .ensures) in
+    ((λ heads chain. tt), (λ left right D d k. word-tag d (a .sheet .now) (a .at) k w (omega arith)))
 
 sub-bytes : tie.Need-sub-bytes
 sub-bytes c =
+    let tag′ = c .before .before .tag in
+    let next′ = c .before .before .before .before .next in
     let a = c .before .before .before .before .before .before .args in
-    let w = stands-whole (a .sheet .now) (a .at) (nextField (drop (a .at) (a .sheet .now))) (c .before .before .before .before .next .result) _ _ _ (c .before .before .before .before .next .ensures) (c .before .before .tag .given .1) in
+    let w = whole-here (a .sheet .now) (a .at) (tag′ .given .1) (next′ .ensures) in
     omega (arith, w .order, w .inside)
 
 part-bytes-start : tie.Need-part-bytes-start
 part-bytes-start c =
+    let tag′ = c .before .before .tag in
+    let next′ = c .before .before .before .before .next in
     let a = c .before .before .before .before .before .before .args in
-    let w = stands-whole (a .sheet .now) (a .at) (nextField (drop (a .at) (a .sheet .now))) (c .before .before .before .before .next .result) _ _ _ (c .before .before .before .before .next .ensures) (c .before .before .tag .given .1) in
+    let w = whole-here (a .sheet .now) (a .at) (tag′ .given .1) (next′ .ensures) in
     omega (arith, w .order, w .inside)
 
 part-bytes-end : tie.Need-part-bytes-end
 part-bytes-end c =
+    let tag′ = c .before .before .tag in
+    let next′ = c .before .before .before .before .next in
     let a = c .before .before .before .before .before .before .args in
-    let w = stands-whole (a .sheet .now) (a .at) (nextField (drop (a .at) (a .sheet .now))) (c .before .before .before .before .next .result) _ _ _ (c .before .before .before .before .next .ensures) (c .before .before .tag .given .1) in
+    let w = whole-here (a .sheet .now) (a .at) (tag′ .given .1) (next′ .ensures) in
     omega (arith, w .order, w .inside)
 
 fits-requires : tie.Need-fits-requires
@@ -54,15 +61,24 @@ fits-requires c κs = search needs
 
 returns-3 : tie.Need-returns-3
 returns-3 c =
+    let fits2′ = c .before .fits2 in
+    let tag′ = c .before .before .before .before .before .tag in
+    let next′ = c .before .before .before .before .before .before .before .next in
     let a = c .before .before .before .before .before .before .before .before .before .args in
-    let w = stands-whole (a .sheet .now) (a .at) (nextField (drop (a .at) (a .sheet .now))) (c .before .before .before .before .before .before .before .next .result) _ _ _ (c .before .before .before .before .before .before .before .next .ensures) (c .before .before .before .before .before .tag .given .1) in
-    ((λ heads chain. (w .order, w .inside)), (λ left right D d k. word-right d (a .sheet .now) (a .at) k w (omega arith) (sym (c .before .fits2 .ensures) ∙ c .if2 .taken)))
+    let w = whole-here (a .sheet .now) (a .at) (tag′ .given .1) (next′ .ensures) in (
+      (λ heads chain. (w .order, w .inside)),
+      (λ left right D d k. word-right d (a .sheet .now) (a .at) k w (omega arith)
+          (sym (fits2′ .ensures) ∙ c .if2 .taken)),
+    )
 
 returns-4 : tie.Need-returns-4
 returns-4 c =
+    let fits2′ = c .before .fits2 in
+    let tag′ = c .before .before .before .before .before .tag in
+    let next′ = c .before .before .before .before .before .before .before .next in
     let a = c .before .before .before .before .before .before .before .before .before .args in
-    let w = stands-whole (a .sheet .now) (a .at) (nextField (drop (a .at) (a .sheet .now))) (c .before .before .before .before .before .before .before .next .result) _ _ _ (c .before .before .before .before .before .before .before .next .ensures) (c .before .before .before .before .before .tag .given .1) in
-    ((λ heads chain. omega arith), (λ left right D d k. word-wrong d (a .sheet .now) (a .at) k w (omega arith) (sym (c .before .fits2 .ensures) ∙ c .if2 .left)))
+    let w = whole-here (a .sheet .now) (a .at) (tag′ .given .1) (next′ .ensures) in
+    ((λ heads chain. tt), (λ left right D d k. word-wrong d (a .sheet .now) (a .at) k w (omega arith) (sym (fits2′ .ensures) ∙ c .if2 .left)))
 
 pub word-spec : {M : Type 1} → statement M
 word-spec =

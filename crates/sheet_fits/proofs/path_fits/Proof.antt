@@ -20,24 +20,32 @@ below-requires c κs = search needs
 
 returns : tie.Need-returns
 returns c =
+    let below′ = c .before .below in
+    let word-at′ = c .before .before .word-at in
     let a = c .before .before .before .args in
     sym (left-wrong (a .l) (a .r) (a .s .now)
-    (ap (λ w. ltb w (2 ^ a .l)) (sym (c .before .before .word-at .ensures)) ∙ sym (c .before .below .ensures) ∙ not-true (c .before .below .result) (c .if1 .taken)))
+    (ap (λ w. ltb w (2 ^ a .l)) (sym (word-at′ .ensures)) ∙ sym (below′ .ensures) ∙ not-true (below′ .result) (c .if1 .taken)))
 
 word-at-requires-2 : tie.Need-word-at-requires-2
 word-at-requires-2 c κs =
-    let s = c .before .before .before .args .s .now in
-    (omega arith, small-cell 4 s (c .before .before .before .pre) 2 (omega arith), small-cell 4 s (c .before .before .before .pre) 3 (omega arith))
+    let pre′ = c .before .before .before .pre in
+    let args′ = c .before .before .before .args in
+    let s = args′ .s .now in
+    (omega arith, small-cell 4 s (pre′) 2 (omega arith), small-cell 4 s (pre′) 3 (omega arith))
 
 below-requires-2 : tie.Need-below-requires-2
 below-requires-2 c κs = search needs
 
 returns-2 : tie.Need-returns-2
 returns-2 c =
+    let word-at2′ = c .before .word-at2 in
+    let if1′ = c .before .before .if1 in
+    let below′ = c .before .before .before .below in
+    let word-at′ = c .before .before .before .before .word-at in
     let a = c .before .before .before .before .before .args in
-    c .below2 .ensures ∙ ap (λ w. ltb w (2 ^ a .r)) (c .before .word-at2 .ensures)
+    c .below2 .ensures ∙ ap (λ w. ltb w (2 ^ a .r)) (word-at2′ .ensures)
     ∙ sym (left-right (a .l) (a .r) (a .s .now)
-    (ap (λ w. ltb w (2 ^ a .l)) (sym (c .before .before .before .before .word-at .ensures)) ∙ sym (c .before .before .before .below .ensures) ∙ not-false (c .before .before .before .below .result) (c .before .before .if1 .left)))
+    (ap (λ w. ltb w (2 ^ a .l)) (sym (word-at′ .ensures)) ∙ sym (below′ .ensures) ∙ not-false (below′ .result) (if1′ .left)))
 
 pub path-fits-spec : {M : Type 1} → statement M
 path-fits-spec =

@@ -25,38 +25,51 @@ returns-2 c =
 
 word-at-requires : tie.Need-word-at-requires
 word-at-requires c κs =
-    let s = c .before .before .before .args .s .now in
-    (omega arith, small-cell 67 s (c .before .before .before .pre) 1 (omega arith), small-cell 67 s (c .before .before .before .pre) 2 (omega arith))
+    let pre′ = c .before .before .before .pre in
+    let args′ = c .before .before .before .args in
+    let s = args′ .s .now in
+    (omega arith, small-cell 67 s (pre′) 1 (omega arith), small-cell 67 s (pre′) 2 (omega arith))
 
 below-requires : tie.Need-below-requires
 below-requires c κs = search needs
 
 returns-3 : tie.Need-returns-3
 returns-3 c =
+    let below′ = c .before .below in
+    let word-at′ = c .before .before .word-at in
     let a = c .before .before .before .before .before .before .args in
     sym (set-wrong (a .atoms) (a .l) (a .r) (a .s .now) (omega arith) (omega arith)
-    (ap (λ w. ltb w (2 ^ a .l)) (sym (c .before .before .word-at .ensures)) ∙ sym (c .before .below .ensures) ∙ not-true (c .before .below .result) (c .if3 .taken)))
+    (ap (λ w. ltb w (2 ^ a .l)) (sym (word-at′ .ensures)) ∙ sym (below′ .ensures) ∙ not-true (below′ .result) (c .if3 .taken)))
 
 rows-fit-requires : tie.Need-rows-fit-requires
 rows-fit-requires c κs = search needs
 
 returns-4 : tie.Need-returns-4
 returns-4 c =
+    let rows-fit′ = c .before .rows-fit in
+    let if3′ = c .before .before .if3 in
+    let below′ = c .before .before .before .below in
+    let word-at′ = c .before .before .before .before .word-at in
     let a = c .before .before .before .before .before .before .before .before .args in
     sym (rows-m-wrong (a .atoms) (a .l) (a .r) (a .s .now) (omega arith) (omega arith)
-    (ap (λ w. ltb w (2 ^ a .l)) (sym (c .before .before .before .before .word-at .ensures)) ∙ sym (c .before .before .before .below .ensures) ∙ not-false (c .before .before .before .below .result) (c .before .before .if3 .left))
-    (sym (c .before .rows-fit .ensures) ∙ not-true (c .before .rows-fit .result) (c .if4 .taken)))
+    (ap (λ w. ltb w (2 ^ a .l)) (sym (word-at′ .ensures)) ∙ sym (below′ .ensures) ∙ not-false (below′ .result) (if3′ .left))
+    (sym (rows-fit′ .ensures) ∙ not-true (rows-fit′ .result) (c .if4 .taken)))
 
 rows-fit-requires-2 : tie.Need-rows-fit-requires-2
 rows-fit-requires-2 c κs = search needs
 
 returns-5 : tie.Need-returns-5
 returns-5 c =
+    let if4′ = c .before .if4 in
+    let rows-fit′ = c .before .before .rows-fit in
+    let if3′ = c .before .before .before .if3 in
+    let below′ = c .before .before .before .before .below in
+    let word-at′ = c .before .before .before .before .before .word-at in
     let a = c .before .before .before .before .before .before .before .before .before .args in
     c .rows-fit2 .ensures
     ∙ sym (rows-n-left (a .atoms) (a .l) (a .r) (a .s .now) (omega arith) (omega arith)
-    (ap (λ w. ltb w (2 ^ a .l)) (sym (c .before .before .before .before .before .word-at .ensures)) ∙ sym (c .before .before .before .before .below .ensures) ∙ not-false (c .before .before .before .before .below .result) (c .before .before .before .if3 .left))
-    (sym (c .before .before .rows-fit .ensures) ∙ not-false (c .before .before .rows-fit .result) (c .before .if4 .left)))
+    (ap (λ w. ltb w (2 ^ a .l)) (sym (word-at′ .ensures)) ∙ sym (below′ .ensures) ∙ not-false (below′ .result) (if3′ .left))
+    (sym (rows-fit′ .ensures) ∙ not-false (rows-fit′ .result) (if4′ .left)))
 
 pub ring-fits-spec : {M : Type 1} → statement M
 ring-fits-spec =

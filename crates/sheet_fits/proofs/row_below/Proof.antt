@@ -19,7 +19,10 @@ below-requires : tie.Need-below-requires
 below-requires c κs = search needs
 
 returns : tie.Need-returns
-returns c = c .below .ensures ∙ ap (λ k. ltb (c .before .before .args .m) (2 ^ (k + 1))) (c .before .least .ensures) ∙ row-test (c .before .before .args .m) (c .before .before .args .r) (omega arith)
+returns c =
+    let least′ = c .before .least in
+    let args′ = c .before .before .args in
+    c .below .ensures ∙ ap (λ k. ltb (args′ .m) (2 ^ (k + 1))) (least′ .ensures) ∙ row-test (args′ .m) (args′ .r) (omega arith)
 
 pub row-below-spec : {M : Type 1} → statement M
 row-below-spec = tie.close (tie.spec least-requires add-below below-requires returns)

@@ -10,13 +10,19 @@ row-of-n-requires : tie.Need-row-of-n-requires
 row-of-n-requires c κs = search needs
 
 returns : tie.Need-returns
-returns c = c .row-of-n .ensures ∙ ap (λ b. rowOf b (c .before .before .args .r) (c .before .before .args .p) (c .before .before .args .m)) (sym (c .before .if1 .taken))
+returns c =
+    let if1′ = c .before .if1 in
+    let args′ = c .before .before .args in
+    c .row-of-n .ensures ∙ ap (λ b. rowOf b (args′ .r) (args′ .p) (args′ .m)) (sym (if1′ .taken))
 
 row-of-m-requires : tie.Need-row-of-m-requires
 row-of-m-requires c κs = search needs
 
 returns-2 : tie.Need-returns-2
-returns-2 c = c .row-of-m .ensures ∙ ap (λ b. rowOf b (c .before .before .args .r) (c .before .before .args .p) (c .before .before .args .m)) (sym (c .before .if1 .left))
+returns-2 c =
+    let if1′ = c .before .if1 in
+    let args′ = c .before .before .args in
+    c .row-of-m .ensures ∙ ap (λ b. rowOf b (args′ .r) (args′ .p) (args′ .m)) (sym (if1′ .left))
 
 pub row-fits-spec : {M : Type 1} → statement M
 row-fits-spec = tie.close (tie.spec row-of-n-requires returns row-of-m-requires returns-2)

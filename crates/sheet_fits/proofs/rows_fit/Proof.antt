@@ -1,4 +1,5 @@
--- `sheet_fits::rows_fit` meets its contract. The invariant: what is left of the rows passes exactly where all do. The measure is how many are left.
+-- `sheet_fits::rows_fit` meets its contract. The invariant: what is left of the rows passes exactly where all do. The measure is how many
+-- are left.
 -- Assumes nothing.
 use Prim.Native.Nat.{_-_, _≤_}
 use native.Mathlib.Omega.{arith}
@@ -12,7 +13,8 @@ use Rattle.sheet_fits.proofs.rows_fit.Statement.{statement}
 use Rattle.sheet_fits.proofs.rows_fit.Tie as tie
 
 abbrev Inv-loop : tie.InvT-loop
-Inv-loop upper r s from p₀ p = (p ≤ 32) × (rowsPass (rowOf upper r) p (drop p (take 32 (drop from (take 67 s)))) ≡ rowsPass (rowOf upper r) 0 (take 32 (drop from (take 67 s))))
+Inv-loop upper r s from p₀ p = (p ≤ 32) × (rowsPass (rowOf upper r) p (drop p (take 32 (drop from (take 67 s)))) ≡ rowsPass
+    (rowOf upper r) 0 (take 32 (drop from (take 67 s))))
 
 abbrev μ-loop : tie.MeasureT-loop
 μ-loop upper r s from p₀ p = 32 - p
