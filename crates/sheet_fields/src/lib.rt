@@ -167,11 +167,11 @@ pub fn part_at(
         ⌜ ((left right : List ℕ) (D : Decision) → Decided f left right D → (k : ℕ)
         → Reads (f .ring) D (now (sheet .entry)) k (partIn D k (drop at (now (sheet .entry)))) r) ⌝ }
 {
-    let v = verdict(sheet, at);
-    if v == 1 {
+    let said = verdict(sheet, at);
+    if said == 1 {
         return standings(f, sheet, at + 4, heads, chain);
     }
-    if v == 2 {
+    if said == 2 {
         return word(f, sheet, at + 4);
     }
     Part::Wrong(0)

@@ -49,7 +49,7 @@ returns-3 : tie.Need-returns-3
 returns-3 c =
     let verdict′ = c .before .before .verdict in
     let a = c .before .before .before .before .args in (
-      tt,
+      omega arith,
       (λ left right D d k. part-wrong (a .f .ring) D (a .sheet .now) (a .at) k (verdict′ .result) (verdict′ .ensures) (omega arith)
           (omega arith)),
     )

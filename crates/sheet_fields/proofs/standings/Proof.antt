@@ -53,7 +53,7 @@ returns c =
     let shared-slice-known′ = c .before .before .before .before .before .shared-slice-known in
     let a = c .before .before .before .before .before .before .args in
     let l = c .before .before .before .loop in (
-      tt,
+      omega arith,
       reading-full (a .f) (a .sheet .now) (all-bytes (a .sheet .now) (shared-slice-known′ .given)) (a .base) (l .n) (l .at) (l .inv .5)
           (omega arith)
           (sym (tagged′ .ensures) ∙ if1′ .taken),
@@ -76,7 +76,7 @@ returns-2 c =
     let shared-slice-known′ = c .before .before .before .before .before .before .before .before .before .shared-slice-known in
     let a = c .before .before .before .before .before .before .before .before .before .before .args in
     let l = c .before .before .before .before .before .before .before .loop in (
-      tt,
+      omega arith,
       reading-wrong (a .f) (a .sheet .now) (all-bytes (a .sheet .now) (shared-slice-known′ .given)) (a .base) (l .n) (l .at) (l .inv .5)
           (omega arith)
           (sym (tagged′ .ensures) ∙ if1′ .taken) (sym (may-list′ .ensures) ∙ not-true (may-list′ .result) (c .if3 .taken)),

@@ -22,7 +22,7 @@ returns c =
     let next′ = c .before .before .next in
     let a = c .before .before .before .before .args in
     let e = cut-here (a .sheet .now) (a .at) (c .enum-told .given .1) (next′ .ensures) in
-    ((λ heads chain. tt), (λ left right D d k. word-cut d (a .sheet .now) (a .at) k e))
+    ((λ heads chain. omega arith), (λ left right D d k. word-cut d (a .sheet .now) (a .at) k e))
 
 returns-2 : tie.Need-returns-2
 returns-2 c =
@@ -30,7 +30,7 @@ returns-2 c =
     let next′ = c .before .before .before .before .next in
     let a = c .before .before .before .before .before .before .args in
     let w = whole-here (a .sheet .now) (a .at) (tag′ .given .1) (next′ .ensures) in
-    ((λ heads chain. tt), (λ left right D d k. word-tag d (a .sheet .now) (a .at) k w (omega arith)))
+    ((λ heads chain. omega arith), (λ left right D d k. word-tag d (a .sheet .now) (a .at) k w (omega arith)))
 
 sub-bytes : tie.Need-sub-bytes
 sub-bytes c =
@@ -78,7 +78,7 @@ returns-4 c =
     let next′ = c .before .before .before .before .before .before .before .next in
     let a = c .before .before .before .before .before .before .before .before .before .args in
     let w = whole-here (a .sheet .now) (a .at) (tag′ .given .1) (next′ .ensures) in
-    ((λ heads chain. tt), (λ left right D d k. word-wrong d (a .sheet .now) (a .at) k w (omega arith) (sym (fits2′ .ensures) ∙ c .if2 .left)))
+    ((λ heads chain. omega arith), (λ left right D d k. word-wrong d (a .sheet .now) (a .at) k w (omega arith) (sym (fits2′ .ensures) ∙ c .if2 .left)))
 
 pub word-spec : {M : Type 1} → statement M
 word-spec =
