@@ -12,11 +12,10 @@ ghost use Prim.Native.Nat.{ℕ, _+_, _^_, _≤_, _<_};
 ghost use mathlib.Core.Path.{_≡_};
 ghost use mathlib.Core.Bool.{cond, not, _&&_, _||_};
 ghost use lib.Bits.{bitOr};
-ghost use lib.ListN.{length, getD, take, drop};
+ghost use lib.ListN.{length, getD};
 ghost use Rattle.kat.specs.Lists.{isEmpty, member};
 ghost use Rattle.claims.specs.Query.{bit};
 ghost use Rattle.standings.specs.Steps.{enders, endsSet};
-ghost use Rattle.sheet_cells.specs.Layout.{wide};
 ghost use Rattle.sheet_cells.specs.RingCells.{firstIn, ringCovered, ringFinals};
 ghost use Rattle.sheet_cover.specs.inner.Rounds.{joinedWhere, round, rounds, endsBy, pairsOf, pairsBy};
 

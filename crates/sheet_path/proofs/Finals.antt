@@ -1,9 +1,9 @@
 -- The atoms with which a path standing completes a refuting word: some atom, and one atom.
 -- Assumes nothing.
 use Prim.Native.Nat.{ℕ, _^_, _<_}
-use mathlib.Core.Path.{_≡_, refl, sym, _∙_, ap, ap₂}
-use mathlib.Core.Bool.{Bool, true, false, not, _&&_, _||_}
-use mathlib.Core.List.{List, [], _∷_}
+use mathlib.Core.Path.{_≡_, sym, _∙_, ap, ap₂}
+use mathlib.Core.Bool.{Bool, not, _&&_}
+use mathlib.Core.List.{List}
 use Rattle.kat.specs.Lists.{isEmpty, filter, some, member}
 use Rattle.kat.proofs.Bools.{bool-ext, and-left, and-right, and-both}
 use Rattle.kat.proofs.Sets.{member-in, in-member, filter-in, in-filter}

@@ -64,7 +64,8 @@ pub fn onward(
     to: &mut [u64; 67],
 )
     requires { ⌜ ((i : ℕ) → getD (take 4 (now from)) i 0 < 2 ^ 32) ⌝ }
-    ensures { λ x. ⌜ (take 4 (now (to .exit)) ≡ pathOnward (now (left .entry)) (now (right .entry)) (take 4 (now (from .entry))) (record { atom = a; relation = r }))
+    ensures { λ x. ⌜ (take 4 (now (to .exit))
+        ≡ pathOnward (now (left .entry)) (now (right .entry)) (take 4 (now (from .entry))) (record { atom = a; relation = r }))
         × (drop 4 (now (to .exit)) ≡ drop 4 (now (to .entry)))
         × ((i : ℕ) → getD (take 4 (now (to .exit))) i 0 < 2 ^ 32) ⌝ }
 {

@@ -1,6 +1,6 @@
 -- `sheet_cover::completes` meets its contract.
 -- Assumes nothing.
-use mathlib.Core.Path.{refl, sym, _∙_, ap, ap₂}
+use mathlib.Core.Path.{refl, sym, _∙_, ap}
 use mathlib.Core.Bool.{not, _&&_}
 use Rattle.claims.specs.Query.{bit}
 use Rattle.standings.specs.Steps.{endsSet}

@@ -1,7 +1,6 @@
 -- `sheet_cover::turns_cover` meets its contract.
 -- Assumes nothing.
 use Prim.Native.Nat.{_/_, _%_}
-use native.Mathlib.Omega.{arith}
 use mathlib.Core.Path.{sym, _∙_, ap, ap₂}
 use mathlib.Core.Bool.{_||_}
 use Rattle.standings.specs.Steps.{enders}

@@ -2,7 +2,7 @@
 -- row k; the rounds through the numbers below hi close the table. (Document 01, "Standings".) And what the cover test seeks in the closed
 -- table.
 -- Assumes nothing.
-use Prim.Native.Nat.{ℕ, zero, suc, _+_, _-_}
+use Prim.Native.Nat.{ℕ, zero, suc, _-_}
 use mathlib.Core.Bool.{Bool, cond, _&&_, _||_}
 use mathlib.Core.List.{List}
 use lib.Bits.{bitOr}

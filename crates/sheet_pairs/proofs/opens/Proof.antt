@@ -1,6 +1,6 @@
 -- `sheet_pairs::opens` meets its contract.
 -- Assumes nothing.
-use Prim.Native.Nat.{_*_, _%_, _^_}
+use Prim.Native.Nat.{_^_}
 use native.Mathlib.Omega.{arith}
 use mathlib.Core.Path.{refl, sym, _∙_, ap}
 use mathlib.Core.Bool.{cond}

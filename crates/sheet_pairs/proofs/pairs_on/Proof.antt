@@ -1,7 +1,7 @@
 -- `sheet_pairs::pairs_on` meets its contract: the pairs that open are what 0 sends on.
 -- Assumes nothing.
 use native.Mathlib.Omega.{arith}
-use mathlib.Core.Path.{_≡_, refl, sym, _∙_, ap, ap₂}
+use mathlib.Core.Path.{_≡_, sym, _∙_, ap}
 use lib.ListN.{length}
 use mathlib.Core.Bool.{cond}
 use borrow.Author.Tests.{ne-eqb}

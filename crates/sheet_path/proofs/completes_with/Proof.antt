@@ -29,7 +29,8 @@ returns c =
     let m = p .before .before in
     let a = m .before .args in
     c .refutes .ensures
-    ∙ ap (λ b. b && refuting (a .left .now) (a .right .now) (p .left-of .result) (r .right-of .result) (a .a)) (sym (p .before .if1 .taken) ∙ m .member .ensures)
+    ∙ ap (λ b. b && refuting (a .left .now) (a .right .now) (p .left-of .result) (r .right-of .result) (a .a))
+    (sym (p .before .if1 .taken) ∙ m .member .ensures)
     ∙ finals-member (a .left .now) (a .right .now) (a .live) _ _ _ (p .left-of .ensures) (r .right-of .ensures) (a .a) (omega arith)
 
 returns-2 : tie.Need-returns-2

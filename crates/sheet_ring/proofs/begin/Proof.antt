@@ -1,7 +1,7 @@
 -- `sheet_ring::begin` meets its contract.
 -- Assumes nothing.
 use native.Mathlib.Omega.{arith}
-use mathlib.Core.Path.{_≡_, sym, _∙_, ap}
+use mathlib.Core.Path.{_≡_, _∙_, ap}
 use lib.ListN.{length}
 use Rattle.claims.specs.Standings.{Letter}
 use Rattle.sheet_cells.specs.RingCells.{flag}

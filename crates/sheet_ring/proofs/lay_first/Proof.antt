@@ -6,7 +6,6 @@ use lib.ListN.{length}
 use Rattle.words.specs.Memory.{zeros}
 use Rattle.words.proofs.Words.{words-length}
 use Rattle.sheet_ring.proofs.Standing.{rows-laid, cleared-length}
-use mathlib.Core.List.{_++_}
 use borrow.Author.Needs.{needs}
 use Rattle.sheet_ring.proofs.lay_first.Statement.{statement}
 use Rattle.sheet_ring.proofs.lay_first.Tie as tie

@@ -1,7 +1,7 @@
 -- `sheet_ring::onward` meets its contract.
 -- Assumes nothing.
 use native.Mathlib.Omega.{arith}
-use mathlib.Core.Path.{_≡_, sym, _∙_, ap}
+use mathlib.Core.Path.{_≡_, _∙_, ap}
 use mathlib.Core.Bool.{not, _||_}
 use lib.Dec.{eqb}
 use lib.ListN.{length}

@@ -1,7 +1,6 @@
 -- `sheet_ring::row_on` meets its contract: from an empty row nothing is read.
 -- Assumes nothing.
 use Prim.Native.Nat.{_*_, _%_, _^_}
-use native.Mathlib.Omega.{arith}
 use mathlib.Core.Path.{ap}
 use Rattle.sheet_cells.specs.RingCells.{raised}
 use Rattle.sheet_ring.proofs.Rows.{row-none}
