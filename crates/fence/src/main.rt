@@ -1,15 +1,155 @@
-// The query program. (Document 01, "The desk's cases".) It reads one query from standard input, of any number of bytes, and writes one line:
-// `proved` and the count of standings, `refuted` and the word, or `refusal`, number, `line`, place. From 4,097 bytes on a query is too
-// long, whatever follows, so no more are read.
-use libc::STDIN_FILENO;
-use libc::STDOUT_FILENO;
+// The program for all calls: a query's verdict, its sheet, the check of a sheet, the drawn graph. It reads files, calls what is proved of
+// slices, and writes: on standard output the line of document 01 ("The desk's cases") or the bytes, and on standard error, beside a
+// refusal, what it means. With no argument it is the query program of document 01. From 4,097 bytes on a query is too long, whatever follows,
+// so no more are read. A sheet is read up to 4 + 269 * 4,097 bytes: a longer one has a field within them that is wrong, the 4,097th standing
+// at the latest, or the field behind a refuted sheet's word, so that it is refused alike.
+use fence_call::Call;
+use fence_input::Input;
+use libc::STDERR_FILENO;
+
+// The argument that does not fit.
+fn wrong(i: usize) {
+    let mut word = io::buffer();
+    let n = os::arg(i, &mut word);
+    io::write_all(STDERR_FILENO, b"fence: this argument does not fit: ");
+    io::write_all(STDERR_FILENO, &word[..n]);
+    io::write_all(STDERR_FILENO, b"\nfence --help tells the calls\n");
+}
+
+// An argument is missing.
+fn short() {
+    io::write_all(
+        STDERR_FILENO,
+        b"fence: an argument is missing\nfence --help tells the calls\n",
+    );
+}
+
+// The call of a verdict or its sheet: the query is read, searched and shown.
+fn searched(
+    file: usize,
+    allowance: usize,
+    as_sheet: bool,
+    text: &mut [u8],
+    records: &mut [[u64; 4]],
+    words: &mut [u64],
+    buffer: &mut [u8],
+    out: &mut [u8],
+) {
+    let Input::Bytes(n) = fence_input::read(file, text) else {
+        return;
+    };
+    if as_sheet {
+        let r = search::search(texts::first(text, n), allowance, records, words, buffer);
+        fence_show::show_sheet(r, texts::first(text, n), buffer, out);
+        return;
+    }
+    fence_show::query(
+        texts::first(text, n),
+        allowance,
+        records,
+        words,
+        buffer,
+        out,
+    );
+}
+
+// The call of the check: the query and the sheet are read.
+fn checked(query: usize, sheet: usize, text: &mut [u8], buffer: &mut [u8], out: &mut [u8]) {
+    let Input::Bytes(n) = fence_input::read(query, text) else {
+        return;
+    };
+    let Input::Bytes(m) = fence_input::read(sheet, buffer) else {
+        return;
+    };
+    let r = sheet::check(texts::first(text, n), texts::first(buffer, m));
+    fence_show::show_check(r, texts::first(text, n), out);
+}
+
+// Draws the graph of a sheet.
+fn draw_from(as_text: bool, query: &[u8], sheet: &[u8], graph: &mut [u8], out: &mut [u8]) {
+    let r = draw::draw(query, sheet, graph);
+    fence_show::show_graph(r, as_text, query, sheet, graph, out);
+}
+
+// The call that draws: the query and the sheet are read.
+fn drawn(
+    as_text: bool,
+    query: usize,
+    sheet: usize,
+    text: &mut [u8],
+    buffer: &mut [u8],
+    graph: &mut [u8],
+    out: &mut [u8],
+) {
+    let Input::Bytes(n) = fence_input::read(query, text) else {
+        return;
+    };
+    let Input::Bytes(m) = fence_input::read(sheet, buffer) else {
+        return;
+    };
+    draw_from(
+        as_text,
+        texts::first(text, n),
+        texts::first(buffer, m),
+        graph,
+        out,
+    );
+}
+
+// One call, with memory for the largest allowance and its longest sheet, and for every drawn graph: 64 events and at most 4,096 edges, since
+// only where all steps of a ring have one relation does closing join every event with every other.
+fn run(
+    call: Call,
+    text: &mut [u8],
+    records: &mut [[u64; 4]],
+    words: &mut [u64],
+    buffer: &mut [u8],
+    graph: &mut [u8],
+    out: &mut [u8],
+) {
+    match call {
+        Call::Query(allowance, file) => searched(
+            file,
+            allowance,
+            false,
+            text,
+            records,
+            words,
+            buffer,
+            out,
+        ),
+        Call::Sheet(allowance, file) => searched(
+            file,
+            allowance,
+            true,
+            text,
+            records,
+            words,
+            buffer,
+            out,
+        ),
+        Call::Check(query, sheet) => checked(query, sheet, text, buffer, out),
+        Call::Draw(dot, query, sheet) => drawn(dot, query, sheet, text, buffer, graph, out),
+        Call::Help => fence_help::write_help(),
+        Call::Wrong(i) => wrong(i),
+        Call::Short => short(),
+    }
+}
 
 fn main() {
     let mut text = [0u8; 4097];
-    let n = io::read_full(STDIN_FILENO, &mut text);
-    let mut out = [0u8; 2048];
-    let m = fence_line::line(&text[..n], &mut out);
-    if m <= out.len() {
-        io::write_all(STDOUT_FILENO, &out[..m]);
-    }
+    let mut records = [[0u64; 4]; 4096];
+    let mut words = [0u64; 163840];
+    let mut buffer = [0u8; 1102097];
+    let mut graph = [0u8; 24832];
+    let mut out = [0u8; 262144];
+    run(
+        fence_input::call(),
+        &mut text,
+        &mut records,
+        &mut words,
+        &mut buffer,
+        &mut graph,
+        &mut out,
+    );
 }

@@ -82,3 +82,13 @@ program-line bs records words buffer after r e f g s a =
     says-line (search-call bs 200 (lentOf records words buffer) .result) r after s
     (λ w h. ap (λ (b : List ℕ). take (2 * size w + 1) (drop 7 b)) a ∙ word-stands bs 200 (lentOf records words buffer) w h)
     ∙ ap (λ (x : Lent). lineOf (search-call bs 200 x .result)) m ∙ sym (printed-200 bs)
+
+-- and the outcome of its call says the program's result
+pub program-says : (bs : List ℕ) (records : List (List ℕ)) (words buffer : List ℕ) (r : Outcome)
+    → records ≡ replicate 200 (0 ∷ 0 ∷ 0 ∷ 0 ∷ []) → words ≡ replicate 8000 0 → buffer ≡ replicate 53804 0
+    → Says (search-call bs 200 (lentOf records words buffer) .result) r → Says (programResult programAllowance bs) r
+unfolding programResult
+program-says bs records words buffer r e f g s =
+    subst (λ (x : Result Answer). Says x r)
+    (ap (λ (m : Lent). search-call bs 200 m .result) (lent-200 records words buffer e f g)
+    ∙ sym (ap (λ (n : ℕ). search-call bs n (memoryFor n) .result) (allowance-200 (asksRing bs)))) s

@@ -2,10 +2,20 @@
 // names beside an answer; the reader of queries is built apart.
 ghost use Prim.Native.Nat.{_+_, _≤_, min};
 ghost use mathlib.Core.Path.{_≡_};
-ghost use lib.ListN.{length, drop};
+ghost use lib.ListN.{length, take, drop};
 ghost use Rattle.claims.specs.Bytes.{same as sameBytes};
 ghost use Rattle.texts.specs.Lines.{front, back, inLine, inWord, behind, lineAt, declaredBy};
 ghost use Rattle.texts.specs.inner.Parts.{ofPart};
+
+// The first n bytes of a text, or all of it where it has fewer.
+pub fn first(text: &[u8], n: usize) -> &[u8]
+    ensures { λ r. ⌜ now r ≡ take n (now (text .entry)) ⌝ }
+{
+    if n <= text.len() {
+        return &text[..n];
+    }
+    text
+}
 
 // Whether two texts are the same.
 pub fn same(a: &[u8], b: &[u8]) -> bool

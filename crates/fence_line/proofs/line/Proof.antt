@@ -4,7 +4,7 @@ use native.Mathlib.Omega.{arith}
 use mathlib.Core.Path.{refl, ap}
 use Rattle.claims.specs.Calls.{Lent}
 use Rattle.search_run.specs.Outcomes.{lentOf}
-use Rattle.fence_line.proofs.OutcomeLines.{puts-same, program-line}
+use Rattle.fence_line.proofs.OutcomeLines.{puts-same, program-line, program-says}
 use borrow.Author.Needs.{needs}
 use Rattle.fence_line.proofs.line.Statement.{statement}
 use Rattle.fence_line.proofs.line.Tie as tie
@@ -34,9 +34,11 @@ returns : tie.Need-returns
 unfolding lentOf
 returns c =
     let t = c .before .before .before .before .before .before .before .before in
-    let o = c .before .before in
-    puts-same (program-line _ _ _ _ _ (t .search .result) refl refl refl (t .search .ensures .says) (ap (λ (m : Lent). m .buffer) (t .search .ensures .leaves)))
-    (o .outcome-line .ensures)
+    let o = c .before .before in (
+      puts-same (program-line _ _ _ _ _ (t .search .result) refl refl refl (t .search .ensures .says) (ap (λ (m : Lent). m .buffer) (t .search .ensures .leaves)))
+          (o .outcome-line .ensures),
+      program-says _ _ _ _ _ refl refl refl (t .search .ensures .says),
+    )
 
 pub line-spec : {M : Type 1} → statement M
 line-spec =

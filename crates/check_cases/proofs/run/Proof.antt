@@ -1,0 +1,4 @@
+use Rattle.check_cases.proofs.run.Statement.{statement}
+
+pub run-spec : {M : Type 1} → statement M
+run-spec = ?
