@@ -13,6 +13,9 @@ Inv-loop query buffer₀ n i₀ buffer i = (i ≤ n) × (length buffer ≡ lengt
 abbrev μ-loop : tie.MeasureT-loop
 μ-loop query buffer₀ n i₀ buffer i = n - i
 
+first-requires : tie.Need-first-requires Inv-loop μ-loop
+first-requires c κs = search needs
+
 cuts-requires : tie.Need-cuts-requires Inv-loop μ-loop
 cuts-requires c κs = search needs
 
@@ -43,6 +46,7 @@ edits-spec =
     (tie.spec
     Inv-loop
     μ-loop
+    first-requires
     cuts-requires
     loop-holds
     changes-requires
