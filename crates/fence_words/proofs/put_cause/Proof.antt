@@ -7,17 +7,11 @@ use borrow.Author.Needs.{needs}
 use Rattle.fence_words.proofs.put_cause.Statement.{statement}
 use Rattle.fence_words.proofs.put_cause.Tie as tie
 
-enum-told : tie.Need-enum-told
-enum-told c = search needs
-
 slice-aggregate-put-text : tie.Need-slice-aggregate-put-text
 slice-aggregate-put-text c = search needs
 
 put-text-requires : tie.Need-put-text-requires
 put-text-requires c κs = search needs
-
-enum-told-2 : tie.Need-enum-told-2
-enum-told-2 c = search needs
 
 slice-aggregate-put-text-2 : tie.Need-slice-aggregate-put-text-2
 slice-aggregate-put-text-2 c = search needs
@@ -25,17 +19,11 @@ slice-aggregate-put-text-2 c = search needs
 put-text-requires-2 : tie.Need-put-text-requires-2
 put-text-requires-2 c κs = search needs
 
-enum-told-3 : tie.Need-enum-told-3
-enum-told-3 c = search needs
-
 slice-aggregate-put-text-3 : tie.Need-slice-aggregate-put-text-3
 slice-aggregate-put-text-3 c = search needs
 
 put-text-requires-3 : tie.Need-put-text-requires-3
 put-text-requires-3 c κs = search needs
-
-enum-told-4 : tie.Need-enum-told-4
-enum-told-4 c = search needs
 
 slice-aggregate-put-text-4 : tie.Need-slice-aggregate-put-text-4
 slice-aggregate-put-text-4 c = search needs
@@ -43,17 +31,11 @@ slice-aggregate-put-text-4 c = search needs
 put-text-requires-4 : tie.Need-put-text-requires-4
 put-text-requires-4 c κs = search needs
 
-enum-told-5 : tie.Need-enum-told-5
-enum-told-5 c = search needs
-
 slice-aggregate-put-text-5 : tie.Need-slice-aggregate-put-text-5
 slice-aggregate-put-text-5 c = search needs
 
 put-text-requires-5 : tie.Need-put-text-requires-5
 put-text-requires-5 c κs = search needs
-
-enum-told-6 : tie.Need-enum-told-6
-enum-told-6 c = search needs
 
 slice-aggregate-put-text-6 : tie.Need-slice-aggregate-put-text-6
 slice-aggregate-put-text-6 c = search needs
@@ -61,17 +43,11 @@ slice-aggregate-put-text-6 c = search needs
 put-text-requires-6 : tie.Need-put-text-requires-6
 put-text-requires-6 c κs = search needs
 
-enum-told-7 : tie.Need-enum-told-7
-enum-told-7 c = search needs
-
 slice-aggregate-put-text-7 : tie.Need-slice-aggregate-put-text-7
 slice-aggregate-put-text-7 c = search needs
 
 put-text-requires-7 : tie.Need-put-text-requires-7
 put-text-requires-7 c κs = search needs
-
-enum-told-8 : tie.Need-enum-told-8
-enum-told-8 c = search needs
 
 slice-aggregate-put-text-8 : tie.Need-slice-aggregate-put-text-8
 slice-aggregate-put-text-8 c = search needs
@@ -79,17 +55,11 @@ slice-aggregate-put-text-8 c = search needs
 put-text-requires-8 : tie.Need-put-text-requires-8
 put-text-requires-8 c κs = search needs
 
-enum-told-9 : tie.Need-enum-told-9
-enum-told-9 c = search needs
-
 slice-aggregate-put-text-9 : tie.Need-slice-aggregate-put-text-9
 slice-aggregate-put-text-9 c = search needs
 
 put-text-requires-9 : tie.Need-put-text-requires-9
 put-text-requires-9 c κs = search needs
-
-enum-told-10 : tie.Need-enum-told-10
-enum-told-10 c = search needs
 
 slice-aggregate-put-text-10 : tie.Need-slice-aggregate-put-text-10
 slice-aggregate-put-text-10 c = search needs
@@ -97,17 +67,11 @@ slice-aggregate-put-text-10 c = search needs
 put-text-requires-10 : tie.Need-put-text-requires-10
 put-text-requires-10 c κs = search needs
 
-enum-told-11 : tie.Need-enum-told-11
-enum-told-11 c = search needs
-
 slice-aggregate-put-text-11 : tie.Need-slice-aggregate-put-text-11
 slice-aggregate-put-text-11 c = search needs
 
 put-text-requires-11 : tie.Need-put-text-requires-11
 put-text-requires-11 c κs = search needs
-
-enum-told-12 : tie.Need-enum-told-12
-enum-told-12 c = search needs
 
 slice-aggregate-put-text-12 : tie.Need-slice-aggregate-put-text-12
 slice-aggregate-put-text-12 c = search needs
@@ -115,17 +79,11 @@ slice-aggregate-put-text-12 c = search needs
 put-text-requires-12 : tie.Need-put-text-requires-12
 put-text-requires-12 c κs = search needs
 
-enum-told-13 : tie.Need-enum-told-13
-enum-told-13 c = search needs
-
 slice-aggregate-put-text-13 : tie.Need-slice-aggregate-put-text-13
 slice-aggregate-put-text-13 c = search needs
 
 put-text-requires-13 : tie.Need-put-text-requires-13
 put-text-requires-13 c κs = search needs
-
-enum-told-14 : tie.Need-enum-told-14
-enum-told-14 c = search needs
 
 slice-aggregate-put-text-14 : tie.Need-slice-aggregate-put-text-14
 slice-aggregate-put-text-14 c = search needs
@@ -133,17 +91,11 @@ slice-aggregate-put-text-14 c = search needs
 put-text-requires-14 : tie.Need-put-text-requires-14
 put-text-requires-14 c κs = search needs
 
-enum-told-15 : tie.Need-enum-told-15
-enum-told-15 c = search needs
-
 slice-aggregate-put-text-15 : tie.Need-slice-aggregate-put-text-15
 slice-aggregate-put-text-15 c = search needs
 
 put-text-requires-15 : tie.Need-put-text-requires-15
 put-text-requires-15 c κs = search needs
-
-enum-told-16 : tie.Need-enum-told-16
-enum-told-16 c = search needs
 
 slice-aggregate-put-text-16 : tie.Need-slice-aggregate-put-text-16
 slice-aggregate-put-text-16 c = search needs
@@ -151,26 +103,17 @@ slice-aggregate-put-text-16 c = search needs
 put-text-requires-16 : tie.Need-put-text-requires-16
 put-text-requires-16 c κs = search needs
 
-enum-told-17 : tie.Need-enum-told-17
-enum-told-17 c = search needs
-
 slice-aggregate-put-text-17 : tie.Need-slice-aggregate-put-text-17
 slice-aggregate-put-text-17 c = search needs
 
 put-text-requires-17 : tie.Need-put-text-requires-17
 put-text-requires-17 c κs = search needs
 
-enum-told-18 : tie.Need-enum-told-18
-enum-told-18 c = search needs
-
 slice-aggregate-put-text-18 : tie.Need-slice-aggregate-put-text-18
 slice-aggregate-put-text-18 c = search needs
 
 put-text-requires-18 : tie.Need-put-text-requires-18
 put-text-requires-18 c κs = search needs
-
-enum-told-19 : tie.Need-enum-told-19
-enum-told-19 c = search needs
 
 slice-aggregate-put-text-19 : tie.Need-slice-aggregate-put-text-19
 slice-aggregate-put-text-19 c = search needs
@@ -315,61 +258,61 @@ pub put-cause-spec : {M : Type 1} → statement M
 put-cause-spec =
     tie.close
     (tie.spec
-    enum-told
+    (λ c. search needs)
     slice-aggregate-put-text
     put-text-requires
-    enum-told-2
+    (λ c. search needs)
     slice-aggregate-put-text-2
     put-text-requires-2
-    enum-told-3
+    (λ c. search needs)
     slice-aggregate-put-text-3
     put-text-requires-3
-    enum-told-4
+    (λ c. search needs)
     slice-aggregate-put-text-4
     put-text-requires-4
-    enum-told-5
+    (λ c. search needs)
     slice-aggregate-put-text-5
     put-text-requires-5
-    enum-told-6
+    (λ c. search needs)
     slice-aggregate-put-text-6
     put-text-requires-6
-    enum-told-7
+    (λ c. search needs)
     slice-aggregate-put-text-7
     put-text-requires-7
-    enum-told-8
+    (λ c. search needs)
     slice-aggregate-put-text-8
     put-text-requires-8
-    enum-told-9
+    (λ c. search needs)
     slice-aggregate-put-text-9
     put-text-requires-9
-    enum-told-10
+    (λ c. search needs)
     slice-aggregate-put-text-10
     put-text-requires-10
-    enum-told-11
+    (λ c. search needs)
     slice-aggregate-put-text-11
     put-text-requires-11
-    enum-told-12
+    (λ c. search needs)
     slice-aggregate-put-text-12
     put-text-requires-12
-    enum-told-13
+    (λ c. search needs)
     slice-aggregate-put-text-13
     put-text-requires-13
-    enum-told-14
+    (λ c. search needs)
     slice-aggregate-put-text-14
     put-text-requires-14
-    enum-told-15
+    (λ c. search needs)
     slice-aggregate-put-text-15
     put-text-requires-15
-    enum-told-16
+    (λ c. search needs)
     slice-aggregate-put-text-16
     put-text-requires-16
-    enum-told-17
+    (λ c. search needs)
     slice-aggregate-put-text-17
     put-text-requires-17
-    enum-told-18
+    (λ c. search needs)
     slice-aggregate-put-text-18
     put-text-requires-18
-    enum-told-19
+    (λ c. search needs)
     slice-aggregate-put-text-19
     put-text-requires-19
     same-length
