@@ -29,8 +29,9 @@ use Rattle.bits.specs.Sets.{including}
 use Rattle.bits.proofs.Bit.{bit-none}
 use Rattle.bits.proofs.Rows.{bit-including, including-in}
 use lib.Bits.{or-zero-l}
-use Rattle.draw_rows.specs.Rows.{eventCount, nextEvent, stepRow, stepRows, rounds, relationRows}
-use Rattle.draw_rows.proofs.Rounds.{rounds-closure, rounds-below}
+use Rattle.rows.specs.Rows.{rounds}
+use Rattle.rows.proofs.Rounds.{rounds-closure, rounds-below}
+use Rattle.draw_rows.specs.Rows.{eventCount, nextEvent, stepRow, stepRows, relationRows}
 
 -- the number of events, by the length of the word
 pub count-line : (w : Word) → eventCount false (length (numbers w)) ≡ suc (size w)

@@ -1,5 +1,5 @@
--- Rows by steps and rounds.
-pub mod Rounds
+-- Rows by steps.
+pub mod Steps
 -- Which relations are closed.
 pub mod ClosedLines
 -- What they show of the drawn graph.

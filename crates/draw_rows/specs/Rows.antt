@@ -2,16 +2,15 @@
 -- "Words", Drawn graph.) A word is given by its numbers: atom, relation, atom, .., atom, so that the relation of the step from event x
 -- stands at place 2 x + 1. Which relations are closed is a set too, from the codes of the query.
 -- Assumes nothing.
-use Prim.Native.Nat.{ℕ, zero, suc, _+_, _*_, _-_, _/_}
+use Prim.Native.Nat.{ℕ, _+_, _*_, _-_, _/_}
 use mathlib.Core.Bool.{Bool, cond}
 use mathlib.Core.List.{List, [], _∷_}
-use lib.Bits.{bitOr}
 use lib.Dec.{eqb, ltb, leb}
 use lib.ListN.{length, getD}
-use Rattle.claims.specs.Query.{bit}
 use Rattle.codes.specs.Codes.{CLOSED-LINE}
-use Rattle.words.specs.Memory.{words, changed}
+use Rattle.words.specs.Memory.{words}
 use Rattle.bits.specs.Sets.{including}
+use Rattle.rows.specs.Rows.{rounds}
 
 -- the set s, and the relation whose `closed` line ends with code k ("The query")
 unfoldable pub closedWith : ℕ → ℕ → ℕ
@@ -38,19 +37,6 @@ stepRow bs n r x =
 -- the steps of relation r ("Words")
 unfoldable pub stepRows : List ℕ → ℕ → ℕ → List ℕ
 stepRows bs n r = words 64 (stepRow bs n r)
-
--- the rows below n that have k, joined with c ("Words")
-unfoldable pub joinedWhere : List ℕ → ℕ → ℕ → ℕ → List ℕ
-joinedWhere t c k n = changed (λ x w. bitOr w (cond (bit k w) c 0)) t 0 n
-
--- a round through k: the rows below n that have k, joined with row k ("Words")
-unfoldable pub round : List ℕ → ℕ → ℕ → List ℕ
-round t k n = joinedWhere t (getD t k 0) k n
-
--- the rounds through the numbers below k ("Words")
-unfoldable pub rounds : List ℕ → ℕ → ℕ → List ℕ
-rounds t n zero = t
-rounds t n (suc k) = round (rounds t n k) k n
 
 -- the edges of relation r among n events, closed or not ("Words")
 unfoldable pub relationRows : List ℕ → ℕ → ℕ → Bool → List ℕ

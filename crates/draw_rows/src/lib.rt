@@ -1,17 +1,12 @@
 // The edges of a drawn graph as sets: a relation is a table of 64 rows, and bit y of row x is the edge from event x to event y. (Document 01,
 // "Words", Drawn graph.) The steps of a word lead from each event to the next, the last of a ring to the first; a closed relation is then
-// closed, by rounds: in round k a row that has k is joined with row k, which itself does not change.
-use bits::member;
+// closed.
 use bits::with;
-use words::word as row;
 ghost use Prim.Native.Nat.{_≤_, _<_};
 ghost use mathlib.Core.Path.{_≡_};
-ghost use mathlib.Core.Bool.{cond};
-ghost use lib.Bits.{bitOr};
 ghost use lib.ListN.{length};
-ghost use Rattle.claims.specs.Query.{bit};
 ghost use Rattle.words.specs.Memory.{words};
-ghost use Rattle.draw_rows.specs.Rows.{closedWith, closedSet, eventCount, nextEvent, stepRow, joinedWhere, rounds, relationRows};
+ghost use Rattle.draw_rows.specs.Rows.{closedWith, closedSet, eventCount, nextEvent, stepRow, relationRows};
 
 // The set s, and the relation whose `closed` line ends with the code.
 fn closed_with(s: u64, code: u64) -> u64
@@ -98,37 +93,6 @@ fn step_rows(word: &[u8], n: usize, r: usize, rows: &mut [u64])
     }
 }
 
-// A row w joined with c where it has k.
-fn merged(w: u64, c: u64, k: usize) -> u64
-    ensures { λ r. ⌜ r ≡ bitOr w (cond (bit k w) c 0) ⌝ }
-{
-    if member(w, k) { w | c } else { w }
-}
-
-// The rows below n that have k, joined with c. There are so many rows.
-fn join_where(t: &mut [u64], c: u64, k: usize, n: usize)
-    requires { ⌜ n ≤ length (now t) ⌝ }
-    ensures { λ r. ⌜ now (t .exit) ≡ joinedWhere (now (t .entry)) c k n ⌝ }
-{
-    let mut x = 0;
-    while x < n {
-        t[x] = merged(t[x], c, k);
-        x += 1;
-    }
-}
-
-// The rows below n, closed. There are so many rows.
-fn close(t: &mut [u64], n: usize)
-    requires { ⌜ n ≤ length (now t) ⌝ }
-    ensures { λ r. ⌜ now (t .exit) ≡ rounds (now (t .entry)) n n ⌝ }
-{
-    let mut k = 0;
-    while k < n {
-        join_where(t, row(t, k), k, n);
-        k += 1;
-    }
-}
-
 // The edges of relation r among n events, which is closed or not. The table has a row for each event there may be.
 pub fn relation_rows(word: &[u8], n: usize, r: usize, closed: bool, rows: &mut [u64])
     requires { ⌜ (length (now rows) ≡ 64) × (n ≤ 64) ⌝ }
@@ -136,6 +100,6 @@ pub fn relation_rows(word: &[u8], n: usize, r: usize, closed: bool, rows: &mut [
 {
     step_rows(word, n, r, rows);
     if closed {
-        close(rows, n);
+        rows::close(rows, n);
     }
 }

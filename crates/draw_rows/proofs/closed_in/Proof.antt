@@ -6,7 +6,7 @@ use native.Mathlib.Omega.{arith}
 use mathlib.Core.Path.{_≡_, refl, _∙_}
 use lib.ListN.{length, drop}
 use Rattle.draw_rows.specs.Rows.{closedSet}
-use Rattle.draw_rows.proofs.Rounds.{closed-more, closed-end}
+use Rattle.draw_rows.proofs.Steps.{closed-more, closed-end}
 use borrow.Author.Needs.{needs}
 use Rattle.draw_rows.proofs.closed_in.Statement.{statement}
 use Rattle.draw_rows.proofs.closed_in.Tie as tie

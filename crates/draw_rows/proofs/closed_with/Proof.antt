@@ -1,6 +1,6 @@
 -- `draw_rows::closed_with` meets its contract.
 -- Assumes nothing.
-use Rattle.draw_rows.proofs.Rounds.{closed-low, closed-high}
+use Rattle.draw_rows.proofs.Steps.{closed-low, closed-high}
 use borrow.Author.Needs.{needs}
 use Rattle.draw_rows.proofs.closed_with.Statement.{statement}
 use Rattle.draw_rows.proofs.closed_with.Tie as tie

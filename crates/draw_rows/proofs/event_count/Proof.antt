@@ -2,7 +2,7 @@
 -- Assumes nothing.
 use mathlib.Core.Path.{_∙_, ap, sym}
 use Rattle.draw_rows.specs.Rows.{eventCount}
-use Rattle.draw_rows.proofs.Rounds.{events-alone, events-ring, events-line}
+use Rattle.draw_rows.proofs.Steps.{events-alone, events-ring, events-line}
 use borrow.Author.Needs.{needs}
 use Rattle.draw_rows.proofs.event_count.Statement.{statement}
 use Rattle.draw_rows.proofs.event_count.Tie as tie

@@ -1,6 +1,6 @@
 -- `draw_rows::next_event` meets its contract.
 -- Assumes nothing.
-use Rattle.draw_rows.proofs.Rounds.{next-first, next-on}
+use Rattle.draw_rows.proofs.Steps.{next-first, next-on}
 use borrow.Author.Needs.{needs}
 use Rattle.draw_rows.proofs.next_event.Statement.{statement}
 use Rattle.draw_rows.proofs.next_event.Tie as tie

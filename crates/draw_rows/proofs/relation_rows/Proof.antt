@@ -1,7 +1,7 @@
 -- `draw_rows::relation_rows` meets its contract: the steps, and the rounds where the relation is closed.
 -- Assumes nothing.
 use native.Mathlib.Omega.{arith}
-use Rattle.draw_rows.proofs.Rounds.{rows-closed, rows-open}
+use Rattle.draw_rows.proofs.Steps.{rows-closed, rows-open}
 use borrow.Author.Needs.{needs}
 use Rattle.draw_rows.proofs.relation_rows.Statement.{statement}
 use Rattle.draw_rows.proofs.relation_rows.Tie as tie

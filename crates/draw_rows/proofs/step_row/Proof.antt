@@ -1,7 +1,7 @@
 -- `draw_rows::step_row` meets its contract.
 -- Assumes nothing.
 use native.Mathlib.Omega.{arith}
-use Rattle.draw_rows.proofs.Rounds.{step-past, step-other, step-on}
+use Rattle.draw_rows.proofs.Steps.{step-past, step-other, step-on}
 use borrow.Author.Needs.{needs}
 use Rattle.draw_rows.proofs.step_row.Statement.{statement}
 use Rattle.draw_rows.proofs.step_row.Tie as tie

@@ -1,15 +1,15 @@
--- `draw_rows::close` meets its contract. The invariant: the memory is that after the rounds done so far. The measure is what is left of the
+-- `rows::close` meets its contract. The invariant: the memory is that after the rounds done so far. The measure is what is left of the
 -- rounds.
 -- Assumes nothing.
 use Prim.Native.Nat.{_-_, _≤_}
 use native.Mathlib.Omega.{arith}
 use mathlib.Core.Path.{_≡_, _∙_, ap}
 use lib.ListN.{length}
-use Rattle.draw_rows.specs.Rows.{rounds}
-use Rattle.draw_rows.proofs.Rounds.{rounds-begin, rounds-more}
+use Rattle.rows.specs.Rows.{rounds}
+use Rattle.rows.proofs.Rounds.{rounds-begin, rounds-more}
 use borrow.Author.Needs.{needs}
-use Rattle.draw_rows.proofs.close.Statement.{statement}
-use Rattle.draw_rows.proofs.close.Tie as tie
+use Rattle.rows.proofs.close.Statement.{statement}
+use Rattle.rows.proofs.close.Tie as tie
 
 abbrev Inv-loop : tie.InvT-loop
 Inv-loop t₀ n k₀ t k = (length t ≡ length t₀) × (k ≤ n) × (t ≡ rounds t₀ n k)

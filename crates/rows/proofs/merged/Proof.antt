@@ -1,9 +1,9 @@
--- `draw_rows::merged` meets its contract.
+-- `rows::merged` meets its contract.
 -- Assumes nothing.
-use Rattle.draw_rows.proofs.Rounds.{merged-in, merged-out}
+use Rattle.rows.proofs.Rounds.{merged-in, merged-out}
 use borrow.Author.Needs.{needs}
-use Rattle.draw_rows.proofs.merged.Statement.{statement}
-use Rattle.draw_rows.proofs.merged.Tie as tie
+use Rattle.rows.proofs.merged.Statement.{statement}
+use Rattle.rows.proofs.merged.Tie as tie
 
 member-requires : tie.Need-member-requires
 member-requires c κs = search needs

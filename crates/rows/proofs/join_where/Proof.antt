@@ -1,4 +1,4 @@
--- `draw_rows::join_where` meets its contract. The invariant: what is left of the rows, joined in the memory as it is, is all of them joined in
+-- `rows::join_where` meets its contract. The invariant: what is left of the rows, joined in the memory as it is, is all of them joined in
 -- the memory at the start. The measure is what is left of the rows.
 -- Assumes nothing.
 use Prim.Native.Nat.{_-_, _≤_}
@@ -6,11 +6,11 @@ use native.Mathlib.Omega.{arith}
 use mathlib.Core.Path.{_≡_, sym, _∙_}
 use lib.ListN.{length, length-set}
 use Rattle.words.specs.Memory.{changed}
-use Rattle.draw_rows.specs.Rows.{joinedWhere}
-use Rattle.draw_rows.proofs.Rounds.{merge, where-begin, where-more, where-end}
+use Rattle.rows.specs.Rows.{joinedWhere}
+use Rattle.rows.proofs.Rounds.{merge, where-begin, where-more, where-end}
 use borrow.Author.Needs.{needs}
-use Rattle.draw_rows.proofs.join_where.Statement.{statement}
-use Rattle.draw_rows.proofs.join_where.Tie as tie
+use Rattle.rows.proofs.join_where.Statement.{statement}
+use Rattle.rows.proofs.join_where.Tie as tie
 
 abbrev Inv-loop : tie.InvT-loop
 Inv-loop t₀ c k n x₀ t x = (length t ≡ length t₀) × (x ≤ n) × (changed (merge c k) t x n ≡ joinedWhere t₀ c k n)

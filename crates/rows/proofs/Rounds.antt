@@ -1,91 +1,22 @@
--- Rows by steps and by rounds: the turns of the loops, and that the rounds close the table. After the rounds through the numbers below k, row
--- x has bit y exactly where x leads to y through these numbers, by Warshall's recursion. Row k does not change in round k, so that a round
--- may be done in place.
+-- Rounds close a table: after the rounds through the numbers below k, row x has bit y exactly where x leads to y through these numbers, by
+-- Warshall's recursion. Row k does not change in round k, so that a round may be done in place. Before that, the turns of the loops.
 -- Assumes nothing.
-use Prim.Native.Nat.{ℕ, zero, suc, _+_, _*_, _-_, _/_, _^_, _≤_, _<_}
+use Prim.Native.Nat.{ℕ, zero, suc, _+_, _^_, _≤_, _<_}
 use native.Mathlib.Numerals.{add-one}
 use native.Mathlib.Omega.{arith}
 use mathlib.Core.Path.{_≡_, refl, sym, _∙_, ap, ap₂, subst}
 use mathlib.Core.Bool.{Bool, true, false, cond, _&&_, _||_}
 use mathlib.Core.List.{List}
 use lib.Bits.{bitOr, or-zero-r, or-lt}
-use lib.Dec.{eqb}
-use lib.ListN.{length, getD, set, drop, drop-of-length-le}
+use lib.ListN.{length, getD, set}
 use lib.Pow.{pow-pos}
-use lib.Seq.{drop-cons}
-use borrow.Author.Tests.{lt-ltb, le-ltb, le-leb, lt-leb, eq-eqb, ne-eqb}
 use Rattle.kat.specs.Closure.{table, entry, through, closure}
 use Rattle.kat.proofs.Closure.{entry-table}
 use Rattle.claims.specs.Query.{bit}
-use Rattle.words.specs.Memory.{between, changed, words}
+use Rattle.words.specs.Memory.{between, changed}
 use Rattle.words.proofs.Words.{changed-length, changed-in, changed-at, changed-end, changed-more}
-use Rattle.bits.specs.Sets.{including}
 use Rattle.bits.proofs.Bit.{bit-none, bit-or}
-use Rattle.draw_rows.specs.Rows.{closedWith, closedSet, eventCount, nextEvent, stepRow, stepRows, joinedWhere, round, rounds, relationRows}
-
--- one code, and then the others
-pub closed-low : (s k : ℕ) → k < 160 → s ≡ closedWith s k
-unfolding closedWith
-closed-low s k h = sym (ap (λ b. cond b s (including 64 s (k - 160))) (lt-ltb k 160 h))
-
-pub closed-high : (s k r : ℕ) → 160 ≤ k → r ≡ including 64 s (k - 160) → r ≡ closedWith s k
-unfolding closedWith
-closed-high s k r h e = e ∙ sym (ap (λ b. cond b s (including 64 s (k - 160))) (le-ltb k 160 h))
-
-pub closed-more : (ks : List ℕ) (i s v : ℕ) → i < length ks → v ≡ closedWith s (getD ks i 0)
-    → closedSet v (drop (i + 1) ks) ≡ closedSet s (drop i ks)
-unfolding closedSet
-closed-more ks i s v h e =
-    ap₂ closedSet e (ap (λ j. drop j ks) (add-one i)) ∙ sym (ap (closedSet s) (drop-cons ks i 0 h))
-
-pub closed-end : (ks : List ℕ) (i s : ℕ) → length ks ≤ i → s ≡ closedSet s (drop i ks)
-unfolding closedSet
-closed-end ks i s h = sym (ap (closedSet s) (drop-of-length-le ks h))
-
--- the number of events
-pub events-alone : (size : ℕ) → size < 2 → 1 ≡ eventCount true size
-unfolding eventCount
-events-alone size h = sym (ap (λ b. cond b 1 (size / 2)) (lt-ltb size 2 h))
-
-pub events-ring : (size : ℕ) → 2 ≤ size → size / 2 ≡ eventCount true size
-unfolding eventCount
-events-ring size h = sym (ap (λ b. cond b 1 (size / 2)) (le-ltb size 2 h))
-
-pub events-line : (size : ℕ) → size / 2 + 1 ≡ eventCount false size
-unfolding eventCount
-events-line size = refl
-
--- the event after
-pub next-first : (n x : ℕ) → x + 1 ≡ n → 0 ≡ nextEvent n x
-unfolding nextEvent
-next-first n x h = sym (ap (λ b. cond b 0 (x + 1)) (eq-eqb (x + 1) n h))
-
-pub next-on : (n x : ℕ) → (x + 1 ≡ n → ⊥) → x + 1 ≡ nextEvent n x
-unfolding nextEvent
-next-on n x h = sym (ap (λ b. cond b 0 (x + 1)) (ne-eqb (x + 1) n h))
-
--- the step from an event
-module _ (bs : List ℕ) (n r x : ℕ) where
-  abbrev else : ℕ
-  else = cond (eqb (getD bs (2 * x + 1) 0) r) (including 64 0 (nextEvent n x)) 0
-
-  pub step-past : length bs ≤ 2 * x + 1 → 0 ≡ stepRow bs n r x
-  unfolding stepRow
-  step-past h = sym (ap (λ b. cond b 0 else) (le-leb (length bs) (2 * x + 1) h))
-
-  inside : 2 * x + 1 < length bs → stepRow bs n r x ≡ else
-  unfolding stepRow
-  inside h = ap (λ b. cond b 0 else) (lt-leb (length bs) (2 * x + 1) h)
-
-  pub step-other : 2 * x + 1 < length bs → (a : ℕ) → a ≡ getD bs (2 * x + 1) 0 → (a ≡ r → ⊥) → 0 ≡ stepRow bs n r x
-  step-other h a e k =
-      sym (inside h ∙ ap (λ b. cond b (including 64 0 (nextEvent n x)) 0) (ne-eqb (getD bs (2 * x + 1) 0) r (λ z. k (e ∙ z))))
-
-  pub step-on : 2 * x + 1 < length bs → (a : ℕ) → a ≡ getD bs (2 * x + 1) 0 → a ≡ r → (y s : ℕ) → y ≡ nextEvent n x → s ≡ including 64 0 y
-      → s ≡ stepRow bs n r x
-  step-on h a e k y s f g =
-      g ∙ ap (including 64 0) f
-      ∙ sym (inside h ∙ ap (λ b. cond b (including 64 0 (nextEvent n x)) 0) (eq-eqb (getD bs (2 * x + 1) 0) r (sym e ∙ k)))
+use Rattle.rows.specs.Rows.{joinedWhere, round, rounds}
 
 -- a row joined where it has k, or left
 pub merged-in : (w c k : ℕ) (b : Bool) → b ≡ bit k w → b ≡ true → bitOr w c ≡ bitOr w (cond (bit k w) c 0)
@@ -167,18 +98,3 @@ module _ (t : List ℕ) (n : ℕ) where
         subst (λ m. m < 2 ^ w) (sym (changed-at (merge (getD u k 0) k) u n 0 x (omega (arith, rounds-length k))))
         (kept-below (between 0 n x) (bit k (getD u x 0)) (getD u x 0) (getD u k 0)
         (rounds-below fits k (omega arith) x l) (rounds-below fits k (omega arith) k (omega arith)))
-
--- a relation that is closed, or not
-pub rows-closed : (bs : List ℕ) (n r : ℕ) (closed : Bool) (t u : List ℕ) (size : ℕ) → size ≡ 64 → closed ≡ true → t ≡ words size (stepRow bs n r)
-    → u ≡ rounds t n n → u ≡ relationRows bs n r closed
-unfolding relationRows stepRows
-rows-closed bs n r closed t u size z b e h =
-    h ∙ ap (λ s. rounds s n n) (e ∙ ap (λ k. words k (stepRow bs n r)) z)
-    ∙ sym (ap (λ x. cond x (rounds (words 64 (stepRow bs n r)) n n) (words 64 (stepRow bs n r))) b)
-
-pub rows-open : (bs : List ℕ) (n r : ℕ) (closed : Bool) (t : List ℕ) (size : ℕ) → size ≡ 64 → closed ≡ false → t ≡ words size (stepRow bs n r)
-    → t ≡ relationRows bs n r closed
-unfolding relationRows stepRows
-rows-open bs n r closed t size z b e =
-    e ∙ ap (λ k. words k (stepRow bs n r)) z
-    ∙ sym (ap (λ x. cond x (rounds (words 64 (stepRow bs n r)) n n) (words 64 (stepRow bs n r))) b)
