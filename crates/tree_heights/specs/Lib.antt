@@ -1,0 +1,2 @@
+-- How many tables an expression needs at once.
+pub mod Heights
