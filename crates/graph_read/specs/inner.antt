@@ -1,0 +1,2 @@
+-- A graph read so far, and one field more.
+pub mod Steps
