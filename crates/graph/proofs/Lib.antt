@@ -1,0 +1,2 @@
+-- The answer of the judge.
+pub mod Answered

@@ -1,0 +1,2 @@
+-- The words of the graph that is judged.
+pub mod Closing

@@ -1,0 +1,119 @@
+// The judge of graphs: a query and an execution graph give the first line that the graph breaks, or 0, and whether the claim holds in it, with
+// the lowest event or pair that breaks it. (Document 01, "Sheet and graph bytes", last paragraph.) The query is read first, refusals 1 to 8, and
+// then the graph, refusal 12 at its first wrong field. It knows nothing of words, standings or sheets.
+use graph_read::Reading;
+use graph_tables::State;
+use query::Answer;
+use query::Facts;
+use refusals::Reason;
+use words::least;
+ghost use Prim.Native.Nat.{ℕ, _≤_, min};
+ghost use mathlib.Core.Path.{_≡_};
+ghost use mathlib.Core.List.{List};
+ghost use lib.ListN.{length, take};
+ghost use Rattle.claims.specs.Refusals.{ok};
+ghost use Rattle.claims.specs.Reading.{read as reading};
+ghost use Rattle.claims.specs.Judgement.{Judgement};
+ghost use Rattle.claims.specs.Calls.{judge-call};
+ghost use Rattle.read_text.specs.Reading.{leftCodes};
+ghost use Rattle.query.specs.declared.Answer.the-variants.{Accepted};
+ghost use Rattle.query.specs.Answer.{Says};
+ghost use Rattle.side_items.specs.Items.{itemsOf};
+ghost use Rattle.graph_judge.specs.Machine.{performedAll, beginning};
+ghost use Rattle.graph_judge.specs.Outcome.{outcomeOf};
+ghost use Rattle.graph.specs.Answers.{resultOf};
+ghost use Rattle.graph.specs.Meanings.{IsMeaning};
+ghost use Rattle.graph.specs.inner.Closing.{judgedWords};
+
+// The first broken line, or 0, and of the claim: it holds, this event breaks it, or the pair from this event to that one does. Or the reason and
+// the place of a refusal.
+pub enum Judged {
+    Holds(usize),
+    BreaksAt(usize, usize),
+    BreaksFrom(usize, usize, usize),
+    Refused(Reason, usize),
+}
+
+// The answer from the first broken line and what was found of the claim, one of rings or not.
+fn answer(ring: bool, line: usize, found: usize) -> Judged
+    ensures { λ r. ⌜ resultOf r ≡ ok (record { line = line; outcome = outcomeOf ring found }) ⌝ }
+{
+    if rows::NOWHERE <= found {
+        return Judged::Holds(line);
+    }
+    if ring {
+        return Judged::BreaksAt(line, found);
+    }
+    Judged::BreaksFrom(line, found / 64, found % 64)
+}
+
+// The graph that is judged: its relations are the listed edges, and nothing is closed.
+fn close_relations(listed: &mut [u64; 1088], n: usize)
+    ensures { λ r. ⌜ now (listed .exit) ≡ judgedWords n (now (listed .entry)) ⌝ }
+{}
+
+// The judge over the codes, on a graph of n events, of which 64 count. The lent words are for what each code needs: as many as codes.
+fn judge_part(listed: &[u64; 1088], n: usize, codes: &[u64], args: &mut [u64]) -> State
+    requires { ⌜ (length (now args) ≡ length (now codes)) × (length (now codes) ≤ 4096) ⌝ }
+    ensures { λ r. ⌜ r ≡ performedAll (now (listed .entry)) (beginning (min n 64)) (itemsOf (now (codes .entry))) .state ⌝ }
+{
+    let mut starts = [0u64; 32];
+    side_items::find_args(codes, args, &mut starts);
+    graph_judge::judge(listed, least(n, 64), codes, args)
+}
+
+// The same of the first k codes. There are 4,096 codes and as many words.
+fn judge_within(listed: &[u64; 1088], n: usize, codes: &[u64], args: &mut [u64], k: usize) -> State
+    requires { ⌜ (length (now codes) ≡ 4096) × (length (now args) ≡ 4096) × (k ≤ 4096) ⌝ }
+    ensures sized { λ r. ⌜ length (now (codes .entry)) ≡ 4096 ⌝ }
+    ensures judged { λ r. ⌜ r ≡ performedAll (now (listed .entry)) (beginning (min n 64)) (itemsOf (take k (now (codes .entry)))) .state ⌝ }
+{
+    judge_part(listed, n, &codes[..k], &mut args[..k])
+}
+
+// The same of the array that the reading of a query leaves.
+fn judge_codes(listed: &[u64; 1088], n: usize, codes: &[u64; 4096], k: usize) -> State
+    ensures sized { λ r. ⌜ length (now (codes .entry)) ≡ 4096 ⌝ }
+    ensures judged { λ r. ⌜ r ≡ performedAll (now (listed .entry)) (beginning (min n 64)) (itemsOf (take k (now (codes .entry)))) .state ⌝ }
+{
+    let mut args = [0u64; 4096];
+    judge_within(listed, n, codes, &mut args, least(k, 4096))
+}
+
+// The judgement of a graph for a query that was read, by its facts and its codes.
+fn judge_read(f: Facts, codes: &[u64; 4096], graph: &[u8]) -> Judged
+    ensures { λ r.
+        ⌜ ((text : List ℕ) → Says (reading text) (Accepted f) → now (codes .entry) ≡ leftCodes (reading text)
+        → resultOf r ≡ judge-call text (now (graph .entry))) ⌝ }
+{
+    let mut listed = [0u64; 1088];
+    let r = graph_read::read(
+        graph,
+        f.atoms,
+        least(f.relations, codes::MOST_RELATIONS),
+        &mut listed,
+    );
+    match r {
+        Reading::Wrong(field) => Judged::Refused(Reason::GraphField, field),
+        Reading::Events(n) => {
+            close_relations(&mut listed, n);
+            let s = judge_codes(&listed, n, codes, f.codes);
+            answer(f.ring, s.broken, s.found)
+        }
+    }
+}
+
+// Judges the graph for the query that the text is. An answer is the relational meaning of the graph that the bytes are.
+pub fn judge(text: &[u8], graph: &[u8]) -> Judged
+    ensures judges { λ r. ⌜ resultOf r ≡ judge-call (now (text .entry)) (now (graph .entry)) ⌝ }
+    ensures means { λ r. ⌜ ((j : Judgement) → resultOf r ≡ ok j → IsMeaning (now (text .entry)) (now (graph .entry)) j) ⌝ }
+{
+    let mut codes = [0u64; 4096];
+    let mut left = [0u64; 4241];
+    let mut right = [0u64; 4241];
+    let asked = query::read(text, &mut codes, &mut left, &mut right);
+    match asked {
+        Answer::Refused(why, place) => Judged::Refused(why, place),
+        Answer::Accepted(f) => judge_read(f, &codes, graph),
+    }
+}
