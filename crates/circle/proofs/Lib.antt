@@ -1,0 +1,2 @@
+-- The circle closes.
+pub mod Circle

@@ -1,0 +1,2 @@
+-- What the judge says of what the sheet check and drawing give.
+pub mod Circle
