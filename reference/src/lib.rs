@@ -37,4 +37,5 @@ pub mod calls;
 // Cases.
 pub mod generate;
 pub mod escape;
+pub mod circle;
 pub mod vectors;

@@ -3,6 +3,7 @@
 use std::io::{self, Read, Write};
 use std::process::ExitCode;
 
+use fence_reference::circle::circle_lines;
 use fence_reference::refusal::Refusal;
 use fence_reference::{calls, vectors};
 
@@ -71,6 +72,7 @@ fn run(arguments: &[&str]) -> Option<Printed> {
             let made = vectors::inputs(kind, seed.parse().ok()?, number(count)?);
             made.map(joined).ok_or(format!("{kind} is no kind of case"))
         }
+        ["answer", "circle"] => file("-").and_then(|cases| circle(&cases)),
         ["answer", kind] => file("-").and_then(|cases| answers(kind, &cases)),
         _ => return None,
     })
@@ -106,6 +108,14 @@ fn answers(kind: &str, cases: &[u8]) -> Printed {
     let text = std::str::from_utf8(cases).map_err(|error| error.to_string())?;
     let answer = |(index, case)| vectors::output(kind, case).ok_or(format!("line {} is no {kind} case", index + 1));
     text.lines().enumerate().map(answer).collect::<Result<Vec<_>, _>>().map(joined)
+}
+
+/// What the circle gives for the cases of `query` on standard input.
+fn circle(cases: &[u8]) -> Printed {
+    let text = std::str::from_utf8(cases).map_err(|error| error.to_string())?;
+    let cases: Option<Vec<_>> = text.lines().map(vectors::asked).collect();
+    let cases = cases.ok_or("a line is no query case")?;
+    Ok(joined(circle_lines(cases.iter().map(|(allowance, query)| (*allowance, &query[..])))))
 }
 
 fn joined(lines: Vec<String>) -> Vec<u8> {

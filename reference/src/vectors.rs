@@ -7,6 +7,7 @@ use crate::escape::{escaped, hex, unescaped, unhex};
 use crate::generate::damage::{edited, refused};
 use crate::generate::every_way;
 use crate::generate::graphs::{damaged, graph};
+use crate::generate::judged;
 use crate::generate::limits::{at_limits, wide_sides};
 use crate::generate::queries::{any_shape, query, turning_query, MEDIUM, SMALL, TINY};
 use crate::generate::rng::Rng;
@@ -24,7 +25,8 @@ const MOST_RING_STANDINGS: usize = 6;
 const MOST_SMALL_STANDINGS: usize = 12;
 
 /// So many input lines of a kind, or nothing where the kind is unknown. Cases
-/// chosen by hand stand before the random ones; of `edits` there are no others.
+/// chosen by hand stand before the random ones; of `edits` and `judge-edits` there
+/// are no others.
 pub fn inputs(kind: &str, seed: u64, count: usize) -> Option<Vec<String>> {
     let mut rng = Rng::new(seed);
     let rng = &mut rng;
@@ -43,7 +45,11 @@ pub fn inputs(kind: &str, seed: u64, count: usize) -> Option<Vec<String>> {
         }
         "edits" => every_way::edited_sheets().into_iter().map(with_hex).collect(),
         "small-check" => every_way::sheets().into_iter().map(with_hex).collect(),
-        "judge" => every_way::many_events().into_iter().chain(every_way::graphs()).map(with_hex).collect(),
+        "judge" => {
+            let chosen = every_way::many_events().into_iter().chain(every_way::graphs()).chain(judged::graphs());
+            chosen.map(with_hex).collect()
+        }
+        "judge-edits" => judged::edited().into_iter().map(with_hex).collect(),
         "small-judge" => every_way::graphs().into_iter().map(with_hex).collect(),
         _ => Vec::new(),
     };
@@ -82,7 +88,8 @@ pub fn output(kind: &str, line: &str) -> Option<String> {
             Err(refused) => refused.to_string(),
         },
         "check" => check_line(&query, &unhex(first)?),
-        "edits" => edit_lines(&query, &unhex(first)?),
+        "edits" => edit_lines(check_line, &query, &unhex(first)?),
+        "judge-edits" => edit_lines(judge_line, &query, &unhex(first)?),
         "searched" => searched_line(&query, first.parse().ok()?),
         "judge" => judge_line(&query, &unhex(first)?),
         "draw" => match drawn_bytes(&query, &unhex(first)?) {
@@ -94,6 +101,12 @@ pub fn output(kind: &str, line: &str) -> Option<String> {
     })
 }
 
+/// The allowance and the query of a case of `query`.
+pub fn asked(line: &str) -> Option<(usize, Vec<u8>)> {
+    let (allowance, query) = line.split_once(' ')?;
+    Some((allowance.parse().ok()?, unescaped(query)?))
+}
+
 /// The line of the search, and behind an answer that of the check of its sheet.
 fn searched_line(query: &[u8], allowance: usize) -> String {
     let line = query_line(query, allowance);
@@ -103,15 +116,15 @@ fn searched_line(query: &[u8], allowance: usize) -> String {
     }
 }
 
-/// The answers to a sheet cut at every place, and for each place of it those
-/// to every byte there; equal ones in a row are counted.
-fn edit_lines(query: &[u8], sheet: &[u8]) -> String {
-    let mut lines = vec![runs((0..=sheet.len()).map(|end| check_line(query, &sheet[..end])))];
-    for place in 0..sheet.len() {
-        let mut changed = sheet.to_vec();
+/// The answers of a call to a sheet or graph cut at every place, and for each
+/// place of it those to every byte there; equal ones in a row are counted.
+fn edit_lines(answer: fn(&[u8], &[u8]) -> String, query: &[u8], bytes: &[u8]) -> String {
+    let mut lines = vec![runs((0..=bytes.len()).map(|end| answer(query, &bytes[..end])))];
+    for place in 0..bytes.len() {
+        let mut changed = bytes.to_vec();
         lines.push(runs((0..=255).map(|byte| {
             changed[place] = byte;
-            check_line(query, &changed)
+            answer(query, &changed)
         })));
     }
     lines.join("\n")

@@ -36,13 +36,17 @@ module _ (w : List ℕ) where
   unfolding verbOf
   is-draw a b c d = rw (a, b, c, d)
 
-  pub is-help : same w (text "query") ≡ false → same w (text "sheet") ≡ false → same w (text "check") ≡ false → same w (text "draw") ≡ false → same w (text "--help") ≡ true → verbs.Help ≡ verbOf w
+  pub is-judge : same w (text "query") ≡ false → same w (text "sheet") ≡ false → same w (text "check") ≡ false → same w (text "draw") ≡ false → same w (text "judge") ≡ true → verbs.Judge ≡ verbOf w
   unfolding verbOf
-  is-help a b c d e = rw (a, b, c, d, e)
+  is-judge a b c d e = rw (a, b, c, d, e)
 
-  pub is-unknown : same w (text "query") ≡ false → same w (text "sheet") ≡ false → same w (text "check") ≡ false → same w (text "draw") ≡ false → same w (text "--help") ≡ false → verbs.Unknown ≡ verbOf w
+  pub is-help : same w (text "query") ≡ false → same w (text "sheet") ≡ false → same w (text "check") ≡ false → same w (text "draw") ≡ false → same w (text "judge") ≡ false → same w (text "--help") ≡ true → verbs.Help ≡ verbOf w
   unfolding verbOf
-  is-unknown a b c d e = rw (a, b, c, d, e)
+  is-help a b c d e f = rw (a, b, c, d, e, f)
+
+  pub is-unknown : same w (text "query") ≡ false → same w (text "sheet") ≡ false → same w (text "check") ≡ false → same w (text "draw") ≡ false → same w (text "judge") ≡ false → same w (text "--help") ≡ false → verbs.Unknown ≡ verbOf w
+  unfolding verbOf
+  is-unknown a b c d e f = rw (a, b, c, d, e, f)
 
   pub is-allowance : same w (text "--allowance") ≡ true → kinds.Allowance ≡ kindOf w
   unfolding kindOf

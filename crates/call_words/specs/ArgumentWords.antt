@@ -20,7 +20,8 @@ verbOf w =
     (cond (same w (text "sheet")) verbs.Sheet
     (cond (same w (text "check")) verbs.Check
     (cond (same w (text "draw")) verbs.Draw
-    (cond (same w (text "--help")) verbs.Help verbs.Unknown))))
+    (cond (same w (text "judge")) verbs.Judge
+    (cond (same w (text "--help")) verbs.Help verbs.Unknown)))))
 
 -- the word dashesFirst with two dashes
 unfoldable pub dashesFirst : List ℕ → Bool

@@ -9,6 +9,7 @@ pub enum Verb {
     Sheet,
     Check,
     Draw,
+    Judge,
     Help,
     Unknown,
 }
@@ -42,6 +43,9 @@ pub fn verb_in(word: &[u8]) -> Verb
     }
     if texts::same(word, b"draw") {
         return Verb::Draw;
+    }
+    if texts::same(word, b"judge") {
+        return Verb::Judge;
     }
     if texts::same(word, b"--help") {
         return Verb::Help;

@@ -1,39 +1,101 @@
-// Answers of the sheet check on standard output: one a line, or those to a sheet that is cut anywhere or has another byte somewhere, equal
-// ones in a row counted. What is written no contract can say; the cases compare it.
+// Answers of the sheet check and of the judge on standard output: one a line, or those to bytes that are cut anywhere or have another byte
+// somewhere, equal ones in a row counted. What is written no contract can say; the cases compare it.
+use graph::Judged;
 use libc::STDOUT_FILENO;
+use refusals::Reason;
 use sheet::Checked;
+ghost use Prim.Native.Nat.{_<_};
 
-// An answer of the check as a number: 0 for a passing proof, 15 for a passing refutation, or the refusal's number and 16 times its place.
+// Whose answers they are: the bytes are a sheet or a graph.
+pub enum Asked {
+    Check,
+    Judge,
+}
+
+// A number below 1,048,576, as every number of an answer is.
+fn low(x: usize) -> u64
+    ensures { λ r. ⌜ r < 1048576 ⌝ }
+{
+    (x % 1048576) as u64
+}
+
+// An answer as a number: its form, which is below 8, and up to three numbers.
+fn packed(form: u64, a: usize, b: usize, c: usize) -> u64 {
+    form % 8 + 8 * low(a) + 8388608 * low(b) + 8796093022208 * low(c)
+}
+
+// The number of a refusal, as packed.
+fn refused(why: Reason, place: usize) -> u64 {
+    packed(2, (refusals::number(why) % 16) as usize, place, 0)
+}
+
+// An answer of the check as a number.
 pub fn code(r: Checked) -> u64 {
     match r {
-        Checked::Proved => 0,
-        Checked::Refuted => 15,
-        Checked::Refused(why, place) => {
-            if place < 65536 {
-                return refusals::number(why) % 16 + 16 * place as u64;
-            }
-            refusals::number(why)
-        }
+        Checked::Proved => packed(0, 0, 0, 0),
+        Checked::Refuted => packed(1, 0, 0, 0),
+        Checked::Refused(why, place) => refused(why, place),
     }
 }
 
-// Writes an answer of the check, without the end of a line.
+// A judgement as a number.
+fn judged_code(j: Judged) -> u64 {
+    match j {
+        Judged::Holds(line) => packed(3, line, 0, 0),
+        Judged::BreaksAt(line, event) => packed(4, line, event, 0),
+        Judged::BreaksFrom(line, from, to) => packed(5, line, from, to),
+        Judged::Refused(why, place) => refused(why, place),
+    }
+}
+
+// The answer to a query and the bytes of a sheet or a graph, as a number.
+fn answer(of: Asked, query: &[u8], bytes: &[u8]) -> u64 {
+    match of {
+        Asked::Check => code(sheet::check(query, bytes)),
+        Asked::Judge => judged_code(graph::judge(query, bytes)),
+    }
+}
+
+// Writes a judgement of this form, with its numbers.
+fn write_judged(form: u64, line: u64, a: u64, b: u64) {
+    io::write_all(STDOUT_FILENO, b"line ");
+    io::print_decimal(STDOUT_FILENO, line);
+    if form == 3 {
+        io::write_all(STDOUT_FILENO, b" holds");
+        return;
+    }
+    io::write_all(STDOUT_FILENO, b" breaks ");
+    io::print_decimal(STDOUT_FILENO, a);
+    if form == 5 {
+        io::write_all(STDOUT_FILENO, b" ");
+        io::print_decimal(STDOUT_FILENO, b);
+    }
+}
+
+// Writes an answer, without the end of a line.
 fn write_code(c: u64) {
-    if c == 0 {
+    let form = c % 8;
+    let a = c / 8 % 1048576;
+    let b = c / 8388608 % 1048576;
+    if form == 0 {
         io::write_all(STDOUT_FILENO, b"passes proved");
         return;
     }
-    if c == 15 {
+    if form == 1 {
         io::write_all(STDOUT_FILENO, b"passes refuted");
         return;
     }
-    io::write_all(STDOUT_FILENO, b"refusal ");
-    io::print_decimal(STDOUT_FILENO, c % 16);
-    io::write_all(STDOUT_FILENO, b" line ");
-    io::print_decimal(STDOUT_FILENO, c / 16);
+    if form == 2 {
+        io::write_all(STDOUT_FILENO, b"refusal ");
+        io::print_decimal(STDOUT_FILENO, a);
+        io::write_all(STDOUT_FILENO, b" line ");
+        io::print_decimal(STDOUT_FILENO, b);
+        return;
+    }
+    write_judged(form, a, b, c / 8796093022208);
 }
 
-// Writes the line of an answer of the check.
+// Writes the line of an answer.
 pub fn write_line(c: u64) {
     write_code(c);
     io::write_all(STDOUT_FILENO, b"\n");
@@ -85,48 +147,48 @@ fn more(r: Run, c: u64) -> Run {
     Run { count: 1, code: c }
 }
 
-// The answers to the sheet cut at every place, and whole.
-fn cuts(query: &[u8], sheet: &[u8]) {
+// The answers to the bytes cut at every place, and whole.
+fn cuts(of: Asked, query: &[u8], bytes: &[u8]) {
     let mut r = Run { count: 0, code: 0 };
     let mut i = 0;
-    while i < sheet.len() {
-        r = more(r, code(sheet::check(query, &sheet[..i])));
+    while i < bytes.len() {
+        r = more(r, answer(of, query, &bytes[..i]));
         i += 1;
     }
-    write_run(more(r, code(sheet::check(query, sheet))));
+    write_run(more(r, answer(of, query, bytes)));
     io::write_all(STDOUT_FILENO, b"\n");
 }
 
-// The answer to the sheet, the first n bytes of the buffer, with another byte at a place.
-fn changed(query: &[u8], buffer: &mut [u8], n: usize, at: usize, b: u8) -> u64 {
+// The answer to the first n bytes of the buffer with another byte at a place.
+fn changed(of: Asked, query: &[u8], buffer: &mut [u8], n: usize, at: usize, b: u8) -> u64 {
     if buffer.len() <= at {
         return 0;
     }
     let old = buffer[at];
     buffer[at] = b;
-    let c = code(sheet::check(query, texts::first(buffer, n)));
+    let c = answer(of, query, texts::first(buffer, n));
     buffer[at] = old;
     c
 }
 
-// The answers to the sheet with every byte at a place.
-fn changes(query: &[u8], buffer: &mut [u8], n: usize, at: usize) {
+// The answers to them with every byte at a place.
+fn changes(of: Asked, query: &[u8], buffer: &mut [u8], n: usize, at: usize) {
     let mut r = Run { count: 0, code: 0 };
     let mut b: u8 = 0;
     while b < 255 {
-        r = more(r, changed(query, buffer, n, at, b));
+        r = more(r, changed(of, query, buffer, n, at, b));
         b += 1;
     }
-    write_run(more(r, changed(query, buffer, n, at, 255)));
+    write_run(more(r, changed(of, query, buffer, n, at, 255)));
     io::write_all(STDOUT_FILENO, b"\n");
 }
 
-// The answers to all edits of the sheet, the first n bytes of the buffer: a line for the cuts, and one for each place.
-pub fn edits(query: &[u8], buffer: &mut [u8], n: usize) {
-    cuts(query, texts::first(buffer, n));
+// The answers to all edits of a sheet or a graph, the first n bytes of the buffer: a line for the cuts, and one for each place.
+pub fn edits(of: Asked, query: &[u8], buffer: &mut [u8], n: usize) {
+    cuts(of, query, texts::first(buffer, n));
     let mut i = 0;
     while i < n {
-        changes(query, buffer, n, i);
+        changes(of, query, buffer, n, i);
         i += 1;
     }
 }

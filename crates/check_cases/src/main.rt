@@ -5,6 +5,7 @@
 // - `edits`, a sheet and a query: the answers to the sheet cut anywhere, and for each place of it the answers to every byte there;
 // - `search`, an allowance and a query: the line of the query program, and behind an answer that of the check of its sheet;
 // - `whole`, the same, and for a refuted claim the drawn graph in hex and as text.
+use case_checks::Asked;
 use case_lines::Case;
 use case_lines::Cases;
 use draw::Drawing;
@@ -134,7 +135,7 @@ fn sheet_case(text: &[u8], part: Part, buffer: &mut [u8], graph: &mut [u8]) {
             let d = draw::draw(query, texts::first(buffer, n), graph);
             write_graph(d, graph);
         }
-        Part::Edits => case_checks::edits(query, buffer, n),
+        Part::Edits => case_checks::edits(Asked::Check, query, buffer, n),
         _ => case_checks::write_line(case_checks::code(sheet::check(
             query,
             texts::first(buffer, n),

@@ -1,8 +1,8 @@
-// The program for all calls: a query's verdict, its sheet, the check of a sheet, the drawn graph. It reads files, calls what is proved of
-// slices, and writes: on standard output the line of document 01 ("The desk's cases") or the bytes, and on standard error, beside a
-// refusal, what it means. With no argument it is the query program of document 01. From 4,097 bytes on a query is too long, whatever follows,
-// so no more are read. A sheet is read up to 4 + 269 * 4,097 bytes: a longer one has a field within them that is wrong, the 4,097th standing
-// at the latest, or the field behind a refuted sheet's word, so that it is refused alike.
+// The program for all calls: a query's verdict, its sheet, the check of a sheet, the drawn graph, the judgement of a graph. It reads files,
+// calls what is proved of slices, and writes: on standard output the line of document 01 ("The desk's cases") or the bytes, and on standard
+// error what a refusal or a judgement means. With no argument it is the query program of document 01. From 4,097 bytes on a query is too
+// long, whatever follows, so no more are read. A sheet is read up to 4 + 269 * 4,097 bytes: a longer one has a field within them that is wrong,
+// the 4,097th standing at the latest, or the field behind a refuted sheet's word, so that it is refused alike. Each kind of call has its own memory.
 use fence_call::Call;
 use fence_input::Input;
 use libc::STDERR_FILENO;
@@ -24,8 +24,8 @@ fn short() {
     );
 }
 
-// The call of a verdict or its sheet: the query is read, searched and shown.
-fn searched(
+// The query is read into the memory, searched and shown.
+fn search_into(
     file: usize,
     allowance: usize,
     as_sheet: bool,
@@ -53,16 +53,30 @@ fn searched(
     );
 }
 
-// The call of the check: the query and the sheet are read.
-fn checked(query: usize, sheet: usize, text: &mut [u8], buffer: &mut [u8], out: &mut [u8]) {
-    let Input::Bytes(n) = fence_input::read(query, text) else {
-        return;
-    };
-    let Input::Bytes(m) = fence_input::read(sheet, buffer) else {
-        return;
-    };
-    let r = sheet::check(texts::first(text, n), texts::first(buffer, m));
-    fence_show::show_check(r, texts::first(text, n), out);
+// The call of a verdict or its sheet, with memory for the largest allowance, its longest sheet and its longest line.
+fn searched(file: usize, allowance: usize, as_sheet: bool) {
+    let mut text = [0u8; 4097];
+    let mut records = [[0u64; 4]; 4096];
+    let mut words = [0u64; 163840];
+    let mut buffer = [0u8; 1102097];
+    let mut out = [0u8; 32768];
+    search_into(
+        file,
+        allowance,
+        as_sheet,
+        &mut text,
+        &mut records,
+        &mut words,
+        &mut buffer,
+        &mut out,
+    );
+}
+
+// What is asked of a sheet: whether it passes, or the graph that it draws, as bytes or as text.
+enum Asked {
+    Check,
+    Graph,
+    Text,
 }
 
 // Draws the graph of a sheet.
@@ -71,9 +85,18 @@ fn draw_from(as_text: bool, query: &[u8], sheet: &[u8], graph: &mut [u8], out: &
     fence_show::show_graph(r, as_text, query, sheet, graph, out);
 }
 
-// The call that draws: the query and the sheet are read.
-fn drawn(
-    as_text: bool,
+// Answers what is asked of a sheet.
+fn answer(asked: Asked, query: &[u8], sheet: &[u8], graph: &mut [u8], out: &mut [u8]) {
+    match asked {
+        Asked::Check => fence_show::show_check(sheet::check(query, sheet), query, out),
+        Asked::Graph => draw_from(false, query, sheet, graph, out),
+        Asked::Text => draw_from(true, query, sheet, graph, out),
+    }
+}
+
+// The query and the sheet are read into the memory, and what is asked is answered.
+fn sheet_into(
+    asked: Asked,
     query: usize,
     sheet: usize,
     text: &mut [u8],
@@ -87,8 +110,8 @@ fn drawn(
     let Input::Bytes(m) = fence_input::read(sheet, buffer) else {
         return;
     };
-    draw_from(
-        as_text,
+    answer(
+        asked,
         texts::first(text, n),
         texts::first(buffer, m),
         graph,
@@ -96,60 +119,43 @@ fn drawn(
     );
 }
 
-// One call, with memory for the largest allowance and its longest sheet, and for every drawn graph: 64 events and at most 4,096 edges, since
-// only where all steps of a ring have one relation does closing join every event with every other.
-fn run(
-    call: Call,
-    text: &mut [u8],
-    records: &mut [[u64; 4]],
-    words: &mut [u64],
-    buffer: &mut [u8],
-    graph: &mut [u8],
-    out: &mut [u8],
-) {
-    match call {
-        Call::Query(allowance, file) => searched(
-            file,
-            allowance,
-            false,
-            text,
-            records,
-            words,
-            buffer,
-            out,
-        ),
-        Call::Sheet(allowance, file) => searched(
-            file,
-            allowance,
-            true,
-            text,
-            records,
-            words,
-            buffer,
-            out,
-        ),
-        Call::Check(query, sheet) => checked(query, sheet, text, buffer, out),
-        Call::Draw(dot, query, sheet) => drawn(dot, query, sheet, text, buffer, graph, out),
-        Call::Help => fence_help::write_help(),
-        Call::Wrong(i) => wrong(i),
-        Call::Short => short(),
-    }
-}
-
-fn main() {
+// A call with a sheet, with memory for every drawn graph: 64 events and at most 4,096 edges, since only where all steps of a ring have one
+// relation does closing join every event with every other.
+fn with_sheet(asked: Asked, query: usize, sheet: usize) {
     let mut text = [0u8; 4097];
-    let mut records = [[0u64; 4]; 4096];
-    let mut words = [0u64; 163840];
     let mut buffer = [0u8; 1102097];
     let mut graph = [0u8; 24832];
     let mut out = [0u8; 262144];
-    run(
-        fence_input::call(),
+    sheet_into(
+        asked,
+        query,
+        sheet,
         &mut text,
-        &mut records,
-        &mut words,
         &mut buffer,
         &mut graph,
         &mut out,
     );
+}
+
+// The call that draws.
+fn drawn(as_text: bool, query: usize, sheet: usize) {
+    if as_text {
+        with_sheet(Asked::Text, query, sheet);
+        return;
+    }
+    with_sheet(Asked::Graph, query, sheet);
+}
+
+fn main() {
+    let call = fence_input::call();
+    match call {
+        Call::Query(allowance, file) => searched(file, allowance, false),
+        Call::Sheet(allowance, file) => searched(file, allowance, true),
+        Call::Check(query, sheet) => with_sheet(Asked::Check, query, sheet),
+        Call::Draw(dot, query, sheet) => drawn(dot, query, sheet),
+        Call::Judge(query, graph) => fence_judge::judge(query, graph),
+        Call::Help => fence_help::write_help(),
+        Call::Wrong(i) => wrong(i),
+        Call::Short => short(),
+    }
 }

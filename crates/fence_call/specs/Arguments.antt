@@ -48,7 +48,7 @@ withCount s (counts.Of n) i =
     record { verb = s .verb; allowance = n; counting = false; dot = s .dot; query = s .query; sheet = s .sheet; wrong = 0 }
 withCount s counts.Nothing i = wrongAt s i
 
--- a file: the query and then the sheet, as many as the call has
+-- a file: the query and then the sheet or graph, as many as the call has
 unfoldable pub withFile : Seen → ℕ → Seen
 withFile s i =
     cond (eqb (s .query) 0)
@@ -87,6 +87,7 @@ called verbs.Query s = calls.Query (s .allowance) (s .query)
 called verbs.Sheet s = cond (eqb (s .query) 0) calls.Short (calls.Sheet (s .allowance) (s .query))
 called verbs.Check s = cond (eqb (s .sheet) 0) calls.Short (calls.Check (s .query) (s .sheet))
 called verbs.Draw s = cond (eqb (s .sheet) 0) calls.Short (calls.Draw (s .dot) (s .query) (s .sheet))
+called verbs.Judge s = cond (eqb (s .sheet) 0) calls.Short (calls.Judge (s .query) (s .sheet))
 called verbs.Help s = calls.Help
 called verbs.Unknown s = calls.Short
 

@@ -8,7 +8,7 @@ ghost use Rattle.fence_call.specs.Arguments.{noneSeen, begun, wrongAt, w
 ghost use Rattle.fence_call.specs.inner.Shapes.{shapeOf};
 
 // What the arguments so far say: the call, the allowance, whether the next argument is the allowance, whether the graph is asked for as text,
-// the arguments that name the query and the sheet, and the first one that does not fit.
+// the arguments that name the query and the sheet or graph, and the first one that does not fit.
 pub struct Seen {
     pub verb: Verb,
     pub allowance: usize,
@@ -25,6 +25,7 @@ pub enum Call {
     Sheet(usize, usize),
     Check(usize, usize),
     Draw(bool, usize, usize),
+    Judge(usize, usize),
     Help,
     Wrong(usize),
     Short,
@@ -65,6 +66,12 @@ fn shape_of(v: Verb) -> Shape
             files: 2,
             allowance: false,
             draws: true,
+            known: true,
+        },
+        Verb::Judge => Shape {
+            files: 2,
+            allowance: false,
+            draws: false,
             known: true,
         },
         Verb::Help => Shape {
@@ -151,7 +158,7 @@ fn with_count(s: Seen, n: Count, i: usize) -> Seen
     }
 }
 
-// A file: the query and then the sheet, as many as the call has.
+// A file: the query and then the sheet or graph, as many as the call has.
 fn with_file(s: Seen, i: usize) -> Seen
     ensures { λ r. ⌜ r ≡ withFile s i ⌝ }
 {
@@ -273,6 +280,12 @@ pub fn asked(s: Seen) -> Call
                 return Call::Short;
             }
             Call::Draw(s.dot, s.query, s.sheet)
+        }
+        Verb::Judge => {
+            if s.sheet == 0 {
+                return Call::Short;
+            }
+            Call::Judge(s.query, s.sheet)
         }
         Verb::Help => Call::Help,
         Verb::Unknown => Call::Short,

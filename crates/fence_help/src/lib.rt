@@ -25,6 +25,10 @@ fn calls() {
     );
     io::write_all(
         STDOUT_FILENO,
+        b"fence judge QUERY GRAPH                   whether the graph meets the query's lines, and the claim\n",
+    );
+    io::write_all(
+        STDOUT_FILENO,
         b"fence --help                              this\n",
     );
 }
@@ -33,7 +37,7 @@ fn calls() {
 fn answers() {
     io::write_all(
         STDOUT_FILENO,
-        b"\nFILE, QUERY and SHEET are names of files, - is standard input. N is from 1 to 4096, 200 unless given.\n",
+        b"\nFILE, QUERY, SHEET and GRAPH are names of files, - is standard input. N is from 1 to 4096, 200 unless given.\n",
     );
     io::write_all(
         STDOUT_FILENO,
@@ -50,6 +54,10 @@ fn answers() {
     io::write_all(
         STDOUT_FILENO,
         b"  passes proved, passes refuted: the sheet is evidence for that verdict\n",
+    );
+    io::write_all(
+        STDOUT_FILENO,
+        b"  line, the first line that the graph breaks or 0, holds or breaks: its judgement; what breaks the claim follows\n",
     );
     io::write_all(
         STDOUT_FILENO,

@@ -1,4 +1,4 @@
--- The words of a refusal, piece by piece: the words of a cause that is known, the place by its tests, a line byte by byte.
+-- The words of a refusal, piece by piece: the place by its tests, a line byte by byte.
 -- Assumes nothing.
 use Prim.Native.Nat.{ℕ, suc, _+_, _≤_, _<_}
 use native.Mathlib.Omega.{arith}
@@ -18,11 +18,7 @@ use Rattle.refusals.specs.declared.Reason.{Reason}
 use Rattle.print_line.specs.Puts.{Puts}
 use Rattle.print_line.proofs.Putting.{puts-nothing, puts-append, puts-bytes}
 use Rattle.texts.specs.Lines.{lineAt}
-use Rattle.fence_words.specs.Sentences.{causeText, placeText, sentenceOf, visible, shownLine, lineFor, wordsOf}
-
--- the words of a cause that is known
-pub cause-known : {l m : List ℕ} {at to : ℕ} (why r : Reason) → why ≡ r → Puts l at (causeText r) to m → Puts l at (causeText why) to m
-cause-known why r e p = puts-bytes (ap causeText (sym e)) p
+use Rattle.fence_words.specs.Sentences.{placeText, sentenceOf, visible, shownLine, lineFor, wordsOf}
 
 -- the place: none, a line, a field
 pub place-none : {l : List ℕ} {at : ℕ} (n p : ℕ) → p ≡ 0 → at ≤ length l → Puts l at (placeText n p) at l

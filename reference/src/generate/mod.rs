@@ -9,3 +9,4 @@ pub mod damage;
 pub mod sheets;
 pub mod graphs;
 pub mod every_way;
+pub mod judged;

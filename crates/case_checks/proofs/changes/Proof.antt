@@ -1,4 +1,4 @@
--- `case_checks::changes` is safe and ends: it goes once over the bytes; the sheet keeps its length.
+-- `case_checks::changes` is safe and ends: it goes once over the bytes; the bytes keep their length.
 -- Assumes nothing.
 use Prim.Native.Nat.{_-_, _≤_}
 use mathlib.Core.Path.{_≡_}
@@ -8,10 +8,10 @@ use Rattle.case_checks.proofs.changes.Statement.{statement}
 use Rattle.case_checks.proofs.changes.Tie as tie
 
 abbrev Inv-loop : tie.InvT-loop
-Inv-loop query buffer₀ n at r₀ b₀ t6 buffer r b = (b ≤ 255) × (length buffer ≡ length buffer₀)
+Inv-loop of query buffer₀ n at r₀ b₀ t6 buffer r b = (b ≤ 255) × (length buffer ≡ length buffer₀)
 
 abbrev μ-loop : tie.MeasureT-loop
-μ-loop query buffer₀ n at r₀ b₀ t6 buffer r b = 255 - b
+μ-loop of query buffer₀ n at r₀ b₀ t6 buffer r b = 255 - b
 
 loop-holds : tie.Need-loop-holds Inv-loop μ-loop
 loop-holds c = search needs

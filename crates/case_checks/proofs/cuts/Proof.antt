@@ -10,22 +10,19 @@ use Rattle.case_checks.proofs.cuts.Statement.{statement}
 use Rattle.case_checks.proofs.cuts.Tie as tie
 
 abbrev Inv-loop : tie.InvT-loop
-Inv-loop query sheet r₀ i₀ t5 r i = i ≤ length sheet
+Inv-loop of query bytes r₀ i₀ t5 r i = i ≤ length bytes
 
 abbrev μ-loop : tie.MeasureT-loop
-μ-loop query sheet r₀ i₀ t5 r i = length sheet - i
+μ-loop of query bytes r₀ i₀ t5 r i = length bytes - i
 
 loop-holds : tie.Need-loop-holds Inv-loop μ-loop
 loop-holds c = search needs
 
-slice-aggregate-check : tie.Need-slice-aggregate-check Inv-loop μ-loop
-slice-aggregate-check c = sym (length-take-le _ _ (omega arith))
+slice-aggregate-answer : tie.Need-slice-aggregate-answer Inv-loop μ-loop
+slice-aggregate-answer c = sym (length-take-le _ _ (omega arith))
 
-check-requires : tie.Need-check-requires Inv-loop μ-loop
-check-requires c κs = search needs
-
-code-requires : tie.Need-code-requires Inv-loop μ-loop
-code-requires c κs = search needs
+answer-requires : tie.Need-answer-requires Inv-loop μ-loop
+answer-requires c κs = search needs
 
 more-requires : tie.Need-more-requires Inv-loop μ-loop
 more-requires c κs = search needs
@@ -39,11 +36,8 @@ loop-less c = search needs
 loop-again : tie.Need-loop-again Inv-loop μ-loop
 loop-again c = search needs
 
-check-requires-2 : tie.Need-check-requires-2 Inv-loop μ-loop
-check-requires-2 c κs = search needs
-
-code-requires-2 : tie.Need-code-requires-2 Inv-loop μ-loop
-code-requires-2 c κs = search needs
+answer-requires-2 : tie.Need-answer-requires-2 Inv-loop μ-loop
+answer-requires-2 c κs = search needs
 
 more-requires-2 : tie.Need-more-requires-2 Inv-loop μ-loop
 more-requires-2 c κs = search needs
@@ -67,15 +61,13 @@ cuts-spec =
     Inv-loop
     μ-loop
     loop-holds
-    slice-aggregate-check
-    check-requires
-    code-requires
+    slice-aggregate-answer
+    answer-requires
     more-requires
     add-i
     loop-less
     loop-again
-    check-requires-2
-    code-requires-2
+    answer-requires-2
     more-requires-2
     write-run-requires
     slice-aggregate-write-all

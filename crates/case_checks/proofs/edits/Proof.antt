@@ -1,4 +1,4 @@
--- `case_checks::edits` is safe and ends: it goes once over the places; the sheet keeps its length.
+-- `case_checks::edits` is safe and ends: it goes once over the places; the bytes keep their length.
 -- Assumes nothing.
 use Prim.Native.Nat.{_-_, _≤_}
 use mathlib.Core.Path.{_≡_}
@@ -8,10 +8,10 @@ use Rattle.case_checks.proofs.edits.Statement.{statement}
 use Rattle.case_checks.proofs.edits.Tie as tie
 
 abbrev Inv-loop : tie.InvT-loop
-Inv-loop query buffer₀ n i₀ buffer i = (i ≤ n) × (length buffer ≡ length buffer₀)
+Inv-loop of query buffer₀ n i₀ buffer i = (i ≤ n) × (length buffer ≡ length buffer₀)
 
 abbrev μ-loop : tie.MeasureT-loop
-μ-loop query buffer₀ n i₀ buffer i = n - i
+μ-loop of query buffer₀ n i₀ buffer i = n - i
 
 first-requires : tie.Need-first-requires Inv-loop μ-loop
 first-requires c κs = search needs

@@ -44,32 +44,43 @@ returns-5 c = short-of (calls.Draw (c .before .before .before .before .before .b
 enum-told-5 : tie.Need-enum-told-5
 enum-told-5 c = search needs
 
+returns-6 : tie.Need-returns-6
+unfolding called
+returns-6 c = short-of (calls.Judge (c .before .before .before .before .before .before .before .args .s .query) (c .before .before .before .before .before .before .before .args .s .sheet)) (c .if6 .taken) ∙ asks-called (c .before .before .before .before .before .before .before .args .s) verbs.Judge (c .before .before .before .before .before .if1 .left) (c .before .before .before .before .if2 .left) (c .before .before .enum-told5 .given .1)
+
 enum-told-6 : tie.Need-enum-told-6
 enum-told-6 c = search needs
 
-returns-6 : tie.Need-returns-6
-unfolding called
-returns-6 c = asks-called (c .before .before .before .before .before .args .s) verbs.Query (c .before .before .before .if1 .left) (c .before .before .if2 .left) (c .enum-told .given .1)
+enum-told-7 : tie.Need-enum-told-7
+enum-told-7 c = search needs
 
 returns-7 : tie.Need-returns-7
 unfolding called
-returns-7 c = whole-of (c .if3 .left) ∙ asks-called (c .before .before .before .before .before .before .before .args .s) verbs.Sheet (c .before .before .before .before .before .if1 .left) (c .before .before .before .before .if2 .left) (c .before .before .enum-told2 .given .1)
+returns-7 c = asks-called (c .before .before .before .before .before .args .s) verbs.Query (c .before .before .before .if1 .left) (c .before .before .if2 .left) (c .enum-told .given .1)
 
 returns-8 : tie.Need-returns-8
 unfolding called
-returns-8 c = whole-of (c .if4 .left) ∙ asks-called (c .before .before .before .before .before .before .before .args .s) verbs.Check (c .before .before .before .before .before .if1 .left) (c .before .before .before .before .if2 .left) (c .before .before .enum-told3 .given .1)
+returns-8 c = whole-of (c .if3 .left) ∙ asks-called (c .before .before .before .before .before .before .before .args .s) verbs.Sheet (c .before .before .before .before .before .if1 .left) (c .before .before .before .before .if2 .left) (c .before .before .enum-told2 .given .1)
 
 returns-9 : tie.Need-returns-9
 unfolding called
-returns-9 c = whole-of (c .if5 .left) ∙ asks-called (c .before .before .before .before .before .before .before .args .s) verbs.Draw (c .before .before .before .before .before .if1 .left) (c .before .before .before .before .if2 .left) (c .before .before .enum-told4 .given .1)
+returns-9 c = whole-of (c .if4 .left) ∙ asks-called (c .before .before .before .before .before .before .before .args .s) verbs.Check (c .before .before .before .before .before .if1 .left) (c .before .before .before .before .if2 .left) (c .before .before .enum-told3 .given .1)
 
 returns-10 : tie.Need-returns-10
 unfolding called
-returns-10 c = asks-called (c .before .before .before .before .before .args .s) verbs.Help (c .before .before .before .if1 .left) (c .before .before .if2 .left) (c .enum-told5 .given .1)
+returns-10 c = whole-of (c .if5 .left) ∙ asks-called (c .before .before .before .before .before .before .before .args .s) verbs.Draw (c .before .before .before .before .before .if1 .left) (c .before .before .before .before .if2 .left) (c .before .before .enum-told4 .given .1)
 
 returns-11 : tie.Need-returns-11
 unfolding called
-returns-11 c = asks-called (c .before .before .before .before .before .args .s) verbs.Unknown (c .before .before .before .if1 .left) (c .before .before .if2 .left) (c .enum-told6 .given .1)
+returns-11 c = whole-of (c .if6 .left) ∙ asks-called (c .before .before .before .before .before .before .before .args .s) verbs.Judge (c .before .before .before .before .before .if1 .left) (c .before .before .before .before .if2 .left) (c .before .before .enum-told5 .given .1)
+
+returns-12 : tie.Need-returns-12
+unfolding called
+returns-12 c = asks-called (c .before .before .before .before .before .args .s) verbs.Help (c .before .before .before .if1 .left) (c .before .before .if2 .left) (c .enum-told6 .given .1)
+
+returns-13 : tie.Need-returns-13
+unfolding called
+returns-13 c = asks-called (c .before .before .before .before .before .args .s) verbs.Unknown (c .before .before .before .if1 .left) (c .before .before .if2 .left) (c .enum-told7 .given .1)
 
 pub asked-spec : {M : Type 1} → statement M
 asked-spec =
@@ -85,10 +96,13 @@ asked-spec =
     enum-told-4
     returns-5
     enum-told-5
-    enum-told-6
     returns-6
+    enum-told-6
+    enum-told-7
     returns-7
     returns-8
     returns-9
     returns-10
-    returns-11)
+    returns-11
+    returns-12
+    returns-13)

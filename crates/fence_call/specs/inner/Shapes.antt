@@ -11,5 +11,6 @@ shapeOf verbs.Query = record { files = 1; allowance = true; draws = false; known
 shapeOf verbs.Sheet = record { files = 1; allowance = true; draws = false; known = true }
 shapeOf verbs.Check = record { files = 2; allowance = false; draws = false; known = true }
 shapeOf verbs.Draw = record { files = 2; allowance = false; draws = true; known = true }
+shapeOf verbs.Judge = record { files = 2; allowance = false; draws = false; known = true }
 shapeOf verbs.Help = record { files = 0; allowance = false; draws = false; known = true }
 shapeOf verbs.Unknown = record { files = 0; allowance = false; draws = false; known = false }

@@ -1,12 +1,12 @@
--- `fence_words::put_cause` meets its contract. In each arm the cause is known.
+-- `cause_words::put_cause` meets its contract. In each arm the cause is known.
 -- Assumes nothing.
 use mathlib.Core.Path.{refl}
 use Rattle.refusals.specs.declared.Reason.the-variants.{TooLong, BadByte, Notation, TooDeep, UnknownName, WrongKind, DeclaredTwice, ReservedName, TooMany, NoClaim, AfterClaim, OverLimit, BadAllowance, ShortMemory, SpentAllowance, ShortBuffer, GraphField, SheetField, DoesNotPass}
-use Rattle.fence_words.specs.Sentences.{causeText}
-use Rattle.fence_words.proofs.Pieces.{cause-known}
+use Rattle.cause_words.specs.CauseText.{causeText}
+use Rattle.cause_words.proofs.Known.{cause-known}
 use borrow.Author.Needs.{needs}
-use Rattle.fence_words.proofs.put_cause.Statement.{statement}
-use Rattle.fence_words.proofs.put_cause.Tie as tie
+use Rattle.cause_words.proofs.put_cause.Statement.{statement}
+use Rattle.cause_words.proofs.put_cause.Tie as tie
 
 slice-aggregate-put-text : tie.Need-slice-aggregate-put-text
 slice-aggregate-put-text c = refl

@@ -1,0 +1,2 @@
+-- The words of a cause that is known.
+pub mod Known

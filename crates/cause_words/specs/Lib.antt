@@ -1,0 +1,2 @@
+-- The words of each cause.
+pub mod CauseText

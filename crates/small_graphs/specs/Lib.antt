@@ -1,0 +1,2 @@
+-- The numbers that the graphs are made of.
+pub mod Numbers
