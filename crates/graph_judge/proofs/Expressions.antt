@@ -10,7 +10,7 @@ use mathlib.Core.List.{List, [], _∷_, _++_}
 use mathlib.Core.Option.{none}
 use lib.Dec.{eqb, ltb}
 use lib.ListN.{length, getD, drop, length-append}
-use borrow.Author.Tests.{ltb-true, ne-eqb, le-leb, lt-leb, lt-ltb, le-ltb}
+use borrow.Author.Tests.{ltb-true}
 use Rattle.kat.specs.Lists.{upto, some as someOf}
 use Rattle.kat.specs.Expr.{none as nowhere}
 use Rattle.kat.specs.Closure.{table, entry, closure}
@@ -39,6 +39,8 @@ use Rattle.graph_tables.specs.declared.State.{State}
 use Rattle.graph_tables.specs.Listed.{relationRows, eventsWith}
 use Rattle.graph_tables.specs.Machine.{Judging, tableAt, pushed, changedTop, merged, operated}
 use Rattle.graph_judge.specs.Machine.{performed, performedAll}
+use Rattle.graph_tables.proofs.Steps.{does-relation, does-let, does-nothing-low}
+use Rattle.graph_judge.proofs.Ends.{does-operate}
 use Rattle.graph_judge.proofs.Graphed.{Graphed}
 use Rattle.graph_judge.proofs.Broken.{some-one}
 use Rattle.graph_judge.proofs.Added.{Added, Adds, Room, SameLets, adds-given, adds-changed, adds-merged}
@@ -55,20 +57,11 @@ performed-last L j xs i = performed-append L j xs (i ∷ [])
 
 -- the codes of a T do nothing
 test-idle : (L : List ℕ) (j : Judging) (k : ℕ) → ofTest k ≡ true → performed L j (item k 0) ≡ j
-unfolding performed operated
 test-idle L j k h =
     let (l, n) = of-test-small k h in
-    rw (
-      lt-ltb k 128 (omega arith),
-      ne-eqb k 6 (n 6 (omega arith) (omega arith)),
-      ne-eqb k 7 (n 7 (omega arith) (omega arith)),
-      ne-eqb k 8 (n 8 (omega arith) (omega arith)),
-      ne-eqb k 9 (n 9 (omega arith) (omega arith)),
-      ne-eqb k 10 (n 10 (omega arith) (omega arith)),
-      ne-eqb k 11 (n 11 (omega arith) (omega arith)),
-      lt-leb 32 k l,
-      lt-leb 64 k (omega arith),
-    )
+    sym (does-operate L j k 0 (omega arith))
+    ∙ does-nothing-low L j k 0 (n 6 (omega arith) (omega arith)) (n 7 (omega arith) (omega arith)) (n 8 (omega arith) (omega arith))
+    (n 9 (omega arith) (omega arith)) (n 10 (omega arith) (omega arith)) (n 11 (omega arith) (omega arith)) l
 
 pub tests-idle : (L : List ℕ) (j : Judging) (ks : List ℕ) → Tested ks → performedAll L j (plain ks) ≡ j
 unfolding performedAll
@@ -77,40 +70,20 @@ tests-idle L j (k ∷ ks) (h, t) = ap (λ m. performedAll L m (plain ks)) (test-
 
 -- a relation's name, and a let's
 relation-code-does : (L : List ℕ) (j : Judging) (r x : ℕ) → r < 16 → performed L j (item (32 + r) x) ≡ pushed j (relationRows L r)
-unfolding performed operated
 relation-code-does L j r x h =
     let e : 32 + r - 32 ≡ r = omega arith in
-    rw (
-      lt-ltb (32 + r) 128 (omega arith),
-      ne-eqb (32 + r) 6 (λ z. omega arith),
-      ne-eqb (32 + r) 7 (λ z. omega arith),
-      ne-eqb (32 + r) 8 (λ z. omega arith),
-      ne-eqb (32 + r) 9 (λ z. omega arith),
-      ne-eqb (32 + r) 10 (λ z. omega arith),
-      ne-eqb (32 + r) 11 (λ z. omega arith),
-      le-leb 32 (32 + r) (omega arith),
-      lt-ltb (32 + r) 48 (omega arith),
-      e,
-    )
+    sym (does-operate L j (32 + r) x (omega arith))
+    ∙ does-relation L j (32 + r) x (λ z. omega arith) (λ z. omega arith) (λ z. omega arith) (λ z. omega arith) (λ z. omega arith) (λ z. omega arith)
+    (omega arith) (omega arith)
+    ∙ ap (λ i. pushed j (relationRows L i)) e
 
 let-code-does : (L : List ℕ) (j : Judging) (r x : ℕ) → r < 32 → performed L j (item (64 + r) x) ≡ pushed j (tableAt (j .mem) r)
-unfolding performed operated
 let-code-does L j r x h =
     let e : 64 + r - 64 ≡ r = omega arith in
-    rw (
-      lt-ltb (64 + r) 128 (omega arith),
-      ne-eqb (64 + r) 6 (λ z. omega arith),
-      ne-eqb (64 + r) 7 (λ z. omega arith),
-      ne-eqb (64 + r) 8 (λ z. omega arith),
-      ne-eqb (64 + r) 9 (λ z. omega arith),
-      ne-eqb (64 + r) 10 (λ z. omega arith),
-      ne-eqb (64 + r) 11 (λ z. omega arith),
-      le-leb 32 (64 + r) (omega arith),
-      le-ltb (64 + r) 48 (omega arith),
-      le-leb 64 (64 + r) (omega arith),
-      lt-ltb (64 + r) 96 (omega arith),
-      e,
-    )
+    sym (does-operate L j (64 + r) x (omega arith))
+    ∙ does-let L j (64 + r) x (λ z. omega arith) (λ z. omega arith) (λ z. omega arith) (λ z. omega arith) (λ z. omega arith) (λ z. omega arith)
+    (omega arith) (omega arith)
+    ∙ ap (λ i. pushed j (tableAt (j .mem) i)) e
 
 -- how many codes two operands have, or one, with the operator
 pub two-few : (xs ys : List ℕ) (k n : ℕ) → length ((xs ++ ys) ++ (k ∷ [])) ≤ n → (length xs ≤ n) × (length ys ≤ n)

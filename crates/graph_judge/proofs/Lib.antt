@@ -1,3 +1,5 @@
+-- One code: the ends of lines.
+pub mod Ends
 -- What the words of a graph show.
 pub mod Graphed
 -- Which lines are broken.
@@ -11,6 +13,5 @@ pub mod Lines
 pub mod Limits
 -- All lines.
 pub mod Judged
--- The functions: the ends of lines.
-pub mod Ends
+-- The functions: the loop over the codes.
 pub mod Running

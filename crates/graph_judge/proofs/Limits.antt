@@ -9,7 +9,6 @@ use mathlib.Core.List.{List, [], _∷_, _++_}
 use mathlib.Core.Option.{none}
 use lib.Dec.{eqb, ltb}
 use lib.ListN.{length, getD}
-use borrow.Author.Tests.{ne-eqb, lt-ltb, le-ltb}
 use Rattle.kat.specs.Lists.{some}
 use Rattle.kat.specs.Graph.{Finite}
 use Rattle.kat.proofs.Closure.{entry-table}
@@ -29,8 +28,10 @@ use Rattle.rows.specs.Rows.{composed, NOWHERE, lowestPair}
 use Rattle.rows.proofs.Shown.{Shows, shows-same}
 use Rattle.tree_heights.specs.Heights.{height}
 use Rattle.graph_tables.specs.Listed.{relationRows}
-use Rattle.graph_tables.specs.Machine.{Judging, top, second}
-use Rattle.graph_judge.specs.Machine.{outside, unclosed, brokenIf, relationLine, judgedLine, lineEnded, performed, performedAll}
+use Rattle.graph_tables.specs.declared.State.{State}
+use Rattle.graph_tables.specs.Machine.{Judging, judging, top, second}
+use Rattle.graph_judge.specs.Machine.{outside, unclosed, brokenIf, relationLine, performed, performedAll}
+use Rattle.graph_judge.proofs.Ends.{ends-within, ends-closed, ends-other, does-end}
 use Rattle.graph_judge.proofs.Graphed.{Graphed}
 use Rattle.graph_judge.proofs.Broken.{outside-limits, not-closed}
 use Rattle.graph_judge.proofs.Added.{Added, top-shows, second-shows, one-more}
@@ -38,45 +39,26 @@ use Rattle.graph_judge.proofs.Expressions.{performed-append, performed-
 use Rattle.graph_judge.proofs.InLines.{InLine, LineDone, added-in-line, broken-done}
 use Rattle.graph_judge.proofs.Lines.{expression-added}
 
--- the end of a line on relation r
+-- the end of a line on a relation
+module _ (L : List ℕ) (j : Judging) (k : ℕ) (h : 144 ≤ k) where
+  relation-does : (r : State) → r ≡ relationLine L j k → performed L j (item k 0) ≡ judging (j .mem) r
+  relation-does r e =
+      sym (does-end L j k 0 (omega arith) (λ z. omega arith) r
+      (e ∙ sym (ends-other L j k 0 (λ z. omega arith) (λ z. omega arith) (λ z. omega arith) (λ z. omega arith) (λ z. omega arith) (λ z. omega arith)
+      (λ z. omega arith))))
+
 module _ (L : List ℕ) (j : Judging) (r : ℕ) (h : r < 16) where
-  within-does : performed L j (item (144 + r) 0) ≡ record { mem = j .mem; state = brokenIf (outside L j r) (j .state) }
-  unfolding performed lineEnded judgedLine relationLine
+  within-does : performed L j (item (144 + r) 0) ≡ judging (j .mem) (brokenIf (outside L j r) (j .state))
   within-does =
       let e : 144 + r - 144 ≡ r = omega arith in
-      rw (
-        le-ltb (144 + r) 128 (omega arith),
-        ne-eqb (144 + r) 130 (λ z. omega arith),
-        ne-eqb (144 + r) 131 (λ z. omega arith),
-        ne-eqb (144 + r) 133 (λ z. omega arith),
-        ne-eqb (144 + r) 134 (λ z. omega arith),
-        ne-eqb (144 + r) 135 (λ z. omega arith),
-        ne-eqb (144 + r) 136 (λ z. omega arith),
-        ne-eqb (144 + r) 137 (λ z. omega arith),
-        ne-eqb (144 + r) 138 (λ z. omega arith),
-        le-ltb (144 + r) 144 (omega arith),
-        lt-ltb (144 + r) 160 (omega arith),
-        e,
-      )
+      relation-does L j (144 + r) (omega arith) (brokenIf (outside L j r) (j .state))
+      (sym (ends-within L j (144 + r) (omega arith) (omega arith) ∙ ap (λ i. brokenIf (outside L j i) (j .state)) e))
 
-  closed-does : performed L j (item (160 + r) 0) ≡ record { mem = j .mem; state = brokenIf (unclosed L (j .state) r) (j .state) }
-  unfolding performed lineEnded judgedLine relationLine
+  closed-does : performed L j (item (160 + r) 0) ≡ judging (j .mem) (brokenIf (unclosed L (j .state) r) (j .state))
   closed-does =
       let e : 160 + r - 160 ≡ r = omega arith in
-      rw (
-        le-ltb (160 + r) 128 (omega arith),
-        ne-eqb (160 + r) 130 (λ z. omega arith),
-        ne-eqb (160 + r) 131 (λ z. omega arith),
-        ne-eqb (160 + r) 133 (λ z. omega arith),
-        ne-eqb (160 + r) 134 (λ z. omega arith),
-        ne-eqb (160 + r) 135 (λ z. omega arith),
-        ne-eqb (160 + r) 136 (λ z. omega arith),
-        ne-eqb (160 + r) 137 (λ z. omega arith),
-        ne-eqb (160 + r) 138 (λ z. omega arith),
-        le-ltb (160 + r) 144 (omega arith),
-        le-ltb (160 + r) 160 (omega arith),
-        e,
-      )
+      relation-does L j (160 + r) (omega arith) (brokenIf (unclosed L (j .state) r) (j .state))
+      (sym (ends-closed L j (160 + r) (omega arith) ∙ ap (λ i. brokenIf (unclosed L (j .state) i) (j .state)) e))
 
 module _ (G : Finite) (q : Query) (L : List ℕ) (n : ℕ) (g : Graphed G L n) (o : Orderly [] q) (p r : Query) (z : p ++ r ≡ q) (s : Settled p)
     (ss : List ℕ) (j : Judging) (i : InLine G q L n g p j) (w : j .state .waiting ≡ 0) (m : Name) (e : slip p (usesRelation m) ≡ none) where
