@@ -36,7 +36,7 @@ fn wide(b: u8) -> u64
 fn verdict(sheet: &[u8], at: usize) -> u64
     ensures { λ v. ⌜ VerdictAt (now (sheet .entry)) at v ⌝ }
 {
-    let Field::Whole(tag, from, to) = fields::next(sheet, at) else {
+    let Field::Whole(tag, from, to) = sheet_reader::field_at(sheet, at) else {
         return 0;
     };
     if tag != 1 {
@@ -59,7 +59,7 @@ fn verdict(sheet: &[u8], at: usize) -> u64
 fn is_sized(sheet: &[u8], at: usize, ring: bool) -> bool
     ensures { λ b. ⌜ b ≡ sized ring (nextField (drop at (now (sheet .entry)))) ⌝ }
 {
-    let Field::Whole(_, from, to) = fields::next(sheet, at) else {
+    let Field::Whole(_, from, to) = sheet_reader::field_at(sheet, at) else {
         return false;
     };
     if ring {
@@ -118,7 +118,7 @@ fn standings(
     let size = stride(f.ring);
     let mut n = 0;
     let mut at = base;
-    while fields::tagged(sheet, at, 3) {
+    while sheet_reader::tagged_at(sheet, at, 3) {
         if n == 4096 {
             return Part::Wrong(4097);
         }
@@ -139,7 +139,7 @@ fn word(f: Facts, sheet: &[u8], at: usize) -> Part
         ⌜ ((left right : List ℕ) (D : Decision) → Decided f left right D → (k : ℕ)
         → Reads (f .ring) D (now (sheet .entry)) k (wordFrom D (suc k) (nextField (drop at (now (sheet .entry))))) r) ⌝ }
 {
-    let Field::Whole(tag, from, to) = fields::next(sheet, at) else {
+    let Field::Whole(tag, from, to) = sheet_reader::field_at(sheet, at) else {
         return Part::Wrong(1);
     };
     if tag != 2 {

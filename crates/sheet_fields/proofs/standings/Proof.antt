@@ -43,13 +43,13 @@ loop-holds c =
       reading-none (a .f) (a .sheet .now) (a .base),
     )
 
-tagged-requires : tie.Need-tagged-requires Inv-loop μ-loop
-tagged-requires c κs = search needs
+tagged-at-requires : tie.Need-tagged-at-requires Inv-loop μ-loop
+tagged-at-requires c κs = search needs
 
 returns : tie.Need-returns Inv-loop μ-loop
 returns c =
     let if1′ = c .before .if1 in
-    let tagged′ = c .before .before .tagged in
+    let tagged′ = c .before .before .tagged-at in
     let shared-slice-known′ = c .before .before .before .before .before .shared-slice-known in
     let a = c .before .before .before .before .before .before .args in
     let l = c .before .before .before .loop in (
@@ -72,7 +72,7 @@ returns-2 : tie.Need-returns-2 Inv-loop μ-loop
 returns-2 c =
     let may-list′ = c .before .may-list in
     let if1′ = c .before .before .before .before .before .if1 in
-    let tagged′ = c .before .before .before .before .before .before .tagged in
+    let tagged′ = c .before .before .before .before .before .before .tagged-at in
     let shared-slice-known′ = c .before .before .before .before .before .before .before .before .before .shared-slice-known in
     let a = c .before .before .before .before .before .before .before .before .before .before .args in
     let l = c .before .before .before .before .before .before .before .loop in (
@@ -121,7 +121,7 @@ loop-again c =
     let if3′ = c .before .before .before .if3 in
     let may-list′ = c .before .before .before .before .may-list in
     let if1′ = c .before .before .before .before .before .before .before .before .if1 in
-    let tagged′ = c .before .before .before .before .before .before .before .before .before .tagged in
+    let tagged′ = c .before .before .before .before .before .before .before .before .before .tagged-at in
     let stride′ = c .before .before .before .before .before .before .before .before .before .before .before .stride in
     let shared-slice-known′ = c .before .before .before .before .before .before .before .before .before .before .before .before .shared-slice-known in
     let a = c .before .before .before .before .before .before .before .before .before .before .before .before .before .args in
@@ -149,7 +149,7 @@ loop-again c =
 
 returns-3 : tie.Need-returns-3 Inv-loop μ-loop
 returns-3 c =
-    let tagged′ = c .before .tagged in
+    let tagged′ = c .before .tagged-at in
     let shared-slice-known′ = c .before .before .before .before .shared-slice-known in
     let a = c .before .before .before .before .before .args in
     let l = c .before .before .loop in (
@@ -166,7 +166,7 @@ standings-spec =
     μ-loop
     stride-requires
     loop-holds
-    tagged-requires
+    tagged-at-requires
     returns
     may-list-requires
     add-t14
