@@ -106,7 +106,6 @@ fn write_checked(
 fn searched(
     text: &[u8],
     whole: bool,
-    records: &mut [[u64; 4]],
     words: &mut [u64],
     buffer: &mut [u8],
     graph: &mut [u8],
@@ -116,7 +115,7 @@ fn searched(
     let from = allowance.count + 1;
     if from <= text.len() {
         let query = &text[from..];
-        let r = search::search(query, allowance.value, records, words, buffer);
+        let r = search::search_alone(query, allowance.value, words, buffer);
         write_checked(r, query, whole, buffer, graph, out);
     }
 }
@@ -164,15 +163,14 @@ fn part_named(text: &[u8]) -> Begins {
 fn answer(
     text: &[u8],
     part: Part,
-    records: &mut [[u64; 4]],
     words: &mut [u64],
     buffer: &mut [u8],
     graph: &mut [u8],
     out: &mut [u8],
 ) {
     match part {
-        Part::Search => searched(text, false, records, words, buffer, graph, out),
-        Part::Whole => searched(text, true, records, words, buffer, graph, out),
+        Part::Search => searched(text, false, words, buffer, graph, out),
+        Part::Whole => searched(text, true, words, buffer, graph, out),
         _ => sheet_case(text, part, buffer, graph),
     }
 }
@@ -181,7 +179,6 @@ fn answer(
 fn take(
     text: &[u8],
     part: Part,
-    records: &mut [[u64; 4]],
     words: &mut [u64],
     buffer: &mut [u8],
     graph: &mut [u8],
@@ -191,7 +188,7 @@ fn take(
     if let Begins::A(next) = b {
         return next;
     }
-    answer(text, part, records, words, buffer, graph, out);
+    answer(text, part, words, buffer, graph, out);
     part
 }
 
@@ -199,7 +196,6 @@ fn take(
 fn run(
     input: &mut [u8],
     text: &mut [u8],
-    records: &mut [[u64; 4]],
     words: &mut [u64],
     buffer: &mut [u8],
     graph: &mut [u8],
@@ -212,15 +208,7 @@ fn run(
         let c = case_lines::next(input, used, text);
         match c {
             Case::Line(n, behind) => {
-                part = take(
-                    texts::first(text, n),
-                    part,
-                    records,
-                    words,
-                    buffer,
-                    graph,
-                    out,
-                );
+                part = take(texts::first(text, n), part, words, buffer, graph, out);
                 used = behind;
             }
             Case::End => return,
@@ -232,7 +220,6 @@ fn run(
 fn main() {
     let mut input = [0u8; 65536];
     let mut text = [0u8; 163840];
-    let mut records = [[0u64; 4]; 4096];
     let mut words = [0u64; 163840];
     let mut buffer = [0u8; 1102097];
     let mut graph = [0u8; 24832];
@@ -240,7 +227,6 @@ fn main() {
     run(
         &mut input,
         &mut text,
-        &mut records,
         &mut words,
         &mut buffer,
         &mut graph,

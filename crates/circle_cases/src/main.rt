@@ -174,7 +174,6 @@ fn take(
     text: &[u8],
     place: u64,
     state: u64,
-    records: &mut [[u64; 4]],
     words: &mut [u64],
     buffer: &mut [u8],
     graph: &mut [u8],
@@ -186,7 +185,7 @@ fn take(
         return state;
     }
     let query = &text[from..];
-    let r = search::search(query, allowance.value, records, words, buffer);
+    let r = search::search_alone(query, allowance.value, words, buffer);
     let n = fence_line::sheet_length(r, buffer);
     tried(
         r,
@@ -226,7 +225,6 @@ fn write_counts(counts: &[u64]) {
 fn run(
     input: &mut [u8],
     text: &mut [u8],
-    records: &mut [[u64; 4]],
     words: &mut [u64],
     buffer: &mut [u8],
     graph: &mut [u8],
@@ -243,7 +241,6 @@ fn run(
                     texts::first(text, n),
                     place,
                     state,
-                    records,
                     words,
                     buffer,
                     graph,
@@ -261,20 +258,18 @@ fn run(
 fn whole(
     input: &mut [u8],
     text: &mut [u8],
-    records: &mut [[u64; 4]],
     words: &mut [u64],
     buffer: &mut [u8],
     graph: &mut [u8],
     counts: &mut [u64],
 ) {
-    run(input, text, records, words, buffer, graph, counts);
+    run(input, text, words, buffer, graph, counts);
     write_counts(counts);
 }
 
 fn main() {
     let mut input = [0u8; 65536];
     let mut text = [0u8; 16384];
-    let mut records = [[0u64; 4]; 4096];
     let mut words = [0u64; 163840];
     let mut buffer = [0u8; 1102097];
     let mut graph = [0u8; 24832];
@@ -282,7 +277,6 @@ fn main() {
     whole(
         &mut input,
         &mut text,
-        &mut records,
         &mut words,
         &mut buffer,
         &mut graph,

@@ -11,7 +11,8 @@ use Rattle.claims.specs.Sheets.{passedAs}
 use Rattle.refusals.specs.declared.Reason.{Reason}
 use Rattle.search_run.specs.declared.Outcome.{Outcome}
 use Rattle.search_run.specs.declared.Outcome.the-variants.{Proved, Refuted, Refused}
-use Rattle.search_run.specs.Outcomes.{Says as SaysAnswer, Gives}
+use Rattle.search_records.specs.declared.Record.{Record}
+use Rattle.search_run.specs.Outcomes.{Says as SaysAnswer, Gives, lentOf}
 use Rattle.sheet.specs.declared.Checked.{Checked}
 use Rattle.sheet.specs.declared.Checked.the-variants.{Proved as PassesProved, Refuted as PassesRefuted, Refused as Fails}
 use Rattle.sheet.specs.Checks.{Says}
@@ -69,3 +70,11 @@ pub still-gives : (bs : List ℕ) (allowance : ℕ) (before after : Lent) (r o :
 still-gives bs allowance before after r o gives part k =
     subst⁻¹ (λ x. Gives (search-call bs allowance before) x after)
     (k ∙ ap (λ (s : List ℕ). kept r (check-call bs s)) part ∙ kept-as-found bs allowance before after r gives) gives
+
+-- the same over lent records
+pub checked-gives : (bs : List ℕ) (allowance : ℕ) (rs : List Record) (w b : List ℕ) (rs′ : List Record) (w′ b′ : List ℕ) (r : Outcome)
+    → Gives (search-call bs allowance (lentOf rs w b)) r (lentOf rs′ w′ b′) → (sheet : List ℕ) → sheet ≡ take (answerSize r b′) b′ → (o : Outcome)
+    → o ≡ kept r (check-call bs sheet) → Gives (search-call bs allowance (lentOf rs w b)) o (lentOf rs′ w′ b′)
+unfolding lentOf
+checked-gives bs allowance rs w b rs′ w′ b′ r gives sheet part o k =
+    still-gives bs allowance (lentOf rs w b) (lentOf rs′ w′ b′) r o gives part k

@@ -2,3 +2,5 @@
 pub mod Sizes
 pub mod ThirdDemand
 pub mod Confirmed
+-- The contract of the call.
+pub mod Contracts

@@ -1,6 +1,7 @@
 // Evidence for every answer: the search, and the check of the sheet that it wrote. (Document 01, "Sheet and graph bytes".) The two calls share
 // only the reading of the query; `specs/ThirdDemand.antt` says what they owe together.
 use refusals::Reason;
+use search_records::Record;
 use search_run::Outcome;
 use sheet::Checked;
 use words::least;
@@ -96,7 +97,7 @@ fn kept(r: Outcome, text: &[u8], sheet: &[u8]) -> Outcome
 pub fn search_and_check(
     text: &[u8],
     allowance: usize,
-    records: &mut [[u64; 4]],
+    records: &mut [Record],
     words: &mut [u64],
     buffer: &mut [u8],
 ) -> Outcome

@@ -30,7 +30,6 @@ fn search_into(
     allowance: usize,
     as_sheet: bool,
     text: &mut [u8],
-    records: &mut [[u64; 4]],
     words: &mut [u64],
     buffer: &mut [u8],
     out: &mut [u8],
@@ -39,24 +38,16 @@ fn search_into(
         return;
     };
     if as_sheet {
-        let r = search::search(texts::first(text, n), allowance, records, words, buffer);
+        let r = search::search_alone(texts::first(text, n), allowance, words, buffer);
         fence_show::show_sheet(r, texts::first(text, n), buffer, out);
         return;
     }
-    fence_show::query(
-        texts::first(text, n),
-        allowance,
-        records,
-        words,
-        buffer,
-        out,
-    );
+    fence_show::query(texts::first(text, n), allowance, words, buffer, out);
 }
 
 // The call of a verdict or its sheet, with memory for the largest allowance, its longest sheet and its longest line.
 fn searched(file: usize, allowance: usize, as_sheet: bool) {
     let mut text = [0u8; 4097];
-    let mut records = [[0u64; 4]; 4096];
     let mut words = [0u64; 163840];
     let mut buffer = [0u8; 1102097];
     let mut out = [0u8; 32768];
@@ -65,7 +56,6 @@ fn searched(file: usize, allowance: usize, as_sheet: bool) {
         allowance,
         as_sheet,
         &mut text,
-        &mut records,
         &mut words,
         &mut buffer,
         &mut out,

@@ -1,10 +1,11 @@
 -- The line of an outcome is the line of what it says, and the program's line is that of its call.
 -- Assumes nothing.
-use Prim.Native.Nat.{ℕ, zero, suc, _+_, _*_}
-use mathlib.Core.Path.{_≡_, refl, sym, _∙_, ap, ap₂, subst}
+use Prim.Native.Nat.{ℕ, zero, suc, _+_, _*_, _≤_}
+use native.Mathlib.Omega.{arith}
+use mathlib.Core.Path.{_≡_, refl, sym, _∙_, ap, ap₂, subst, subst⁻¹}
 use mathlib.Core.Bool.{Bool, true, false}
 use mathlib.Core.List.{List, [], _∷_, _++_, map, append-assoc}
-use lib.ListN.{take, drop, replicate}
+use lib.ListN.{length, take, drop, replicate, length-replicate}
 use Rattle.kat.specs.Word.{Word, size, numbers}
 use Rattle.claims.specs.Bytes.{text}
 use Rattle.claims.specs.Width.{width, rowLength, besideColumns, ringWords}
@@ -12,13 +13,14 @@ use Rattle.claims.specs.SheetBytes.{contentsLength}
 use Rattle.claims.specs.Refusals.{Cause, number, Result, ok, refused}
 use Rattle.claims.specs.Calls.{Answer, provedWith, refutedBy, Slot, Lent, search-call}
 use Rattle.claims.specs.Printed.{spaced, answerLine, refusalLine, lineOf, programAllowance, memoryFor, asksRing, programResult, printed}
-use Rattle.refusals.specs.Causes.{causeOf}
 use Rattle.print_line.specs.Puts.{Puts}
+use Rattle.search_records.specs.Records.{blank}
 use Rattle.search_run.specs.declared.Outcome.{Outcome}
 use Rattle.search_run.specs.declared.Outcome.the-variants.{Proved, Refuted, Refused}
 use Rattle.search_run.specs.Outcomes.{Says, slotOf, lentOf}
 use Rattle.fence_line.specs.Shown.{outcomeLine}
 use Rattle.fence_line.proofs.WordInSheet.{word-stands}
+use Rattle.fence_line.proofs.MoreRecords.{lend, same-result}
 
 -- the line of what an outcome is
 pub as-outcome : {l m : List ℕ} {r x : Outcome} {to : ℕ} (sheet : List ℕ) → r ≡ x → Puts l 0 (outcomeLine x sheet) to m → Puts l 0 (outcomeLine r sheet) to m
@@ -51,44 +53,48 @@ unfolding programAllowance
 allowance-200 false = refl
 allowance-200 true = refl
 
-zero-slots : (n : ℕ) → map slotOf (replicate n (0 ∷ 0 ∷ 0 ∷ 0 ∷ [])) ≡ replicate n (record { P = 0; S = 0; parent = 0; letter = 0 })
+-- a record of zeros as the document has it
+abbrev zeroSlot : Slot
+zeroSlot = record { P = 0; S = 0; parent = 0; letter = 0 }
+
+zero-slots : (n : ℕ) → map slotOf (replicate n blank) ≡ replicate n zeroSlot
 unfolding slotOf
 zero-slots zero = refl
-zero-slots (suc n) = ap (λ (l : List Slot). record { P = 0; S = 0; parent = 0; letter = 0 } ∷ l) (zero-slots n)
+zero-slots (suc n) = ap (λ (l : List Slot). zeroSlot ∷ l) (zero-slots n)
 
-lent-200 : (records : List (List ℕ)) (words buffer : List ℕ) → records ≡ replicate 200 (0 ∷ 0 ∷ 0 ∷ 0 ∷ []) → words ≡ replicate 8000 0
-    → buffer ≡ replicate 53804 0 → lentOf records words buffer ≡ memoryFor 200
-unfolding lentOf slotOf memoryFor ringWords width besideColumns contentsLength rowLength
-lent-200 records words buffer e f g =
-    ap (λ (x : List (List ℕ)). lentOf x words buffer) e ∙ ap (λ (x : List ℕ). lentOf (replicate 200 (0 ∷ 0 ∷ 0 ∷ 0 ∷ [])) x buffer) f
-    ∙ ap (λ (x : List ℕ). lentOf (replicate 200 (0 ∷ 0 ∷ 0 ∷ 0 ∷ [])) (replicate 8000 0) x) g
-    ∙ ap (λ (x : List Slot). lent x (replicate 8000 0) (replicate 53804 0)) (zero-slots 200)
-  where
-    lent : List Slot → List ℕ → List ℕ → Lent
-    lent rs ws b = record { records = rs; words = ws; buffer = b }
+enough-slots : (n : ℕ) → 200 ≤ n → 200 ≤ length (replicate n zeroSlot)
+enough-slots n h = subst⁻¹ (λ (k : ℕ). 200 ≤ k) (length-replicate n zeroSlot) h
+
+-- the call with 4,096 records has the result of that with two hundred
+result-200 : (bs words buffer : List ℕ) → words ≡ replicate 8000 0 → buffer ≡ replicate 53804 0
+    → search-call bs 200 (lentOf (replicate 4096 blank) words buffer) .result ≡ search-call bs 200 (memoryFor 200) .result
+unfolding lentOf memoryFor ringWords width besideColumns contentsLength rowLength
+result-200 bs words buffer f g =
+    ap (λ (x : List ℕ). search-call bs 200 (lentOf (replicate 4096 blank) x buffer) .result) f
+    ∙ ap (λ (x : List ℕ). search-call bs 200 (lentOf (replicate 4096 blank) (replicate 8000 0) x) .result) g
+    ∙ ap (λ (x : List Slot). search-call bs 200 (lend (replicate 8000 0) (replicate 53804 0) x) .result) (zero-slots 4096)
+    ∙ same-result (replicate 8000 0) (replicate 53804 0) 200 (replicate 4096 zeroSlot) (replicate 200 zeroSlot)
+    (enough-slots 4096 (omega arith)) (enough-slots 200 (omega arith)) bs
 
 printed-200 : (bs : List ℕ) → printed programAllowance bs ≡ lineOf (search-call bs 200 (memoryFor 200) .result)
 unfolding printed programResult
 printed-200 bs = ap (λ (n : ℕ). lineOf (search-call bs n (memoryFor n) .result)) (allowance-200 (asksRing bs))
 
 -- the program's line is that of the outcome of its call
-pub program-line : (bs : List ℕ) (records : List (List ℕ)) (words buffer after : List ℕ) (r : Outcome)
-    → records ≡ replicate 200 (0 ∷ 0 ∷ 0 ∷ 0 ∷ []) → words ≡ replicate 8000 0 → buffer ≡ replicate 53804 0
-    → Says (search-call bs 200 (lentOf records words buffer) .result) r
-    → after ≡ search-call bs 200 (lentOf records words buffer) .lent .buffer
+pub program-line : (bs words buffer after : List ℕ) (r : Outcome) → words ≡ replicate 8000 0 → buffer ≡ replicate 53804 0
+    → Says (search-call bs 200 (lentOf (replicate 4096 blank) words buffer) .result) r
+    → after ≡ search-call bs 200 (lentOf (replicate 4096 blank) words buffer) .lent .buffer
     → outcomeLine r after ≡ printed programAllowance bs
-program-line bs records words buffer after r e f g s a =
-    let m : lentOf records words buffer ≡ memoryFor 200 = lent-200 records words buffer e f g in
-    says-line (search-call bs 200 (lentOf records words buffer) .result) r after s
-    (λ w h. ap (λ (b : List ℕ). take (2 * size w + 1) (drop 7 b)) a ∙ word-stands bs 200 (lentOf records words buffer) w h)
-    ∙ ap (λ (x : Lent). lineOf (search-call bs 200 x .result)) m ∙ sym (printed-200 bs)
+program-line bs words buffer after r f g s a =
+    let m : Lent = lentOf (replicate 4096 blank) words buffer in
+    says-line (search-call bs 200 m .result) r after s
+    (λ w h. ap (λ (b : List ℕ). take (2 * size w + 1) (drop 7 b)) a ∙ word-stands bs 200 m w h)
+    ∙ ap lineOf (result-200 bs words buffer f g) ∙ sym (printed-200 bs)
 
 -- and the outcome of its call says the program's result
-pub program-says : (bs : List ℕ) (records : List (List ℕ)) (words buffer : List ℕ) (r : Outcome)
-    → records ≡ replicate 200 (0 ∷ 0 ∷ 0 ∷ 0 ∷ []) → words ≡ replicate 8000 0 → buffer ≡ replicate 53804 0
-    → Says (search-call bs 200 (lentOf records words buffer) .result) r → Says (programResult programAllowance bs) r
+pub program-says : (bs words buffer : List ℕ) (r : Outcome) → words ≡ replicate 8000 0 → buffer ≡ replicate 53804 0
+    → Says (search-call bs 200 (lentOf (replicate 4096 blank) words buffer) .result) r → Says (programResult programAllowance bs) r
 unfolding programResult
-program-says bs records words buffer r e f g s =
+program-says bs words buffer r f g s =
     subst (λ (x : Result Answer). Says x r)
-    (ap (λ (m : Lent). search-call bs 200 m .result) (lent-200 records words buffer e f g)
-    ∙ sym (ap (λ (n : ℕ). search-call bs n (memoryFor n) .result) (allowance-200 (asksRing bs)))) s
+    (result-200 bs words buffer f g ∙ sym (ap (λ (n : ℕ). search-call bs n (memoryFor n) .result) (allowance-200 (asksRing bs)))) s

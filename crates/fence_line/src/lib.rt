@@ -83,10 +83,9 @@ pub fn line(text: &[u8], out: &mut [u8]) -> Said
         ⌜ Puts (now (out .entry)) 0 (printed programAllowance (now (text .entry))) (r .bytes) (now (out .exit))
         × Says (programResult programAllowance (now (text .entry))) (r .outcome) ⌝ }
 {
-    let mut records = [[0u64; 4]; 200];
     let mut words = [0u64; 8000];
     let mut buffer = [0u8; 53804];
-    let r = search::search(text, 200, &mut records, &mut words, &mut buffer);
+    let r = search::search_alone(text, 200, &mut words, &mut buffer);
     let n = outcome_line(r, &buffer, out);
     Said {
         bytes: n,

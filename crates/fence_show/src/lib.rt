@@ -95,16 +95,9 @@ pub fn show_graph(
 }
 
 // The verdict of the query that the text is. At the query program's allowance the line is proved to be its line.
-pub fn query(
-    text: &[u8],
-    allowance: usize,
-    records: &mut [[u64; 4]],
-    words: &mut [u64],
-    buffer: &mut [u8],
-    out: &mut [u8],
-) {
+pub fn query(text: &[u8], allowance: usize, words: &mut [u64], buffer: &mut [u8], out: &mut [u8]) {
     if allowance != 200 {
-        let r = search::search(text, allowance, records, words, buffer);
+        let r = search::search_alone(text, allowance, words, buffer);
         show(r, text, buffer, out);
         return;
     }

@@ -2,8 +2,13 @@
 // graph bytes" and "Refusals with an example each".) The query is read first, refusals 1 to 8; then come 9, 10 and 11. For every input the
 // outcome is said, and every record, word and byte that was lent.
 use query::Answer;
+use search_records::Record;
 use search_run::Outcome;
+ghost use mathlib.Core.List.{List};
+ghost use lib.ListN.{replicate};
 ghost use Rattle.claims.specs.Calls.{search-call};
+ghost use Rattle.search_records.specs.declared.Record.{Record};
+ghost use Rattle.search_records.specs.Records.{blank};
 ghost use Rattle.search_run.specs.Outcomes.{lentOf, Gives};
 
 // Searches for the verdict of the query that the text is, within an allowance of standings. A path claim needs a record for each standing
@@ -12,7 +17,7 @@ ghost use Rattle.search_run.specs.Outcomes.{lentOf, Gives};
 pub fn search(
     text: &[u8],
     allowance: usize,
-    records: &mut [[u64; 4]],
+    records: &mut [Record],
     words: &mut [u64],
     buffer: &mut [u8],
 ) -> Outcome
@@ -36,4 +41,19 @@ pub fn search(
             buffer,
         ),
     }
+}
+
+// The search with records of its own, for a caller that has none: as if 4,096 records of zeros had been lent.
+pub fn search_alone(text: &[u8], allowance: usize, words: &mut [u64], buffer: &mut [u8]) -> Outcome
+    ensures { λ r.
+        ⌜ ((after : List Record) × Gives (search-call (now (text .entry)) allowance (lentOf (replicate 4096 blank) (now (words .entry)) (now (buffer .entry)))) r
+        (lentOf after (now (words .exit)) (now (buffer .exit)))) ⌝ }
+{
+    let mut records = [Record {
+        p: 0,
+        s: 0,
+        parent: 0,
+        letter: 0,
+    }; 4096];
+    search(text, allowance, &mut records, words, buffer)
 }

@@ -75,7 +75,6 @@ fn answer(
     text: &[u8],
     n: usize,
     sheets: bool,
-    records: &mut [[u64; 4]],
     words: &mut [u64],
     buffer: &mut [u8],
     out: &mut [u8],
@@ -84,7 +83,7 @@ fn answer(
     let from = allowance.count + 1;
     if n <= text.len() {
         if from <= n {
-            let r = search::search(&text[from..n], allowance.value, records, words, buffer);
+            let r = search::search_alone(&text[from..n], allowance.value, words, buffer);
             if sheets {
                 write_sheet(r, buffer, out);
                 return;
@@ -99,7 +98,6 @@ fn take(
     text: &[u8],
     n: usize,
     sheets: bool,
-    records: &mut [[u64; 4]],
     words: &mut [u64],
     buffer: &mut [u8],
     out: &mut [u8],
@@ -107,19 +105,12 @@ fn take(
     if asks_sheets(text, n) {
         return true;
     }
-    answer(text, n, sheets, records, words, buffer, out);
+    answer(text, n, sheets, words, buffer, out);
     sheets
 }
 
 // Answers the cases of standard input, one after the other.
-fn run(
-    part: &mut [u8],
-    text: &mut [u8],
-    records: &mut [[u64; 4]],
-    words: &mut [u64],
-    buffer: &mut [u8],
-    out: &mut [u8],
-) {
+fn run(part: &mut [u8], text: &mut [u8], words: &mut [u64], buffer: &mut [u8], out: &mut [u8]) {
     let mut used = Cases { at: 0, filled: 0 };
     let mut sheets = false;
     let mut left: u64 = 1048576;
@@ -127,7 +118,7 @@ fn run(
         let c = case_lines::next(part, used, text);
         match c {
             Case::Line(n, behind) => {
-                sheets = take(text, n, sheets, records, words, buffer, out);
+                sheets = take(text, n, sheets, words, buffer, out);
                 used = behind;
             }
             Case::End => return,
@@ -139,16 +130,8 @@ fn run(
 fn main() {
     let mut part = [0u8; 65536];
     let mut text = [0u8; 4120];
-    let mut records = [[0u64; 4]; 4096];
     let mut words = [0u64; 163840];
     let mut buffer = [0u8; 1101828];
     let mut out = [0u8; 32768];
-    run(
-        &mut part,
-        &mut text,
-        &mut records,
-        &mut words,
-        &mut buffer,
-        &mut out,
-    );
+    run(&mut part, &mut text, &mut words, &mut buffer, &mut out);
 }

@@ -9,3 +9,5 @@ pub mod Candidates
 pub mod OneLetter
 -- The loops over letters, atoms and places: what is left to note, noted from here on, is the whole noted from the start.
 pub mod Turns
+-- The letters left to try.
+pub mod Letters

@@ -13,14 +13,14 @@ use lib.ListN.{length, getD, drop, length-append, length-map}
 use borrow.Author.Tests.{eq-eqb, ne-eqb}
 use Rattle.kat.specs.Lists.{some}
 use Rattle.kat.specs.Ring.{then}
-use Rattle.kat.proofs.Bools.{and-both}
+use Rattle.kat.proofs.Bools.{and-both, true-not-false}
 use Rattle.claims.specs.Bytes.{same}
 use Rattle.claims.specs.Search.{Entry, seenIn, fresh}
 use Rattle.bits.proofs.Lists.{some-map}
 use Rattle.search_words.specs.declared.Shape.{Shape}
 use Rattle.words.specs.Memory.{words}
 use Rattle.search_words.specs.Systems.{width, wordSystem}
-use Rattle.search_store.specs.Store.{standingAt, standingIn, Room, Place, recordsAfter, wordsAfter, prefixAt, Holds}
+use Rattle.search_store.specs.Store.{fieldAt, standingAt, standingIn, Room, Place, recordsAfter, wordsAfter, prefixAt, Holds}
 use Rattle.search_store.proofs.Appended.{records-length, words-length, records-past, words-past, other-records, other-words}
 use Rattle.search_store.proofs.Held.{holds-more, prefix-stays, found-kept, none-kept}
 use Rattle.search_grow.specs.Kept.{State, state, Inside, Seen, standings, prefixes, Keeps, Kept, grow, entryOf, Adds}
@@ -51,6 +51,29 @@ inside-appended ring cap r w n arr parent letter r′ w′ a b h =
       low = omega arith;
       high = omega arith;
     }
+
+-- a law of ring claims, by the shape's other fields
+pub by-ring : (P : Shape → Type 0)
+    → ((right live relations : ℕ) → P (record { ring = true; right = right; live = live; relations = relations })) → (k : Shape) → k .ring ≡ true
+    → P k
+by-ring P f k e =
+    subst (λ b. P (record { ring = b; right = k .right; live = k .live; relations = k .relations })) (sym e)
+    (f (k .right) (k .live) (k .relations))
+
+-- the words of ring standings, whatever the records
+pub ring-place : (rows : List (List ℕ)) (w : List ℕ) (n : ℕ) (s : List ℕ) (p : ℕ) → Place (standingAt true [] w) n s p
+    → Place (standingAt true rows w) n s p
+unfolding standingAt fieldAt
+ring-place rows w n s p h = h
+
+-- room for ring standings
+pub ring-room : (rows : List (List ℕ)) (w : List ℕ) (n : ℕ) → 40 * n ≤ length w → Room true rows w n
+ring-room rows w n h = record { path = λ e. absurd (true-not-false refl e); turn = λ _. h }
+
+-- a ring standing is put beside the records
+pub ring-records : (rows : List (List ℕ)) (n : ℕ) (s : List ℕ) (parent letter : ℕ) → rows ≡ recordsAfter true rows n s parent letter
+unfolding recordsAfter
+ring-records rows n s parent letter = refl
 
 module _ (k : Shape) (left right : List ℕ) where
   -- a standing was seen where it stands among the words kept

@@ -4,16 +4,13 @@
 use Prim.Native.Nat.{ℕ, _+_, _≤_, _<_}
 use native.Mathlib.Omega.{arith}
 use mathlib.Core.Path.{_≡_, sym, _∙_, ap, subst}
-use mathlib.Core.Bool.{true, false}
-use mathlib.Core.List.{List, [], _∷_, _++_, map-append}
-use lib.ListN.{length}
-use Rattle.kat.specs.Lists.{upto, filter}
+use mathlib.Core.List.{List, [], _++_, map-append}
+use Rattle.kat.specs.Lists.{upto}
 use Rattle.claims.specs.Standings.{Letter}
 use Rattle.search_words.specs.declared.Shape.{Shape}
-use Rattle.search_grow.specs.Masks.{tried}
-use Rattle.search_grow.specs.Kept.{State, Seen, candidate, candidates, candidatesOf, Adds, NotedBehind, NotedFrom}
+use Rattle.search_grow.specs.Kept.{State, candidate, candidates, candidatesOf, Adds, NotedBehind, NotedFrom}
 use Rattle.search_grow.proofs.Adding.{adds-none, adds-join}
-use Rattle.search_grow.proofs.Candidates.{is-tried, not-tried, places-more, places-none}
+use Rattle.search_grow.proofs.Candidates.{places-more, places-none}
 
 module _ (k : Shape) (left right : List ℕ) (cap : ℕ) where
   -- behind one place
@@ -41,26 +38,6 @@ module _ (k : Shape) (left right : List ℕ) (cap : ℕ) where
           adds =
               λ old h. subst (λ ls. Adds k left right cap old s s (candidates k left right old place ls)) (sym e) (adds-none k left right cap old s);
         })
-
-  -- one letter, which is tried or not
-  pub tried-noted : (s t : State) (place : ℕ) (masks : List ℕ) (l : Letter) → tried masks l ≡ true
-      → ((old : Seen k left right) → place ≤ length old → Adds k left right cap old s t (candidate k left right old place l ∷ []))
-      → NotedBehind k left right cap s t place (filter (tried masks) (l ∷ []))
-  tried-noted s t place masks l e f =
-      record {
-        adds =
-            λ old h. subst (λ ls. Adds k left right cap old s t (candidates k left right old place ls)) (sym (is-tried masks l e)) (f old h);
-      }
-
-  pub untried-noted : (s : State) (place : ℕ) (masks : List ℕ) (l : Letter) → tried masks l ≡ false
-      → NotedBehind k left right cap s s place (filter (tried masks) (l ∷ []))
-  untried-noted s place masks l e =
-      record {
-        adds =
-            λ old h.
-            subst (λ ls. Adds k left right cap old s s (candidates k left right old place ls)) (sym (not-tried masks l e))
-            (adds-none k left right cap old s);
-      }
 
   -- behind some places in a row
   module _ (o : State) (lo hi : ℕ) (ls : List Letter) where

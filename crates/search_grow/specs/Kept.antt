@@ -103,6 +103,10 @@ module _ (k : Shape) (left right : List ℕ) where
   abbrev pub Adds : ℕ → Seen → State → State → Seen → Type 0
   Adds cap old s t cands = (more : Seen) → Kept cap s (old ++ more) → Kept cap t (grow (old ++ more) cands)
 
+  -- from one state to a later one a standing on its way was noted, with its parent and its letter
+  abbrev pub Noted : ℕ → State → State → List ℕ → ℕ → ℕ → Type 0
+  Noted cap s t ws parent letter = (old : Seen) → parent ≤ length old → Adds cap old s t (entryOf old ws parent letter ∷ [])
+
   -- from one state to a later one the candidates behind a place were noted, by these letters
   pub record NotedBehind (cap : ℕ) (s t : State) (place : ℕ) (ls : List Letter) : Type 0 where
     pub adds : (old : Seen) → place ≤ length old → Adds cap old s t (candidates old place ls)

@@ -8,7 +8,7 @@ use mathlib.Core.Logic.{⊎-elim}
 use mathlib.Core.Logic._⊎_.{inl}
 use mathlib.Core.Bool.{false}
 use mathlib.Core.List.{List, [], _∷_, _++_, append-nil}
-use mathlib.Core.Option.{none}
+use mathlib.Core.Option.{some, none}
 use lib.Dec.{ltb}
 use lib.ListN.{length, getD, drop, drop-of-length-le, length-map}
 use lib.Seq.{drop-cons, drop-at}
@@ -27,10 +27,9 @@ use Rattle.search_words.proofs.Over.{over-spent, over-refuted, over-proved, ove
 use Rattle.search_words.proofs.First.{first-some, first-none, picked-below, first-alone}
 use Rattle.search_store.specs.Store.{prefixAt}
 use Rattle.search_store.proofs.Held.{holds-none}
-use Rattle.search_levels.specs.declared.Hit.the-variants.{At, Nothing}
 use Rattle.search_levels.specs.declared.Answer.the-variants.{Proved, Refuted}
 use Rattle.search_grow.specs.Kept.{State, state, Seen, standings, Keeps, Kept, grow, candidatesOf, NotedBehind, NotedFrom}
-use Rattle.search_levels.specs.Answers.{wordAt, Completes, Running, Answered}
+use Rattle.search_levels.specs.Answers.{wordAt, Running, Answered}
 use Rattle.search_grow.proofs.Candidates.{first-candidates, next-candidates}
 
 module _ (k : Shape) (left right : List ℕ) where
@@ -116,10 +115,11 @@ module _ (k : Shape) (left right : List ℕ) where
           go (suc f) e v =
               sym v ∙ over-spent (wordSystem k left right) ms f cap (u .seen) (drop lo (u .seen)) (lt-ltb cap (length (u .seen)) over)
 
-      pub running-refuted : s .count ≤ cap → (place a : ℕ) → Completes k left right s lo (At place a)
-          → Answered k left right ls ms fuel cap (s .records) (s .words) (Refuted place a)
-      running-refuted c place a h =
-          (u .seen, s .count, go (u .left-over) (u .enough) (u .verdict), keeps c, h .within, c)
+      pub running-refuted : s .count ≤ cap → (place a : ℕ) → place ≤ s .count
+          → ((seen : Seen k left right) → Keeps k left right s seen
+          → completed (wordSystem k left right) (drop lo seen) ≡ some (wordAt k left right seen place a)) → Answered k left right ls ms fuel cap (s .records) (s .words) (Refuted place a)
+      running-refuted c place a inside h =
+          (u .seen, s .count, go (u .left-over) (u .enough) (u .verdict), keeps c, inside, c)
         where
           go : (f : ℕ) → cap + 2 ≤ f + lo
               → levelsOver (wordSystem k left right) ms f cap (u .seen) (drop lo (u .seen)) ≡ verdictOver (wordSystem k left right) ls ms fuel cap
@@ -128,7 +128,7 @@ module _ (k : Shape) (left right : List ℕ) where
           go (suc f) e v =
               sym v
               ∙ over-refuted (wordSystem k left right) ms f cap (u .seen) (drop lo (u .seen)) (wordAt k left right (u .seen) place a) (within c)
-              (h .word (u .seen) (keeps c))
+              (h (u .seen) (keeps c))
 
       pub running-proved : s .count ≤ cap → lo ≡ s .count → Answered k left right ls ms fuel cap (s .records) (s .words) (Proved (s .count))
       running-proved c z = (u .seen, go (u .left-over) (u .enough) (u .verdict), keeps c, c)
@@ -144,7 +144,8 @@ module _ (k : Shape) (left right : List ℕ) where
               sym v ∙ ap (levelsOver (wordSystem k left right) ms (suc f) cap (u .seen)) none-left
               ∙ over-proved (wordSystem k left right) ms f cap (u .seen) (within c)
 
-      pub running-more : s .count ≤ cap → lo < s .count → Completes k left right s lo Nothing → (t : State)
+      pub running-more : s .count ≤ cap → lo < s .count
+          → ((seen : Seen k left right) → Keeps k left right s seen → completed (wordSystem k left right) (drop lo seen) ≡ none) → (t : State)
           → NotedFrom k left right cap s t (lo + 1) (s .count + 1) ms → Running k left right ls ms fuel cap t (s .count)
       running-more c z h t n = go (u .left-over) (u .enough) (u .verdict)
         where
@@ -192,5 +193,5 @@ module _ (k : Shape) (left right : List ℕ) where
                 kept = kept;
                 verdict =
                     ap (levelsOver (wordSystem k left right) ms f cap (u .seen ++ next)) (drop-at (u .seen) next (s .count) (size c))
-                    ∙ sym (more f (drop lo (u .seen)) split (h .word (u .seen) (keeps c))) ∙ v;
+                    ∙ sym (more f (drop lo (u .seen)) split (h (u .seen) (keeps c))) ∙ v;
               }

@@ -7,7 +7,7 @@ use mathlib.Core.Path.{_≡_, refl, sym, _∙_, ap, subst}
 use mathlib.Core.Logic.{⊎-elim}
 use mathlib.Core.Bool.{Bool, true, false, cond, not, _&&_}
 use mathlib.Core.List.{List, [], _∷_}
-use mathlib.Core.Option.{some}
+use mathlib.Core.Option.{some, none}
 use lib.ListN.{length, getD, drop, drop-of-length-le, length-map, List·getD-map}
 use lib.Seq.{drop-cons}
 use Rattle.kat.specs.Lists.{In, here, there}
@@ -25,9 +25,8 @@ use Rattle.standings.specs.Steps.{endsSet}
 use Rattle.search_words.specs.First.{firstOr}
 use Rattle.search_words.proofs.First.{first-some, first-none, picked-below}
 use Rattle.search_store.specs.Store.{standingAt, prefixAt}
-use Rattle.search_levels.specs.declared.Hit.the-variants.{At, Nothing}
 use Rattle.search_grow.specs.Kept.{State, Seen, prefixes, Keeps}
-use Rattle.search_levels.specs.Answers.{hitWord}
+use Rattle.search_levels.specs.Answers.{wordAt}
 
 module _ (k : Shape) (left right : List ℕ) where
   -- the atoms that complete a word are below 64
@@ -97,7 +96,7 @@ module _ (k : Shape) (left right : List ℕ) where
         next = omega arith
 
     pub hit-here : (a : ℕ) → a ≡ firstOr 64 (finalsWords k left right (standingAt (k .ring) (s .records) (s .words) i)) → a < 64
-        → completed (wordSystem k left right) (drop i seen) ≡ hitWord k left right seen (At (i + 1) a)
+        → completed (wordSystem k left right) (drop i seen) ≡ some (wordAt k left right seen (i + 1) a)
     hit-here a e small =
         let (rest, f) = first-some 64 (finalsWords k left right (standingAt (k .ring) (s .records) (s .words) i)) (subst (λ x. x < 64) e small) in
         ap (completed (wordSystem k left right)) split
@@ -116,7 +115,7 @@ module _ (k : Shape) (left right : List ℕ) where
         (finals-below low (standingAt (k .ring) (s .records) (s .words) i)) (subst (λ x. 64 ≤ x) e large)))
 
   pub hit-none : (s : State) (seen : Seen k left right) → Keeps k left right s seen → (i : ℕ) → s .count ≤ i
-      → completed (wordSystem k left right) (drop i seen) ≡ hitWord k left right seen Nothing
+      → completed (wordSystem k left right) (drop i seen) ≡ none
   unfolding completed
   hit-none s seen q i h =
       ap (completed (wordSystem k left right))

@@ -1,7 +1,7 @@
 -- What the search gives and leaves behind is what document 01's search does: what the levels find is the answer of the search, the report says
 -- it, and the needed memory is cleared.
 -- Assumes nothing.
-use Prim.Native.Nat.{ℕ, suc, _*_}
+use Prim.Native.Nat.{ℕ, suc, _*_, _≤_}
 use native.Mathlib.Omega.{arith}
 use mathlib.Core.Path.{_≡_, refl, sym, _∙_, ap, ap₂, subst⁻¹}
 use mathlib.Core.Bool.{Bool, true, false, cond}
@@ -28,12 +28,14 @@ use Rattle.search_levels.specs.declared.Answer.{Answer as Found}
 use Rattle.search_levels.specs.declared.Answer.the-variants.{Proved as FoundProof, Refuted as FoundWord, Spent}
 use Rattle.search_levels.specs.Answers.{Answered}
 use Rattle.search_run.specs.declared.Outcome.{Outcome}
-use Rattle.search_run.specs.Outcomes.{slotOf, lentOf, Gives}
+use Rattle.search_run.specs.Outcomes.{Gives}
+use Rattle.search_run.specs.inner.Memory.{rowSlot, lentRows}
 use Rattle.query.specs.Decided.{Decided}
 use Rattle.search_run.specs.inner.Tried.{shapeOf, firstLetters, laterLetters, wordsVerdict}
 use Rattle.search_run.specs.inner.Found.{Reportable, provedIn, refutedIn, foundIn, told, put, Reports}
 use Rattle.search_run.proofs.Answers.{OnWords, decided-on-words}
-use Rattle.search_run.proofs.Cleared.{cleared-same, map-cleared, ClearedBy}
+use Rattle.search_records.proofs.Cleared.{cleared-same, map-cleared}
+use Rattle.search_run.proofs.Cleared.{ClearedBy}
 
 -- the end of a search, part by part
 finish-parts : (D : Decision) (cap : ℕ) (m : Lent) (g : Result Given)
@@ -79,17 +81,17 @@ needed-words D cap true e = ap (λ x. elim x [ false ↦ 0 | true ↦ 40 * cap ]
 -- the memory after the levels, and then cleared, is the memory before, cleared
 module _ (ring : Bool) (cap : ℕ) (r₀ r₁ r₂ : List (List ℕ)) (w₀ w₁ w₂ : List ℕ)
     (inside : Inside ring cap (state r₀ w₀ 0) (state r₁ w₁ 0)) (wiped : ClearedBy ring cap r₁ r₂ w₁ w₂) (room : Room ring r₀ w₀ cap) where
-  records-left : map slotOf r₂ ≡ cleared zeroSlot (cond ring 0 cap) (map slotOf r₀)
-  unfolding cleared slotOf
+  records-left : map rowSlot r₂ ≡ cleared zeroSlot (cond ring 0 cap) (map rowSlot r₀)
+  unfolding cleared rowSlot
   records-left = go ring refl
     where
-      go : (b : Bool) → ring ≡ b → map slotOf r₂ ≡ cleared zeroSlot (cond b 0 cap) (map slotOf r₀)
+      go : (b : Bool) → ring ≡ b → map rowSlot r₂ ≡ cleared zeroSlot (cond b 0 cap) (map rowSlot r₀)
       go true e =
-          ap (map slotOf) (wiped .0 ∙ ap (λ b. cleared (0 ∷ 0 ∷ 0 ∷ 0 ∷ []) (cond b 0 cap) r₁) e ∙ inside .other-records e)
+          ap (map rowSlot) (wiped .0 ∙ ap (λ b. cleared (0 ∷ 0 ∷ 0 ∷ 0 ∷ []) (cond b 0 cap) r₁) e ∙ inside .other-records e)
       go false e =
-          ap (map slotOf) (wiped .0 ∙ ap (λ b. cleared (0 ∷ 0 ∷ 0 ∷ 0 ∷ []) (cond b 0 cap) r₁) e
+          ap (map rowSlot) (wiped .0 ∙ ap (λ b. cleared (0 ∷ 0 ∷ 0 ∷ 0 ∷ []) (cond b 0 cap) r₁) e
           ∙ cleared-same (0 ∷ 0 ∷ 0 ∷ 0 ∷ []) cap r₁ r₀ (inside .records-past))
-          ∙ map-cleared slotOf (0 ∷ 0 ∷ 0 ∷ 0 ∷ []) cap r₀ (room .path e)
+          ∙ map-cleared rowSlot (0 ∷ 0 ∷ 0 ∷ 0 ∷ []) cap r₀ (room .path e)
 
   words-left : w₂ ≡ cleared 0 (cond ring (40 * cap) 0) w₀
   unfolding cleared
@@ -147,19 +149,19 @@ module _ (f : Facts) (left right : List ℕ) (cap : ℕ) (r₀ r₁ : List (List
   -- the outcome, and all that is lent afterwards
   pub run-gives : (r₂ : List (List ℕ)) (w₂ b₀ b₁ : List ℕ) (o : Outcome) → Reports (foundIn (f .ring) r₁ w₁ x) b₀ o b₁
       → ClearedBy (f .ring) cap r₁ r₂ w₁ w₂ → (D : Decision) → Decided f left right D
-      → Gives (finish D cap (lentOf r₀ w₀ b₀) (searched D cap)) o (lentOf r₂ w₂ b₁)
-  unfolding lentOf factsOf
+      → Gives (finish D cap (lentRows r₀ w₀ b₀) (searched D cap)) o (lentRows r₂ w₂ b₁)
+  unfolding lentRows factsOf
   run-gives r₂ w₂ b₀ b₁ o (s, e) wiped D d =
       let on : OnWords f left right D cap = decided-on-words d cap in
       let same : searched D cap ≡ foundIn (f .ring) r₁ w₁ x = found-is on in
       let kind : D .ring ≡ f .ring = sym (ap (λ (g : Facts). g .ring) (d .facts)) in
-      subst⁻¹ (λ g. Gives (finish D cap (lentOf r₀ w₀ b₀) g) o (lentOf r₂ w₂ b₁)) same
-      (subst⁻¹ (λ z. Gives z o (lentOf r₂ w₂ b₁)) (finish-parts D cap (lentOf r₀ w₀ b₀) (foundIn (f .ring) r₁ w₁ x))
+      subst⁻¹ (λ g. Gives (finish D cap (lentRows r₀ w₀ b₀) g) o (lentRows r₂ w₂ b₁)) same
+      (subst⁻¹ (λ z. Gives z o (lentRows r₂ w₂ b₁)) (finish-parts D cap (lentRows r₀ w₀ b₀) (foundIn (f .ring) r₁ w₁ x))
       (record {
         says = s;
         leaves = parts
             (records-left (f .ring) cap r₀ r₁ r₂ w₀ w₁ w₂ inside wiped (ready .room)
-            ∙ ap (λ n. cleared zeroSlot n (map slotOf r₀)) (sym (needed-records D cap (f .ring) kind)))
+            ∙ ap (λ n. cleared zeroSlot n (map rowSlot r₀)) (sym (needed-records D cap (f .ring) kind)))
             (words-left (f .ring) cap r₀ r₁ r₂ w₀ w₁ w₂ inside wiped (ready .room)
             ∙ ap (λ n. cleared 0 n w₀) (sym (needed-words D cap (f .ring) kind)))
             e;
@@ -168,3 +170,17 @@ module _ (f : Facts) (left right : List ℕ) (cap : ℕ) (r₀ r₁ : List (List
       parts : {a a′ : List Slot} {u u′ c c′ : List ℕ} → a ≡ a′ → u ≡ u′ → c ≡ c′
           → _≡_ {A = Lent} (record { records = a; words = u; buffer = c }) (record { records = a′; words = u′; buffer = c′ })
       parts p q t = λ i. record { records = p i; words = q i; buffer = t i }
+
+-- the memory that is cleared is what the claim's kind needs
+pub cleared-by : (ring : Bool) (cap : ℕ) (r r′ : List (List ℕ)) (w w′ : List ℕ) (n m : ℕ) → n ≡ cond ring 0 cap → m ≡ cond ring (40 * cap) 0
+    → r′ ≡ cleared (0 ∷ 0 ∷ 0 ∷ 0 ∷ []) n r → w′ ≡ cleared 0 m w → ClearedBy ring cap r r′ w w′
+cleared-by ring cap r r′ w w′ n m a b e f = rw (sym a, sym b) (e, f)
+
+-- there are so many
+pub records-there : (ring : Bool) (cap : ℕ) (r : List (List ℕ)) (w : List ℕ) (n : ℕ) → Room ring r w cap → n ≡ cond ring 0 cap → n ≤ length r
+records-there true cap r w n room e = omega arith
+records-there false cap r w n room e = omega (arith, room .path refl)
+
+pub words-there : (ring : Bool) (cap : ℕ) (r : List (List ℕ)) (w : List ℕ) (n : ℕ) → Room ring r w cap → n ≡ cond ring (40 * cap) 0 → n ≤ length w
+words-there true cap r w n room e = omega (arith, room .turn refl)
+words-there false cap r w n room e = omega arith

@@ -7,7 +7,14 @@ pub mod Rooms
 pub mod Cleared
 -- What the levels find, what is reported of it, and that this is the end of document 01's search.
 pub mod Levels
+pub mod Found
 pub mod Reported
 pub mod Finished
 -- The ways out of the search on a decision.
 pub mod Ways
+-- One run of the search.
+pub mod OneRun
+-- The run and the ways out over lent records.
+pub mod OverRecords
+-- The contracts of the functions over lent records, for callers.
+pub mod Contracts

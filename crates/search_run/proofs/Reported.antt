@@ -1,65 +1,30 @@
--- How many bytes the two sheets have, and what is reported: 11 where the buffer is shorter, and else the answer with the sheet written.
+-- What is reported: 11 where the buffer is shorter than the sheet, and else the answer with the sheet written; a spent allowance has no sheet.
 -- Assumes nothing.
-use Prim.Native.Nat.{ℕ, zero, suc, _+_, _*_, _-_, _≤_, _<_}
-use native.Mathlib.Nat.{mul-suc}
+use Prim.Native.Nat.{ℕ, _≤_, _<_}
 use native.Mathlib.Omega.{arith}
-use mathlib.Core.Path.{_≡_, refl, _∙_, ap, subst, subst⁻¹}
+use mathlib.Core.Path.{_≡_, refl, sym, _∙_, ap, subst, subst⁻¹}
 use mathlib.Core.Bool.{Bool, true, false}
-use mathlib.Core.List.{List, [], _∷_, _++_}
-use lib.ListN.{length, drop, length-append}
+use mathlib.Core.List.{List, _++_}
+use lib.ListN.{length, drop}
 use borrow.Author.Tests.{le-leb, lt-leb}
-use Rattle.kat.specs.Lists.{counted, upto}
-use Rattle.kat.specs.Word.{end, size}
+use Rattle.kat.specs.Word.{end}
 use Rattle.claims.specs.Verdicts.{relationsIn}
-use Rattle.claims.specs.Fields.{field}
 use Rattle.claims.specs.Refusals.{shortBuffer, ok, refuse}
 use Rattle.claims.specs.Calls.{Given}
-use Rattle.claims.proofs.Bytes.{field-length}
 use Rattle.claims.proofs.Prefixes.{size-onto}
 use Rattle.refusals.specs.Causes.{causeOf}
 use Rattle.refusals.specs.declared.Reason.the-variants.{ShortBuffer, SpentAllowance}
-use Rattle.search_store.specs.Store.{standingAt, Room}
 use Rattle.search_fields.specs.Written.{written}
-use Rattle.search_fields.specs.FieldWords.{fieldWords, fieldLength}
-use Rattle.search_fields.proofs.Fields.{field-count}
-use Rattle.search_sheet.specs.SheetWords.{Falling, prefixIn, wordBytes, fieldsFrom, provedSheet, refutedSheet}
-use Rattle.search_sheet.proofs.Steps.{word-length}
+use Rattle.search_sheet.specs.SheetWords.{prefixIn, provedSheet, refutedSheet}
+use Rattle.search_writing.specs.declared.Writing.{Writing}
+use Rattle.search_writing.specs.Left.{Ended, ProofStage, ProofStands, WordStage, WordStands}
 use Rattle.search_levels.specs.declared.Answer.{Answer as Found}
 use Rattle.search_levels.specs.declared.Answer.the-variants.{Proved as FoundProof, Refuted as FoundWord, Spent}
 use Rattle.search_run.specs.declared.Outcome.{Outcome}
 use Rattle.search_run.specs.declared.Outcome.the-variants.{Proved, Refuted, Refused}
 use Rattle.search_run.specs.Outcomes.{Says}
-use Rattle.search_run.specs.inner.Found.{Reportable, provedIn, refutedIn, foundIn, told, put, Reports}
-
-module _ (ring : Bool) (r : List (List ℕ)) (w : List ℕ) where
-  fields-length : (i n : ℕ) → length (fieldsFrom ring r w (counted i n)) ≡ fieldLength ring * n
-  unfolding fieldsFrom
-  fields-length i zero = omega arith
-  fields-length i (suc n) =
-      length-append (fieldWords ring (standingAt ring r w i)) (fieldsFrom ring r w (counted (suc i) n))
-      ∙ omega (arith, field-count ring (standingAt ring r w i), fields-length (suc i) n, mul-suc (fieldLength ring) n)
-
-  proved-sheet-length : (n : ℕ) → length (provedSheet ring r w n) ≡ 4 + fieldLength ring * n
-  unfolding provedSheet
-  proved-sheet-length n =
-      let z : n - 0 ≡ n = omega arith in
-      omega (
-        arith,
-        length-append (field 1 (1 ∷ [])) (fieldsFrom ring r w (upto 0 n)),
-        field-length 1 (1 ∷ []),
-        fields-length 0 (n - 0) ∙ ap (λ m. fieldLength ring * m) z,
-      )
-
-  refuted-sheet-length : (place last n : ℕ) → n ≡ relationsIn (prefixIn ring r w place) → length (refutedSheet ring r w place last) ≡ 8 + 2 * n
-  unfolding refutedSheet
-  refuted-sheet-length place last n e =
-      omega (
-        arith,
-        length-append (field 1 (2 ∷ [])) (field 2 (wordBytes ring r w place last)),
-        field-length 1 (2 ∷ []),
-        field-length 2 (wordBytes ring r w place last),
-        word-length ring r w place last n e,
-      )
+use Rattle.search_run.specs.inner.Found.{provedIn, refutedIn, foundIn, told, put, Reports}
+use Rattle.search_run.specs.inner.Stands.{Stands}
 
 -- 11: nothing is written
 short : (g : Given) (b : List ℕ) → length b < length (g .sheet) → Reports (ok g) b (Refused ShortBuffer 0) b
@@ -79,51 +44,50 @@ full g b o h s =
     × (g .sheet ++ drop (length (g .sheet)) b ≡ elim x [ false ↦ b | true ↦ g .sheet ++ drop (length (g .sheet)) b ]))
     (le-leb (length (g .sheet)) (length b) h) (s, refl)
 
-module _ (ring : Bool) (r : List (List ℕ)) (w b : List ℕ) where
-  module _ (n l : ℕ) (size : l ≡ 4 + fieldLength ring * n) where
-    pub proved-short : length b < l → Reports (provedIn ring r w n) b (Refused ShortBuffer 0) b
-    unfolding provedIn
-    proved-short h = short _ b (omega (arith, proved-sheet-length ring r w n))
+-- at the end, by what was found
+module _ (ring : Bool) (r : List (List ℕ)) (w b₀ b : List ℕ) (x : Writing) (ended : x .going ≡ false) where
+  proof-ended : (n : ℕ) (s : Bool) → x .short ≡ s → ProofStands ring r w b₀ n x b → Ended (provedSheet ring r w n) b₀ s b
+  proof-ended n s e h =
+      subst (λ q. Ended (provedSheet ring r w n) b₀ q b) e (subst (λ g. ProofStage ring r w b₀ n g x b) ended h)
 
-    pub proved-told : l ≤ length b → (b′ : List ℕ) → b′ ≡ written (provedSheet ring r w n) b → Reports (provedIn ring r w n) b (Proved n) b′
-    unfolding provedIn
-    proved-told h b′ e =
-        subst⁻¹ (Reports (provedIn ring r w n) b (Proved n)) e (full _ b (Proved n) (omega (arith, proved-sheet-length ring r w n)) refl)
+  word-ended : (place a : ℕ) (s : Bool) → x .short ≡ s → WordStands ring r w b₀ place a x b
+      → (x .count ≡ relationsIn (prefixIn ring r w place)) × Ended (refutedSheet ring r w place a) b₀ s b
+  word-ended place a s e h =
+      subst (λ q. (x .count ≡ relationsIn (prefixIn ring r w place)) × Ended (refutedSheet ring r w place a) b₀ q b) e
+      (subst (λ g. WordStage ring r w b₀ place a g (x .counting) x b) ended h)
 
-  module _ (place last n : ℕ) (size : n ≡ relationsIn (prefixIn ring r w place)) where
-    pub refuted-short : length b < 8 + 2 * n → Reports (refutedIn ring r w place last) b (Refused ShortBuffer 0) b
-    unfolding refutedIn
-    refuted-short h = short _ b (omega (arith, refuted-sheet-length ring r w place last n size))
+  pub tell-short : x .short ≡ true → (y : Found) → Stands ring r w b₀ y x b → Reports (foundIn ring r w y) b₀ (Refused ShortBuffer 0) b
+  unfolding foundIn provedIn refutedIn
+  tell-short s (FoundProof n) h =
+      let (l, e) = proof-ended n true s h in
+      subst⁻¹ (Reports (provedIn ring r w n) b₀ (Refused ShortBuffer 0)) e (short _ b₀ l)
+  tell-short s (FoundWord place a) h =
+      let (c, (l, e)) = word-ended place a true s h in
+      subst⁻¹ (Reports (refutedIn ring r w place a) b₀ (Refused ShortBuffer 0)) e (short _ b₀ l)
+  tell-short s Spent (e, f) =
+      let z : true ≡ false = sym s ∙ ap (λ (v : Writing). v .short) e in
+      let o : _≡_ {A = ℕ} 0 1 = cc in
+      absurd (omega arith)
 
-    pub refuted-told : 8 + 2 * n ≤ length b → (b′ : List ℕ) → b′ ≡ written (refutedSheet ring r w place last) b
-        → Reports (refutedIn ring r w place last) b (Refuted n) b′
-    unfolding refutedIn
-    refuted-told h b′ e =
-        subst⁻¹ (Reports (refutedIn ring r w place last) b (Refuted n)) e
-        (full _ b (Refuted n) (omega (arith, refuted-sheet-length ring r w place last n size))
-        (size ∙ omega (arith, size-onto (prefixIn ring r w place) (end last))))
+  pub tell-proved : x .short ≡ false → (y : Found) (n : ℕ) → y ≡ FoundProof n → Stands ring r w b₀ y x b
+      → Reports (foundIn ring r w y) b₀ (Proved n) b
+  unfolding foundIn provedIn
+  tell-proved s y n e h =
+      let (l, f) = proof-ended n false s (subst (λ q. Stands ring r w b₀ q x b) e h) in
+      subst⁻¹ (λ q. Reports (foundIn ring r w q) b₀ (Proved n) b) e
+      (subst⁻¹ (Reports (provedIn ring r w n) b₀ (Proved n)) f (full _ b₀ (Proved n) l refl))
 
--- by what was found
-module _ (ring : Bool) (r : List (List ℕ)) (w b : List ℕ) (x : Found) (o : Outcome) (b′ : List ℕ) where
-  pub proved-reported : (n : ℕ) → x ≡ FoundProof n → Reports (provedIn ring r w n) b o b′ → Reports (foundIn ring r w x) b o b′
-  unfolding foundIn
-  proved-reported n e h = subst⁻¹ (λ y. Reports (foundIn ring r w y) b o b′) e h
+  pub tell-refuted : x .short ≡ false → (y : Found) (place a : ℕ) → y ≡ FoundWord place a → Stands ring r w b₀ y x b
+      → Reports (foundIn ring r w y) b₀ (Refuted (x .count)) b
+  unfolding foundIn refutedIn
+  tell-refuted s y place a e h =
+      let (c, (l, f)) = word-ended place a false s (subst (λ q. Stands ring r w b₀ q x b) e h) in
+      subst⁻¹ (λ q. Reports (foundIn ring r w q) b₀ (Refuted (x .count)) b) e
+      (subst⁻¹ (Reports (refutedIn ring r w place a) b₀ (Refuted (x .count))) f
+      (full _ b₀ (Refuted (x .count)) l (c ∙ omega (arith, size-onto (prefixIn ring r w place) (end a)))))
 
-  pub refuted-reported : (place last : ℕ) → x ≡ FoundWord place last → Reports (refutedIn ring r w place last) b o b′
-      → Reports (foundIn ring r w x) b o b′
-  unfolding foundIn
-  refuted-reported place last e h = subst⁻¹ (λ y. Reports (foundIn ring r w y) b o b′) e h
-
-pub spent-reported : (ring : Bool) (r : List (List ℕ)) (w b : List ℕ) (x : Found) → x ≡ Spent
-    → Reports (foundIn ring r w x) b (Refused SpentAllowance 0) b
-unfolding foundIn told put causeOf
-spent-reported ring r w b x e = subst⁻¹ (λ y. Reports (foundIn ring r w y) b (Refused SpentAllowance 0) b) e ((refl, refl), refl)
-
--- what a report requires, by what was found
-pub proved-reportable : (ring : Bool) (r : List (List ℕ)) (w : List ℕ) (x : Found) (n : ℕ) → x ≡ FoundProof n
-    → Reportable ring r w x → Room ring r w n × (n ≤ 4096)
-proved-reportable ring r w x n e h = subst (Reportable ring r w) e h
-
-pub refuted-reportable : (ring : Bool) (r : List (List ℕ)) (w : List ℕ) (x : Found) (place last : ℕ) → x ≡ FoundWord place last
-    → Reportable ring r w x → Room ring r w place × Falling ring r w place × (place ≤ 4096)
-refuted-reportable ring r w x place last e h = subst (Reportable ring r w) e h
+  pub tell-spent : (y : Found) → y ≡ Spent → Stands ring r w b₀ y x b → Reports (foundIn ring r w y) b₀ (Refused SpentAllowance 0) b
+  unfolding foundIn told put causeOf
+  tell-spent y e h =
+      let (f, g) = subst (λ q. Stands ring r w b₀ q x b) e h in
+      subst⁻¹ (λ q. Reports (foundIn ring r w q) b₀ (Refused SpentAllowance 0) b) e ((refl, refl), g)

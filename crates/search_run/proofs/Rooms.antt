@@ -11,8 +11,7 @@ use Rattle.claims.specs.Sides.{Decision}
 use Rattle.claims.specs.Calls.{neededRecords, neededWords, enoughMemory}
 use Rattle.claims.specs.Width.{width, besideColumns, ringWords}
 use Rattle.search_store.specs.Store.{Room}
-use Rattle.search_run.specs.Outcomes.{slotOf, lentOf}
-use Rattle.search_run.specs.inner.Memory.{roomFor}
+use Rattle.search_run.specs.inner.Memory.{roomFor, rowSlot, lentRows}
 
 module _ (ring : Bool) (n : ℕ) (r : List (List ℕ)) (w : List ℕ) where
   pub room-of-ring : ring ≡ true → leb (40 * n) (length w) ≡ roomFor ring n r w
@@ -32,13 +31,13 @@ module _ (ring : Bool) (n : ℕ) (r : List (List ℕ)) (w : List ℕ) where
       }
 
 -- it is the test of 9
-pub enough-is : (D : Decision) (n : ℕ) (r : List (List ℕ)) (w b : List ℕ) → enoughMemory D n (lentOf r w b) ≡ roomFor (D .ring) n r w
-unfolding enoughMemory neededRecords neededWords roomFor lentOf ringWords width besideColumns
+pub enough-is : (D : Decision) (n : ℕ) (r : List (List ℕ)) (w b : List ℕ) → enoughMemory D n (lentRows r w b) ≡ roomFor (D .ring) n r w
+unfolding enoughMemory neededRecords neededWords roomFor lentRows ringWords width besideColumns
 enough-is D n r w b = go (D .ring)
   where
     go : (k : Bool)
-        → (leb (elim k [ false ↦ n | true ↦ 0 ]) (length (map slotOf r)) && leb (elim k [ false ↦ 0 | true ↦ 40 * n ]) (length w))
+        → (leb (elim k [ false ↦ n | true ↦ 0 ]) (length (map rowSlot r)) && leb (elim k [ false ↦ 0 | true ↦ 40 * n ]) (length w))
         ≡ elim k [ false ↦ leb n (length r) | true ↦ leb (40 * n) (length w) ]
     go false =
-        ap₂ (λ m x. leb n m && x) (length-map r slotOf) (leb·zero (length w)) ∙ and-true (leb n (length r))
-    go true = ap (λ x. x && leb (40 * n) (length w)) (leb·zero (length (map slotOf r)))
+        ap₂ (λ m x. leb n m && x) (length-map r rowSlot) (leb·zero (length w)) ∙ and-true (leb n (length r))
+    go true = ap (λ x. x && leb (40 * n) (length w)) (leb·zero (length (map rowSlot r)))

@@ -1,7 +1,7 @@
--- The letters of level 1, by the claim's kind.
+-- The masks and the letters of level 1, by the claim's kind.
 -- Assumes nothing.
 use Prim.Native.Nat.{ℕ}
-use mathlib.Core.Path.{_≡_, ap}
+use mathlib.Core.Path.{_≡_, refl, ap}
 use mathlib.Core.Bool.{true, false}
 use mathlib.Core.List.{List}
 use Rattle.words.specs.Memory.{words}
@@ -11,6 +11,15 @@ use Rattle.search_grow.specs.Masks.{lettersIn}
 use Rattle.search_run.specs.inner.Tried.{shapeOf, firstMasks, firstLetters, laterLetters}
 
 module _ (f : Facts) (left right : List ℕ) where
+  -- the masks
+  pub path-masks : f .ring ≡ false → masksOf (shapeOf f) (f .left) left right ≡ firstMasks f left right
+  unfolding firstMasks
+  path-masks path = rw path refl
+
+  pub ring-masks : f .ring ≡ true → words 16 (λ r. f .live) ≡ firstMasks f left right
+  unfolding firstMasks
+  ring-masks ring = rw ring refl
+
   -- those of the later levels
   pub path-first : f .ring ≡ false → firstLetters f left right ≡ laterLetters f left right
   unfolding firstLetters laterLetters firstMasks

@@ -18,9 +18,9 @@ use Rattle.query.specs.Answer.{factsOf}
 use Rattle.search_grow.specs.Kept.{state, Ready}
 use Rattle.search_run.specs.declared.Outcome.{Outcome}
 use Rattle.search_run.specs.declared.Outcome.the-variants.{Refused}
-use Rattle.search_run.specs.Outcomes.{lentOf, Gives}
+use Rattle.search_run.specs.Outcomes.{Gives}
 use Rattle.query.specs.Decided.{Decided}
-use Rattle.search_run.specs.inner.Memory.{roomFor}
+use Rattle.search_run.specs.inner.Memory.{roomFor, lentRows}
 use Rattle.search_run.proofs.Rooms.{room-by-test, enough-is}
 
 in-range : (cap : ℕ) → 1 ≤ cap → cap ≤ 4096 → (leb 1 cap && leb cap 4096) ≡ true
@@ -77,24 +77,24 @@ enough-ready ring cap r w few room tested t =
 -- for the facts and the tables of a decision
 module _ (f : Facts) (left right : List ℕ) (cap : ℕ) (r : List (List ℕ)) (w b : List ℕ) (some : cap ≡ 0 → ⊥) (few : cap ≤ 4096)
     (room : Bool) (tested : room ≡ roomFor (f .ring) cap r w) where
-  enough : (a : Asked) → Decided f left right (a .decided) → (x : Bool) → room ≡ x → enoughMemory (a .decided) cap (lentOf r w b) ≡ x
+  enough : (a : Asked) → Decided f left right (a .decided) → (x : Bool) → room ≡ x → enoughMemory (a .decided) cap (lentRows r w b) ≡ x
   unfolding factsOf
   enough a d x e =
       enough-is (a .decided) cap r w b ∙ ap (λ k. roomFor k cap r w) (sym (ap (λ (g : Facts). g .ring) (d .facts))) ∙ sym tested ∙ e
 
   -- 9 for the memory
   pub short-gives : not room ≡ true → (a : Asked) → Decided f left right (a .decided)
-      → Gives (searchAsked a cap (lentOf r w b)) (Refused ShortMemory 0) (lentOf r w b)
+      → Gives (searchAsked a cap (lentRows r w b)) (Refused ShortMemory 0) (lentRows r w b)
   unfolding causeOf
   short-gives t a d =
-      subst⁻¹ (λ z. Gives z (Refused ShortMemory 0) (lentOf r w b))
-      (by-memory a cap (lentOf r w b) (omega (arith, some)) few false (enough a d false (not-true room t)))
+      subst⁻¹ (λ z. Gives z (Refused ShortMemory 0) (lentRows r w b))
+      (by-memory a cap (lentRows r w b) (omega (arith, some)) few false (enough a d false (not-true room t)))
       (record { says = (refl, refl); leaves = refl })
 
   -- the search
   pub searched-gives : not room ≡ false → (o : Outcome) (m : Lent)
-      → ((D : Decision) → Decided f left right D → Gives (finish D cap (lentOf r w b) (searched D cap)) o m)
-      → (a : Asked) → Decided f left right (a .decided) → Gives (searchAsked a cap (lentOf r w b)) o m
+      → ((D : Decision) → Decided f left right D → Gives (finish D cap (lentRows r w b) (searched D cap)) o m)
+      → (a : Asked) → Decided f left right (a .decided) → Gives (searchAsked a cap (lentRows r w b)) o m
   searched-gives t o m h a d =
       subst⁻¹ (λ z. Gives z o m)
-      (by-memory a cap (lentOf r w b) (omega (arith, some)) few true (enough a d true (not-false room t))) (h (a .decided) d)
+      (by-memory a cap (lentRows r w b) (omega (arith, some)) few true (enough a d true (not-false room t))) (h (a .decided) d)

@@ -4,11 +4,11 @@
 use Prim.Native.Nat.{ℕ}
 use mathlib.Core.Path.{_≡_}
 use mathlib.Core.List.{List, map}
-use lib.ListN.{getD}
 use Rattle.kat.specs.Word.{size}
 use Rattle.claims.specs.Refusals.{Result, ok, refused}
 use Rattle.claims.specs.Calls.{Answer, provedWith, refutedBy, Slot, Lent, Done}
 use Rattle.refusals.specs.Causes.{causeOf}
+use Rattle.search_records.specs.declared.Record.{Record}
 use Rattle.search_run.specs.declared.Outcome.{Outcome}
 use Rattle.search_run.specs.declared.Outcome.the-variants.{Proved, Refuted, Refused}
 
@@ -24,12 +24,12 @@ Says (refused r) (Proved n) = ⊥
 Says (refused r) (Refuted n) = ⊥
 Says (refused r) (Refused why p) = (causeOf why ≡ r .cause) × (p ≡ r .place)
 
--- four words as a record of a path claim's working memory ("Standings")
-unfoldable pub slotOf : List ℕ → Slot
-slotOf r = record { P = getD r 0 0; S = getD r 1 0; parent = getD r 2 0; letter = getD r 3 0 }
+-- a lent record, as one of document 01's ("Standings")
+unfoldable pub slotOf : Record → Slot
+slotOf r = record { P = r .p; S = r .s; parent = r .parent; letter = r .letter }
 
--- what is lent: records of four words, words, and the sheet buffer ("Refusals with an example each")
-unfoldable pub lentOf : List (List ℕ) → List ℕ → List ℕ → Lent
+-- what is lent: records, words, and the sheet buffer ("Refusals with an example each")
+unfoldable pub lentOf : List Record → List ℕ → List ℕ → Lent
 lentOf records words buffer = record { records = map slotOf records; words = words; buffer = buffer }
 
 -- a call gives what is done: its outcome says the result, and all that was lent is as it is then ("Refusals with an example each")

@@ -4,3 +4,5 @@ pub mod Memory
 pub mod Tried
 -- The answer of what the search finds.
 pub mod Found
+-- What holds while its sheet is written.
+pub mod Stands

@@ -3,41 +3,31 @@
 use query::Facts;
 use refusals::Reason;
 use search_levels::Answer;
+use search_records::Record;
 use search_words::Shape;
-ghost use Prim.Native.Nat.{suc, _+_, _*_, _≤_};
+use search_writing::Writing;
+ghost use Prim.Native.Nat.{ℕ, _+_, _*_, _≤_, _<_};
 ghost use mathlib.Core.Path.{_≡_};
-ghost use mathlib.Core.Bool.{cond};
-ghost use mathlib.Core.List.{[], _∷_};
+ghost use mathlib.Core.Bool.{Bool, true, false, cond};
+ghost use mathlib.Core.List.{List};
 ghost use lib.ListN.{length};
 ghost use Rattle.claims.specs.Sides.{Decision};
 ghost use Rattle.claims.specs.Calls.{Asked, searchAsked, searched, finish, cleared};
-ghost use Rattle.search_store.specs.Store.{Room};
-ghost use Rattle.search_sheet.specs.SheetWords.{Falling};
-ghost use Rattle.search_grow.specs.Kept.{state, Inside, Ready};
-ghost use Rattle.search_levels.specs.Answers.{Answered};
+ghost use Rattle.search_records.specs.Rows.{rows, recordAt};
+ghost use Rattle.search_alike.specs.Masks.{masksOf};
+ghost use Rattle.search_grow.specs.Kept.{state, Ready};
 ghost use Rattle.search_run.specs.Outcomes.{lentOf, Gives};
 ghost use Rattle.query.specs.Decided.{Decided};
 ghost use Rattle.search_run.specs.inner.Memory.{roomFor};
-ghost use Rattle.search_run.specs.inner.Tried.{shapeOf, firstLetters, laterLetters};
-ghost use Rattle.search_run.specs.inner.Found.{Reportable, provedIn, refutedIn, foundIn, Reports};
+ghost use Rattle.search_run.specs.inner.Tried.{shapeOf, firstMasks};
+ghost use Rattle.search_run.specs.inner.Found.{Reportable, foundIn, Reports};
+ghost use Rattle.search_run.specs.inner.Stands.{Stands, turns};
 
 // Proved with the count of standings, refuted with the length of the word, or the reason and the place of a refusal.
 pub enum Outcome {
     Proved(usize),
     Refuted(usize),
     Refused(Reason, usize),
-}
-
-// The first n records zero.
-fn clear_records(records: &mut [[u64; 4]], n: usize)
-    requires { ⌜ n ≤ length (now records) ⌝ }
-    ensures { λ r. ⌜ now (records .exit) ≡ cleared (0 ∷ 0 ∷ 0 ∷ 0 ∷ []) n (now (records .entry)) ⌝ }
-{
-    let mut i = 0;
-    while i < n {
-        records[i] = [0, 0, 0, 0];
-        i += 1;
-    }
 }
 
 // The first n words zero.
@@ -52,118 +42,149 @@ fn clear_words(words: &mut [u64], n: usize)
     }
 }
 
-// The memory that the claim's kind needs for the allowance zero.
-fn clear(ring: bool, allowance: usize, records: &mut [[u64; 4]], words: &mut [u64])
-    requires { ⌜ Room ring (now records) (now words) allowance ⌝ }
-    ensures records_cleared { λ r. ⌜ now (records .exit) ≡ cleared (0 ∷ 0 ∷ 0 ∷ 0 ∷ []) (cond ring 0 allowance) (now (records .entry)) ⌝ }
-    ensures words_cleared { λ r. ⌜ now (words .exit) ≡ cleared 0 (cond ring (40 * allowance) 0) (now (words .entry)) ⌝ }
+// How many records a claim of this kind needs for the allowance.
+fn records_needed(ring: bool, allowance: usize) -> usize
+    ensures { λ n. ⌜ n ≡ cond ring 0 allowance ⌝ }
 {
     if ring {
-        clear_words(words, 40 * allowance);
-        return;
+        return 0;
     }
-    clear_records(records, allowance);
+    allowance
 }
 
-// Whether the memory of the claim's kind has room for the allowance.
-fn enough(ring: bool, allowance: usize, records: &[[u64; 4]], words: &[u64]) -> bool
+// How many words a claim of this kind needs for the allowance.
+fn words_needed(ring: bool, allowance: usize) -> usize
     requires { ⌜ allowance ≤ 4096 ⌝ }
-    ensures { λ r. ⌜ r ≡ roomFor ring allowance (now (records .entry)) (now (words .entry)) ⌝ }
+    ensures { λ n. ⌜ n ≡ cond ring (40 * allowance) 0 ⌝ }
+{
+    if ring {
+        return 40 * allowance;
+    }
+    0
+}
+
+// Whether the memory of the claim's kind, these records and words, has room for the allowance.
+fn enough(ring: bool, allowance: usize, records: usize, words: &[u64]) -> bool
+    requires { ⌜ allowance ≤ 4096 ⌝ }
+    ensures { λ x.
+        ⌜ ((r : List (List ℕ)) → records ≡ length r → x ≡ roomFor ring allowance r (now (words .entry))) ⌝ }
 {
     if ring {
         return 40 * allowance <= words.len();
     }
-    allowance <= records.len()
+    allowance <= records
 }
 
-// Level by level over the letters that are tried: at level 1 of a ring claim all, and else those whose atom is the lowest of those that
-// are alike.
-fn find(
-    f: Facts,
-    left: &[u64; 4241],
-    right: &[u64; 4241],
-    allowance: usize,
-    records: &mut [[u64; 4]],
-    words: &mut [u64],
-) -> Answer
-    requires { ⌜ Ready (f .ring) allowance (state (now records) (now words) 0) × (f .relations ≤ 16) ⌝ }
-    ensures inside { λ x. ⌜ Inside (f .ring) allowance (state (now (records .entry)) (now (words .entry)) 0) (state (now (records .exit)) (now (words .exit)) 0) ⌝ }
-    ensures answered { λ x.
-        ⌜ Answered (shapeOf f) (now (left .entry)) (now (right .entry)) (firstLetters f (now (left .entry)) (now (right .entry)))
-        (laterLetters f (now (left .entry)) (now (right .entry))) (suc (suc allowance)) allowance (now (records .exit)) (now (words .exit)) x ⌝ }
+// What the search knows of a decision beside its tables.
+fn shape_of(f: Facts) -> Shape
+    ensures { λ k. ⌜ k ≡ shapeOf f ⌝ }
 {
-    let k = Shape {
+    Shape {
         ring: f.ring,
         right: f.right,
         live: f.live,
         relations: f.relations,
-    };
-    let mut later = [0u64; 16];
-    search_alike::masks(k, f.left, left, right, &mut later);
+    }
+}
+
+// The letters that are tried: at level 1 of a ring claim all, and else those whose atom is the lowest of those that are alike.
+fn letters_tried(
+    f: Facts,
+    left: &[u64; 4241],
+    right: &[u64; 4241],
+    first: &mut [u64; 16],
+    later: &mut [u64; 16],
+)
+    ensures first_ones { λ x. ⌜ now (first .exit) ≡ firstMasks f (now (left .entry)) (now (right .entry)) ⌝ }
+    ensures later_ones { λ x. ⌜ now (later .exit) ≡ masksOf (shapeOf f) (f .left) (now (left .entry)) (now (right .entry)) ⌝ }
+{
+    let k = shape_of(f);
+    search_alike::masks(k, f.left, left, right, later);
     if f.ring {
-        let mut first = [0u64; 16];
-        search_alike::all_live(f.live, &mut first);
-        return search_levels::levels(k, allowance, left, right, &first, &later, records, words);
+        search_alike::all_live(f.live, first);
+        return;
     }
-    search_levels::levels(k, allowance, left, right, &later, &later, records, words)
+    let same = *later;
+    *first = same;
 }
 
-// The outcome of a proof with n standings, and its sheet, where the buffer is long enough.
-fn report_proved(
-    ring: bool,
-    records: &[[u64; 4]],
-    words: &[u64],
-    n: usize,
-    buffer: &mut [u8],
-) -> Outcome
-    requires { ⌜ Room ring (now records) (now words) n × (n ≤ 4096) ⌝ }
-    ensures { λ r. ⌜ Reports (provedIn ring (now (records .entry)) (now (words .entry)) n) (now (buffer .entry)) r (now (buffer .exit)) ⌝ }
+// The sheet of what was found begins.
+fn begin(ring: bool, found: Answer, buffer: &mut [u8]) -> Writing
+    requires { ⌜ ((r : List (List ℕ)) × (w : List ℕ) × Reportable ring r w found) ⌝ }
+    ensures { λ x.
+        ⌜ ((r : List (List ℕ)) (w : List ℕ) → Reportable ring r w found
+        → Stands ring r w (now (buffer .entry)) found x (now (buffer .exit))) ⌝ }
 {
-    let length = search_sheet::proved_length(ring, n);
-    if buffer.len() < length {
+    match found {
+        Answer::Proved(n) => search_writing::begin_fields(ring, n, buffer),
+        Answer::Refuted(place, last) => search_writing::begin_word(place, last, buffer),
+        Answer::Spent => search_writing::ended(false, 0),
+    }
+}
+
+// One standing's part of the sheet, by its record or from the words.
+fn put(
+    ring: bool,
+    from: Record,
+    words: &[u64],
+    found: Answer,
+    x: Writing,
+    buffer: &mut [u8],
+) -> Writing
+    requires { ⌜ ((r : List (List ℕ)) × (b₀ : List ℕ) × (x .going ≡ true) × Stands ring r (now words) b₀ found x (now buffer)) ⌝ }
+    ensures { λ y.
+        ⌜ ((r : List (List ℕ)) (b₀ : List ℕ) → from ≡ recordAt r (x .at) → x .going ≡ true
+        → Stands ring r (now (words .entry)) b₀ found x (now (buffer .entry))
+        → Stands ring r (now (words .entry)) b₀ found y (now (buffer .exit)) × (turns found y < turns found x)) ⌝ }
+{
+    match found {
+        Answer::Proved(n) => search_writing::next_field(ring, from, words, n, x.at, buffer),
+        Answer::Refuted(place, last) => search_writing::next_of_word(
+            ring,
+            from,
+            words,
+            place,
+            last,
+            x,
+            buffer,
+        ),
+        Answer::Spent => x,
+    }
+}
+
+// The outcome of what was found, once the sheet is written or the buffer was too short for it.
+fn tell(found: Answer, x: Writing) -> Outcome
+    ensures { λ o.
+        ⌜ ((ring : Bool) (r : List (List ℕ)) (w b₀ b : List ℕ) → x .going ≡ false → Stands ring r w b₀ found x b
+        → Reports (foundIn ring r w found) b₀ o b) ⌝ }
+{
+    if x.short {
         return Outcome::Refused(Reason::ShortBuffer, 0);
     }
-    search_sheet::write_proved(ring, records, words, n, buffer);
-    Outcome::Proved(n)
-}
-
-// The outcome of a refuting word, and its sheet, where the buffer is long enough.
-fn report_refuted(
-    ring: bool,
-    records: &[[u64; 4]],
-    words: &[u64],
-    place: usize,
-    last: usize,
-    buffer: &mut [u8],
-) -> Outcome
-    requires { ⌜ Room ring (now records) (now words) place × Falling ring (now records) (now words) place × (place ≤ 4096) ⌝ }
-    ensures { λ r. ⌜ Reports (refutedIn ring (now (records .entry)) (now (words .entry)) place last) (now (buffer .entry)) r (now (buffer .exit)) ⌝ }
-{
-    let n = search_sheet::word_length(ring, records, words, place);
-    let length = 8 + 2 * n;
-    if buffer.len() < length {
-        return Outcome::Refused(Reason::ShortBuffer, 0);
+    match found {
+        Answer::Proved(n) => Outcome::Proved(n),
+        Answer::Refuted(_, _) => Outcome::Refuted(x.count),
+        Answer::Spent => Outcome::Refused(Reason::SpentAllowance, 0),
     }
-    search_sheet::write_refuted(ring, records, words, place, last, n, buffer);
-    Outcome::Refuted(n)
 }
 
-// The outcome of what was found, and its sheet.
+// The outcome of what was found, and its sheet: one record of the memory a turn.
 fn report(
     ring: bool,
-    records: &[[u64; 4]],
+    records: &[Record],
     words: &[u64],
     found: Answer,
     buffer: &mut [u8],
 ) -> Outcome
-    requires { ⌜ Reportable ring (now records) (now words) found ⌝ }
-    ensures { λ r. ⌜ Reports (foundIn ring (now (records .entry)) (now (words .entry)) found) (now (buffer .entry)) r (now (buffer .exit)) ⌝ }
+    requires { ⌜ Reportable ring (rows (now records)) (now words) found ⌝ }
+    ensures { λ r. ⌜ Reports (foundIn ring (rows (now (records .entry))) (now (words .entry)) found) (now (buffer .entry)) r (now (buffer .exit)) ⌝ }
 {
-    match found {
-        Answer::Proved(n) => report_proved(ring, records, words, n, buffer),
-        Answer::Refuted(place, last) => report_refuted(ring, records, words, place, last, buffer),
-        Answer::Spent => Outcome::Refused(Reason::SpentAllowance, 0),
+    let mut x = begin(ring, found, buffer);
+    while x.going {
+        let from = search_records::load(records, x.at);
+        x = put(ring, from, words, found, x, buffer);
     }
+    tell(found, x)
 }
 
 // The search, its sheet, and the needed memory zero.
@@ -172,19 +193,26 @@ fn run(
     left: &[u64; 4241],
     right: &[u64; 4241],
     allowance: usize,
-    records: &mut [[u64; 4]],
+    records: &mut [Record],
     words: &mut [u64],
     buffer: &mut [u8],
 ) -> Outcome
-    requires { ⌜ Ready (f .ring) allowance (state (now records) (now words) 0) × (f .relations ≤ 16) ⌝ }
+    requires { ⌜ Ready (f .ring) allowance (state (rows (now records)) (now words) 0) × (f .relations ≤ 16) ⌝ }
     ensures { λ r.
         ⌜ ((D : Decision) → Decided f (now (left .entry)) (now (right .entry)) D
         → Gives (finish D allowance (lentOf (now (records .entry)) (now (words .entry)) (now (buffer .entry))) (searched D allowance)) r
         (lentOf (now (records .exit)) (now (words .exit)) (now (buffer .exit)))) ⌝ }
 {
-    let found = find(f, left, right, allowance, records, words);
+    let mut first = [0u64; 16];
+    let mut later = [0u64; 16];
+    letters_tried(f, left, right, &mut first, &mut later);
+    let k = shape_of(f);
+    let found = search_levels::levels(k, allowance, left, right, &first, &later, records, words);
     let r = report(f.ring, records, words, found, buffer);
-    clear(f.ring, allowance, records, words);
+    let slots = records_needed(f.ring, allowance);
+    search_records::clear(records, slots);
+    let cells = words_needed(f.ring, allowance);
+    clear_words(words, cells);
     r
 }
 
@@ -195,7 +223,7 @@ pub fn decide(
     left: &[u64; 4241],
     right: &[u64; 4241],
     allowance: usize,
-    records: &mut [[u64; 4]],
+    records: &mut [Record],
     words: &mut [u64],
     buffer: &mut [u8],
 ) -> Outcome
@@ -211,7 +239,8 @@ pub fn decide(
     if 4096 < allowance {
         return Outcome::Refused(Reason::BadAllowance, 0);
     }
-    let room = enough(f.ring, allowance, records, words);
+    let slots = search_records::count(records);
+    let room = enough(f.ring, allowance, slots, words);
     if !room {
         return Outcome::Refused(Reason::ShortMemory, 0);
     }

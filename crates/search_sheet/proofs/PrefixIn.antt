@@ -1,7 +1,7 @@
 -- The prefix of a place in memory: more letters than the number of the place change nothing, so the prefix of a standing is its parent's with
 -- its letter behind; and a memory that keeps the entries of the search has their prefixes.
 -- Assumes nothing.
-use Prim.Native.Nat.{ℕ, zero, suc, _-_, _/_, _%_, _≤_, _<_}
+use Prim.Native.Nat.{ℕ, zero, suc, _+_, _/_, _%_, _≤_, _<_}
 use native.Mathlib.Omega.{arith}
 use mathlib.Core.Path.{_≡_, refl, sym, _∙_, ap}
 use mathlib.Core.Bool.{Bool}
@@ -12,10 +12,6 @@ use Rattle.search_store.specs.Store.{parentAt, letterAt, prefixAt, Holds}
 use Rattle.search_sheet.specs.SheetWords.{Falling, prefixWithin, prefixIn}
 
 module _ (ring : Bool) (r : List (List ℕ)) (w : List ℕ) (n : ℕ) (falls : Falling ring r w n) where
-  -- a parent is lower
-  pub parent-below : (i q p : ℕ) → q ≡ parentAt ring r w i → i < n → i < p → q < p
-  parent-below i q p e h l = omega (arith, falls i h, e)
-
   -- enough letters
   prefix-enough : (f g place : ℕ) → place ≤ n → place ≤ f → place ≤ g → prefixWithin ring r w f place ≡ prefixWithin ring r w g place
   unfolding prefixWithin
@@ -30,19 +26,19 @@ module _ (ring : Bool) (r : List (List ℕ)) (w : List ℕ) (n : ℕ) (falls : F
       ap (λ l. then l (letterAt ring r w i / 16) (letterAt ring r w i % 16))
       (prefix-enough f g (parentAt ring r w i) (omega arith) (omega arith) (omega arith))
 
-  pub prefix-more : (p : ℕ) → 0 < p → p ≤ n
-      → prefixIn ring r w p ≡ then (prefixIn ring r w (parentAt ring r w (p - 1))) (letterAt ring r w (p - 1) / 16) (letterAt ring r w (p - 1) % 16)
+  -- the prefix that a standing ends is that of its parent, and its letter
+  pub prefix-more : (i : ℕ) → i < n
+      → prefixIn ring r w (i + 1) ≡ then (prefixIn ring r w (parentAt ring r w i)) (letterAt ring r w i / 16) (letterAt ring r w i % 16)
   unfolding prefixIn prefixWithin
-  prefix-more zero h l = absurd (omega arith)
-  prefix-more (suc i) h l =
-      let z : suc i - 1 ≡ i = omega arith in
-      let k : parentAt ring r w i ≤ i = falls i (omega arith) in
-      ap (λ l. then l (letterAt ring r w i / 16) (letterAt ring r w i % 16))
+  prefix-more i h =
+      let z : i + 1 ≡ suc i = omega arith in
+      let k : parentAt ring r w i ≤ i = falls i h in
+      ap (λ p. prefixWithin ring r w p p) z
+      ∙ ap (λ l. then l (letterAt ring r w i / 16) (letterAt ring r w i % 16))
       (prefix-enough i (parentAt ring r w i) (parentAt ring r w i) (omega arith) (omega arith) (omega arith))
-      ∙ ap (λ j. then (prefixWithin ring r w (parentAt ring r w j) (parentAt ring r w j)) (letterAt ring r w j / 16) (letterAt ring r w j % 16)) (sym z)
 
-  pub relations-more : (p : ℕ) → 0 < p → p ≤ n → relationsIn (prefixIn ring r w p) ≡ suc (relationsIn (prefixIn ring r w (parentAt ring r w (p - 1))))
-  relations-more p h l = ap relationsIn (prefix-more p h l)
+  pub relations-more : (i : ℕ) → i < n → relationsIn (prefixIn ring r w (i + 1)) ≡ suc (relationsIn (prefixIn ring r w (parentAt ring r w i)))
+  relations-more i h = ap relationsIn (prefix-more i h)
 
 pub prefix-none : (ring : Bool) (r : List (List ℕ)) (w : List ℕ) → prefixIn ring r w 0 ≡ nothing
 unfolding prefixIn prefixWithin

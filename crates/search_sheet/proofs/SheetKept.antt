@@ -3,7 +3,7 @@
 -- Assumes nothing.
 use Prim.Native.Nat.{ℕ, suc, _+_, _-_, _≤_, _<_}
 use native.Mathlib.Omega.{arith}
-use mathlib.Core.Path.{_≡_, refl, sym, _∙_, ap, ap₂}
+use mathlib.Core.Path.{_≡_, refl, _∙_, ap, ap₂}
 use mathlib.Core.List.{List, [], _∷_, _++_}
 use lib.ListN.{length, getD}
 use Rattle.kat.specs.Lists.{counted}
@@ -12,14 +12,13 @@ use Rattle.kat.specs.Ring.{Prefix, onto}
 use Rattle.claims.specs.Fields.{bigEndian, field}
 use Rattle.claims.specs.Search.{proved, refuted}
 use Rattle.claims.specs.SheetBytes.{standingFields, sheetBytes}
-use Rattle.claims.specs.Verdicts.{relationsIn}
 use Rattle.claims.specs.SheetWriting.{AllBytes}
 use Rattle.search_words.specs.declared.Shape.{Shape}
 use Rattle.search_words.specs.Systems.{wordSystem}
-use Rattle.search_store.specs.Store.{standingAt, prefixAt, Holds, Room}
+use Rattle.search_store.specs.Store.{standingAt, prefixAt, Holds}
 use Rattle.search_fields.specs.FieldWords.{contentsWords, fieldWords}
-use Rattle.search_sheet.specs.SheetWords.{HasPrefix, prefixBytes, wordBytes, fieldsFrom, provedSheet, refutedSheet}
-use Rattle.search_sheet.proofs.PrefixIn.{holds-falls, prefix-kept}
+use Rattle.search_sheet.specs.SheetWords.{prefixBytes, wordBytes, fieldsFrom, provedSheet, refutedSheet}
+use Rattle.search_sheet.proofs.PrefixIn.{prefix-kept}
 use Rattle.search_sheet.proofs.WordNumbers.{word-numbers}
 
 module _ (k : Shape) (left right : List ℕ) (r : List (List ℕ)) (w : List ℕ) where
@@ -51,12 +50,3 @@ module _ (k : Shape) (left right : List ℕ) (r : List (List ℕ)) (w : List ℕ
     refuted-sheet place last l b =
         ap (λ p. field 1 (2 ∷ []) ++ field 2 (prefixBytes p ++ bigEndian 1 last)) (prefix-kept h place l)
         ∙ ap (λ ns. field 1 (2 ∷ []) ++ field 2 ns) (word-numbers (prefixAt ps place) last b)
-
-    -- the prefix of a place can be read
-    pub has-prefix : (place m : ℕ) → Room (k .ring) r w place → place ≤ n → m ≡ relationsIn (prefixAt ps place) → HasPrefix (k .ring) r w place m
-    has-prefix place m room l e =
-        record {
-          room = room;
-          falls = λ i j. holds-falls h i (omega arith);
-          count = e ∙ sym (ap relationsIn (prefix-kept h place l));
-        }

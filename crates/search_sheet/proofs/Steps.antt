@@ -5,7 +5,7 @@ use native.Mathlib.Nat.{mul-suc, mul-le-mul-left}
 use native.Mathlib.Omega.{arith}
 use mathlib.Core.Path.{_≡_, refl, sym, _∙_, ap}
 use mathlib.Core.Bool.{Bool}
-use mathlib.Core.List.{List, _∷_, _++_, append-assoc}
+use mathlib.Core.List.{List, [], _∷_, _++_, append-assoc}
 use lib.ListN.{length, length-append}
 use Rattle.kat.specs.Lists.{counted, upto}
 use Rattle.kat.specs.Ring.{Prefix, nothing, then}
@@ -16,9 +16,9 @@ use Rattle.standings.proofs.Upto.{upto-more}
 use Rattle.search_store.specs.Store.{standingAt, parentAt, letterAt, Room}
 use Rattle.search_fields.specs.Written.{written, over}
 use Rattle.search_fields.specs.FieldWords.{fieldWords, fieldLength}
-use Rattle.search_fields.proofs.Written.{written-next, over-none, over-next, over-before}
+use Rattle.search_fields.proofs.Written.{written-next, over-none, over-next, over-before, length-written}
 use Rattle.search_fields.proofs.Fields.{field-of, field-count}
-use Rattle.search_sheet.specs.SheetWords.{Falling, prefixWithin, prefixIn, letterBytes, prefixBytes, wordBytes, fieldsFrom}
+use Rattle.search_sheet.specs.SheetWords.{Falling, prefixWithin, prefixIn, letterBytes, prefixBytes, wordHead, wordBytes, fieldsFrom, refutedSheet}
 use Rattle.search_sheet.proofs.PrefixIn.{prefix-more}
 
 pub room-below : {ring : Bool} {r : List (List ℕ)} {w : List ℕ} {m n : ℕ} → m ≤ n → Room ring r w n → Room ring r w m
@@ -69,6 +69,10 @@ pub letter-put : (at l : ℕ) (xs : List ℕ) → at ≤ length xs → over (at 
 unfolding letterBytes
 letter-put at l xs h = over-next at 1 (bigEndian 1 (l / 16)) (bigEndian 1 (l % 16)) xs h (bigEndian-length 1 (l / 16))
 
+pub letter-length : (l : ℕ) → length (letterBytes l) ≡ 2
+unfolding letterBytes bigEndian
+letter-length l = refl
+
 -- two bytes a relation
 pub prefix-length : (l : Prefix) → length (prefixBytes l) ≡ 2 * relationsIn l
 unfolding prefixBytes
@@ -83,22 +87,22 @@ prefix-length (then l a r) =
       prefix-length l,
     )
 
--- the last letter, and then those before it
-pub letters-more : (ring : Bool) (r : List (List ℕ)) (w : List ℕ) (n : ℕ) → Falling ring r w n → (p k : ℕ) (xs : List ℕ) → 0 < p → p ≤ n
-    → k ≡ relationsIn (prefixIn ring r w (parentAt ring r w (p - 1))) → 3 + 2 * k ≤ length xs
-    → over 3 (prefixBytes (prefixIn ring r w (parentAt ring r w (p - 1)))) (over (3 + 2 * k) (letterBytes (letterAt ring r w (p - 1))) xs)
-    ≡ over 3 (prefixBytes (prefixIn ring r w p)) xs
+-- the last letter, and then those before it, from byte `at` on
+pub letters-more : (ring : Bool) (r : List (List ℕ)) (w : List ℕ) (n : ℕ) → Falling ring r w n → (at i k : ℕ) (xs : List ℕ) → i < n
+    → k ≡ relationsIn (prefixIn ring r w (parentAt ring r w i)) → at + 2 * k ≤ length xs
+    → over at (prefixBytes (prefixIn ring r w (parentAt ring r w i))) (over (at + 2 * k) (letterBytes (letterAt ring r w i)) xs)
+    ≡ over at (prefixBytes (prefixIn ring r w (i + 1))) xs
 unfolding prefixBytes letterBytes
-letters-more ring r w n falls p k xs h l e b =
-    over-before 3 (2 * k) (prefixBytes before) (letterBytes (letterAt ring r w (p - 1))) xs b (prefix-length before ∙ ap (λ j. 2 * j) (sym e))
-    ∙ ap (λ q. over 3 (prefixBytes q) xs) (sym (prefix-more ring r w n falls p h l))
+letters-more ring r w n falls at i k xs h e b =
+    over-before at (2 * k) (prefixBytes before) (letterBytes (letterAt ring r w i)) xs b (prefix-length before ∙ ap (λ j. 2 * j) (sym e))
+    ∙ ap (λ q. over at (prefixBytes q) xs) (sym (prefix-more ring r w n falls i h))
   where
     before : Prefix
-    before = prefixIn ring r w (parentAt ring r w (p - 1))
+    before = prefixIn ring r w (parentAt ring r w i)
 
-pub letters-end : (ring : Bool) (r : List (List ℕ)) (w : List ℕ) (p : ℕ) (xs : List ℕ) → p ≡ 0 → xs ≡ over 3 (prefixBytes (prefixIn ring r w p)) xs
+pub letters-end : (ring : Bool) (r : List (List ℕ)) (w : List ℕ) (at p : ℕ) (xs : List ℕ) → p ≡ 0 → xs ≡ over at (prefixBytes (prefixIn ring r w p)) xs
 unfolding prefixBytes prefixIn prefixWithin
-letters-end ring r w p xs e = sym (over-none 3 xs) ∙ ap (λ j. over 3 (prefixBytes (prefixIn ring r w j)) xs) (sym e)
+letters-end ring r w at p xs e = sym (over-none at xs) ∙ ap (λ j. over at (prefixBytes (prefixIn ring r w j)) xs) (sym e)
 
 -- header, letters and last atom are the field of the word
 pub word-length : (ring : Bool) (r : List (List ℕ)) (w : List ℕ) (place last n : ℕ) → n ≡ relationsIn (prefixIn ring r w place)
@@ -113,3 +117,23 @@ unfolding wordBytes
 word-put ring r w place last n e =
     append-assoc (2 ∷ bigEndian 2 (2 * n + 1)) (prefixBytes (prefixIn ring r w place)) (bigEndian 1 last)
     ∙ field-of 2 (2 * n + 1) (wordBytes ring r w place last) (word-length ring r w place last n e)
+
+-- the letters between what stands before them and the last atom make the sheet
+pub head-length : (n : ℕ) → length (wordHead n) ≡ 7
+unfolding wordHead field bigEndian
+head-length n = refl
+
+pub frame-filled : (ring : Bool) (r : List (List ℕ)) (w : List ℕ) (place last n : ℕ) (xs : List ℕ) → n ≡ relationsIn (prefixIn ring r w place)
+    → 8 + 2 * n ≤ length xs
+    → over 7 (prefixBytes (prefixIn ring r w place)) (over (7 + 2 * n) (bigEndian 1 last) (written (wordHead n) xs))
+    ≡ written (refutedSheet ring r w place last) xs
+unfolding refutedSheet wordHead
+frame-filled ring r w place last n xs e h =
+    over-before 7 (2 * n) letters (bigEndian 1 last) (written (wordHead n) xs)
+    (omega (arith, length-written (wordHead n) xs (omega (arith, head-length n)), head-length n)) (prefix-length (prefixIn ring r w place) ∙ ap (λ j. 2 * j) (sym e))
+    ∙ written-next (wordHead n) (letters ++ bigEndian 1 last) xs 7 (head-length n)
+    ∙ ap (λ bs. written bs xs) (append-assoc (field 1 (2 ∷ [])) (2 ∷ bigEndian 2 (2 * n + 1)) (letters ++ bigEndian 1 last)
+    ∙ ap (λ bs. field 1 (2 ∷ []) ++ bs) (sym (append-assoc (2 ∷ bigEndian 2 (2 * n + 1)) letters (bigEndian 1 last)) ∙ word-put ring r w place last n e))
+  where
+    letters : List ℕ
+    letters = prefixBytes (prefixIn ring r w place)

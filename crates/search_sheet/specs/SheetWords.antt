@@ -2,15 +2,13 @@
 -- in the order of the memory; a refuted one has the word whose prefix is that of a place, by parents and letters. `proofs/` shows that for a
 -- memory that keeps the entries of the search these are the sheets of the verdict.
 -- Assumes nothing.
-use Prim.Native.Nat.{ℕ, zero, suc, _/_, _%_, _≤_, _<_}
-use mathlib.Core.Path.{_≡_}
+use Prim.Native.Nat.{ℕ, zero, suc, _+_, _*_, _/_, _%_, _≤_, _<_}
 use mathlib.Core.Bool.{Bool}
 use mathlib.Core.List.{List, [], _∷_, _++_}
 use Rattle.kat.specs.Lists.{upto}
 use Rattle.kat.specs.Ring.{Prefix, nothing, then}
 use Rattle.claims.specs.Fields.{bigEndian, field}
-use Rattle.claims.specs.Verdicts.{relationsIn}
-use Rattle.search_store.specs.Store.{standingAt, parentAt, letterAt, Room}
+use Rattle.search_store.specs.Store.{standingAt, parentAt, letterAt}
 use Rattle.search_fields.specs.FieldWords.{fieldWords}
 
 -- a letter, 16 * atom + relation, as two bytes: the atom, and the relation behind it ("Sheet and graph bytes")
@@ -21,6 +19,10 @@ letterBytes l = bigEndian 1 (l / 16) ++ bigEndian 1 (l % 16)
 unfoldable pub prefixBytes : Prefix → List ℕ
 prefixBytes nothing = []
 prefixBytes (then l a r) = prefixBytes l ++ (bigEndian 1 a ++ bigEndian 1 r)
+
+-- the sheet of a word of n relations up to its first letter: the verdict, and the tag and the length of the word ("Sheet and graph bytes")
+unfoldable pub wordHead : ℕ → List ℕ
+wordHead n = field 1 (2 ∷ []) ++ (2 ∷ bigEndian 2 (2 * n + 1))
 
 module _ (ring : Bool) (r : List (List ℕ)) (w : List ℕ) where
   -- the parent of each of the first n standings is a place no later than the standing
@@ -36,12 +38,6 @@ module _ (ring : Bool) (r : List (List ℕ)) (w : List ℕ) where
   -- the prefix of a place: parents fall, so it has no more letters than the number of the place
   unfoldable pub prefixIn : ℕ → Prefix
   prefixIn place = prefixWithin place place
-
-  -- the memory has the prefix of a place, of n relations: there is room for the standings before the place, and parents fall
-  pub record HasPrefix (place n : ℕ) : Type 0 where
-    pub room : Room ring r w place
-    pub falls : Falling place
-    pub count : n ≡ relationsIn (prefixIn place)
 
   -- the numbers of the word of a place and a last atom ("Sheet and graph bytes")
   unfoldable pub wordBytes : ℕ → ℕ → List ℕ

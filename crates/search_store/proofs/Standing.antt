@@ -91,10 +91,6 @@ module _ (ring : Bool) (r : List (List ℕ)) (n : ℕ) (s : List ℕ) (parent le
   unfolding recordsAfter
   records-path e = rw e refl
 
-  pub records-ring : ring ≡ true → r ≡ recordsAfter ring r n s parent letter
-  unfolding recordsAfter
-  records-ring e = rw e refl
-
 module _ (ring : Bool) (w : List ℕ) (n : ℕ) (s : List ℕ) (parent letter : ℕ) where
   pub words-path : ring ≡ false → w ≡ wordsAfter ring w n s parent letter
   unfolding wordsAfter
@@ -116,7 +112,7 @@ two-words [] a b h = absurd (omega arith)
 two-words (x ∷ []) a b h = absurd (omega arith)
 two-words (x ∷ y ∷ xs) a b h = refl
 
--- what `load` leaves, by the kind of the claim
+-- what `stand` leaves, by the kind of the claim
 module _ (ring : Bool) (r : List (List ℕ)) (w : List ℕ) (i : ℕ) (to : List ℕ) where
   pub load-path : ring ≡ false → take 2 to ≡ getD (getD r i []) 0 0 ∷ getD (getD r i []) 1 0 ∷ []
       → take (width ring) to ≡ standingAt ring r w i

@@ -2,7 +2,6 @@
 -- Assumes nothing.
 use mathlib.Core.Path.{sym}
 use Prim.Native.Nat.{ℕ}
-use mathlib.Core.List.{List, [], _∷_}
 use lib.ListN.{length-replicate}
 use borrow.Author.Needs.{needs}
 use Rattle.check_cases.proofs.main.Statement.{statement}
@@ -15,19 +14,16 @@ slice-aggregate-run-2 : tie.Need-slice-aggregate-run-2
 slice-aggregate-run-2 c = sym (length-replicate {A = ℕ} 163840 0)
 
 slice-aggregate-run-3 : tie.Need-slice-aggregate-run-3
-slice-aggregate-run-3 c = sym (length-replicate {A = List ℕ} 4096 (0 ∷ 0 ∷ 0 ∷ 0 ∷ []))
+slice-aggregate-run-3 c = sym (length-replicate {A = ℕ} 163840 0)
 
 slice-aggregate-run-4 : tie.Need-slice-aggregate-run-4
-slice-aggregate-run-4 c = sym (length-replicate {A = ℕ} 163840 0)
+slice-aggregate-run-4 c = sym (length-replicate {A = ℕ} 1102097 0)
 
 slice-aggregate-run-5 : tie.Need-slice-aggregate-run-5
-slice-aggregate-run-5 c = sym (length-replicate {A = ℕ} 1102097 0)
+slice-aggregate-run-5 c = sym (length-replicate {A = ℕ} 24832 0)
 
 slice-aggregate-run-6 : tie.Need-slice-aggregate-run-6
-slice-aggregate-run-6 c = sym (length-replicate {A = ℕ} 24832 0)
-
-slice-aggregate-run-7 : tie.Need-slice-aggregate-run-7
-slice-aggregate-run-7 c = sym (length-replicate {A = ℕ} 262144 0)
+slice-aggregate-run-6 c = sym (length-replicate {A = ℕ} 262144 0)
 
 run-requires : tie.Need-run-requires
 run-requires c κs = search needs
@@ -45,6 +41,5 @@ main-spec =
     slice-aggregate-run-4
     slice-aggregate-run-5
     slice-aggregate-run-6
-    slice-aggregate-run-7
     run-requires
     returns)

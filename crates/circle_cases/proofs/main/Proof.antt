@@ -2,7 +2,6 @@
 -- Assumes nothing.
 use mathlib.Core.Path.{sym}
 use Prim.Native.Nat.{ℕ}
-use mathlib.Core.List.{List, [], _∷_}
 use lib.ListN.{length-replicate}
 use borrow.Author.Needs.{needs}
 use Rattle.circle_cases.proofs.main.Statement.{statement}
@@ -15,19 +14,16 @@ slice-aggregate-whole-2 : tie.Need-slice-aggregate-whole-2
 slice-aggregate-whole-2 c = sym (length-replicate {A = ℕ} 16384 0)
 
 slice-aggregate-whole-3 : tie.Need-slice-aggregate-whole-3
-slice-aggregate-whole-3 c = sym (length-replicate {A = List ℕ} 4096 (0 ∷ 0 ∷ 0 ∷ 0 ∷ []))
+slice-aggregate-whole-3 c = sym (length-replicate {A = ℕ} 163840 0)
 
 slice-aggregate-whole-4 : tie.Need-slice-aggregate-whole-4
-slice-aggregate-whole-4 c = sym (length-replicate {A = ℕ} 163840 0)
+slice-aggregate-whole-4 c = sym (length-replicate {A = ℕ} 1102097 0)
 
 slice-aggregate-whole-5 : tie.Need-slice-aggregate-whole-5
-slice-aggregate-whole-5 c = sym (length-replicate {A = ℕ} 1102097 0)
+slice-aggregate-whole-5 c = sym (length-replicate {A = ℕ} 24832 0)
 
 slice-aggregate-whole-6 : tie.Need-slice-aggregate-whole-6
-slice-aggregate-whole-6 c = sym (length-replicate {A = ℕ} 24832 0)
-
-slice-aggregate-whole-7 : tie.Need-slice-aggregate-whole-7
-slice-aggregate-whole-7 c = sym (length-replicate {A = ℕ} 10 0)
+slice-aggregate-whole-6 c = sym (length-replicate {A = ℕ} 10 0)
 
 whole-requires : tie.Need-whole-requires
 whole-requires c κs = search needs
@@ -45,6 +41,5 @@ main-spec =
     slice-aggregate-whole-4
     slice-aggregate-whole-5
     slice-aggregate-whole-6
-    slice-aggregate-whole-7
     whole-requires
     returns)

@@ -8,10 +8,10 @@ use Rattle.circle_cases.proofs.run.Statement.{statement}
 use Rattle.circle_cases.proofs.run.Tie as tie
 
 abbrev Inv-loop : tie.InvT-loop
-Inv-loop input₀ text₀ records₀ words₀ buffer₀ graph₀ counts₀ used₀ state₀ place₀ input text records words buffer graph counts used state place = (place ≤ 1048576) × (length input ≡ length input₀) × (length text ≡ length text₀) × (length records ≡ length records₀) × (length words ≡ length words₀) × (length buffer ≡ length buffer₀) × (length graph ≡ length graph₀) × (length counts ≡ length counts₀)
+Inv-loop input₀ text₀ words₀ buffer₀ graph₀ counts₀ used₀ state₀ place₀ input text words buffer graph counts used state place = (place ≤ 1048576) × (length input ≡ length input₀) × (length text ≡ length text₀) × (length words ≡ length words₀) × (length buffer ≡ length buffer₀) × (length graph ≡ length graph₀) × (length counts ≡ length counts₀)
 
 abbrev μ-loop : tie.MeasureT-loop
-μ-loop input₀ text₀ records₀ words₀ buffer₀ graph₀ counts₀ used₀ state₀ place₀ input text records words buffer graph counts used state place = 1048576 - place
+μ-loop input₀ text₀ words₀ buffer₀ graph₀ counts₀ used₀ state₀ place₀ input text words buffer graph counts used state place = 1048576 - place
 
 loop-holds : tie.Need-loop-holds Inv-loop μ-loop
 loop-holds c = search needs
@@ -49,9 +49,6 @@ same-length-5 c = search needs
 same-length-6 : tie.Need-same-length-6 Inv-loop μ-loop
 same-length-6 c = search needs
 
-same-length-7 : tie.Need-same-length-7 Inv-loop μ-loop
-same-length-7 c = search needs
-
 returns : tie.Need-returns Inv-loop μ-loop
 returns c = search needs
 
@@ -63,6 +60,9 @@ loop-less c = search needs
 
 loop-again : tie.Need-loop-again Inv-loop μ-loop
 loop-again c = search needs
+
+same-length-7 : tie.Need-same-length-7 Inv-loop μ-loop
+same-length-7 c = search needs
 
 same-length-8 : tie.Need-same-length-8 Inv-loop μ-loop
 same-length-8 c = search needs
@@ -78,12 +78,6 @@ same-length-11 c = search needs
 
 same-length-12 : tie.Need-same-length-12 Inv-loop μ-loop
 same-length-12 c = search needs
-
-same-length-13 : tie.Need-same-length-13 Inv-loop μ-loop
-same-length-13 c = search needs
-
-same-length-14 : tie.Need-same-length-14 Inv-loop μ-loop
-same-length-14 c = search needs
 
 returns-2 : tie.Need-returns-2 Inv-loop μ-loop
 returns-2 c = search needs
@@ -106,16 +100,14 @@ run-spec =
     same-length-4
     same-length-5
     same-length-6
-    same-length-7
     returns
     add-place
     loop-less
     loop-again
+    same-length-7
     same-length-8
     same-length-9
     same-length-10
     same-length-11
     same-length-12
-    same-length-13
-    same-length-14
     returns-2)

@@ -2,7 +2,6 @@
 -- Assumes nothing.
 use mathlib.Core.Path.{sym}
 use Prim.Native.Nat.{ℕ}
-use mathlib.Core.List.{List, [], _∷_}
 use lib.ListN.{length-replicate}
 use borrow.Author.Needs.{needs}
 use Rattle.fence.proofs.searched.Statement.{statement}
@@ -12,16 +11,13 @@ slice-aggregate-search-into : tie.Need-slice-aggregate-search-into
 slice-aggregate-search-into c = sym (length-replicate {A = ℕ} 4097 0)
 
 slice-aggregate-search-into-2 : tie.Need-slice-aggregate-search-into-2
-slice-aggregate-search-into-2 c = sym (length-replicate {A = List ℕ} 4096 (0 ∷ 0 ∷ 0 ∷ 0 ∷ []))
+slice-aggregate-search-into-2 c = sym (length-replicate {A = ℕ} 163840 0)
 
 slice-aggregate-search-into-3 : tie.Need-slice-aggregate-search-into-3
-slice-aggregate-search-into-3 c = sym (length-replicate {A = ℕ} 163840 0)
+slice-aggregate-search-into-3 c = sym (length-replicate {A = ℕ} 1102097 0)
 
 slice-aggregate-search-into-4 : tie.Need-slice-aggregate-search-into-4
-slice-aggregate-search-into-4 c = sym (length-replicate {A = ℕ} 1102097 0)
-
-slice-aggregate-search-into-5 : tie.Need-slice-aggregate-search-into-5
-slice-aggregate-search-into-5 c = sym (length-replicate {A = ℕ} 32768 0)
+slice-aggregate-search-into-4 c = sym (length-replicate {A = ℕ} 32768 0)
 
 search-into-requires : tie.Need-search-into-requires
 search-into-requires c κs = search needs
@@ -37,6 +33,5 @@ searched-spec =
     slice-aggregate-search-into-2
     slice-aggregate-search-into-3
     slice-aggregate-search-into-4
-    slice-aggregate-search-into-5
     search-into-requires
     returns)

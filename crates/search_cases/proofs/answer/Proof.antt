@@ -10,14 +10,14 @@ number-requires c κs = search needs
 add-from : tie.Need-add-from
 add-from c = search needs
 
-part-search-start : tie.Need-part-search-start
-part-search-start c = search needs
+part-search-alone-start : tie.Need-part-search-alone-start
+part-search-alone-start c = search needs
 
-part-search-end : tie.Need-part-search-end
-part-search-end c = search needs
+part-search-alone-end : tie.Need-part-search-alone-end
+part-search-alone-end c = search needs
 
-search-requires : tie.Need-search-requires
-search-requires c κs = search needs
+search-alone-requires : tie.Need-search-alone-requires
+search-alone-requires c κs = search needs
 
 write-sheet-requires : tie.Need-write-sheet-requires
 write-sheet-requires c κs = search needs
@@ -31,26 +31,20 @@ same-length-2 c = search needs
 same-length-3 : tie.Need-same-length-3
 same-length-3 c = search needs
 
-same-length-4 : tie.Need-same-length-4
-same-length-4 c = search needs
-
 returns : tie.Need-returns
 returns c = search needs
 
 write-line-requires : tie.Need-write-line-requires
 write-line-requires c κs = search needs
 
+same-length-4 : tie.Need-same-length-4
+same-length-4 c = search needs
+
 same-length-5 : tie.Need-same-length-5
 same-length-5 c = search needs
 
 same-length-6 : tie.Need-same-length-6
 same-length-6 c = search needs
-
-same-length-7 : tie.Need-same-length-7
-same-length-7 c = search needs
-
-same-length-8 : tie.Need-same-length-8
-same-length-8 c = search needs
 
 returns-2 : tie.Need-returns-2
 returns-2 c = search needs
@@ -67,20 +61,18 @@ answer-spec =
     (tie.spec
     number-requires
     add-from
-    part-search-start
-    part-search-end
-    search-requires
+    part-search-alone-start
+    part-search-alone-end
+    search-alone-requires
     write-sheet-requires
     same-length
     same-length-2
     same-length-3
-    same-length-4
     returns
     write-line-requires
+    same-length-4
     same-length-5
     same-length-6
-    same-length-7
-    same-length-8
     returns-2
     returns-3
     returns-4)

@@ -7,11 +7,11 @@ use Rattle.search_cases.proofs.run.Statement.{statement}
 use Rattle.search_cases.proofs.run.Tie as tie
 
 abbrev Inv-loop : tie.InvT-loop
-Inv-loop part₀ text₀ records₀ words₀ buffer₀ out₀ used₀ sheets₀ left₀ part text records words buffer out used sheets left =
-    (length part ≡ length part₀) × (length text ≡ length text₀) × (length records ≡ length records₀) × (length words ≡ length words₀) × (length buffer ≡ length buffer₀) × (length out ≡ length out₀)
+Inv-loop part₀ text₀ words₀ buffer₀ out₀ used₀ sheets₀ left₀ part text words buffer out used sheets left =
+    (length part ≡ length part₀) × (length text ≡ length text₀) × (length words ≡ length words₀) × (length buffer ≡ length buffer₀) × (length out ≡ length out₀)
 
 abbrev μ-loop : tie.MeasureT-loop
-μ-loop part₀ text₀ records₀ words₀ buffer₀ out₀ used₀ sheets₀ left₀ part text records words buffer out used sheets left = left
+μ-loop part₀ text₀ words₀ buffer₀ out₀ used₀ sheets₀ left₀ part text words buffer out used sheets left = left
 
 loop-holds : tie.Need-loop-holds Inv-loop μ-loop
 loop-holds c = search needs
@@ -43,9 +43,6 @@ same-length-4 c = search needs
 same-length-5 : tie.Need-same-length-5 Inv-loop μ-loop
 same-length-5 c = search needs
 
-same-length-6 : tie.Need-same-length-6 Inv-loop μ-loop
-same-length-6 c = search needs
-
 returns : tie.Need-returns Inv-loop μ-loop
 returns c = search needs
 
@@ -58,6 +55,9 @@ loop-less c = search needs
 loop-again : tie.Need-loop-again Inv-loop μ-loop
 loop-again c = search needs
 
+same-length-6 : tie.Need-same-length-6 Inv-loop μ-loop
+same-length-6 c = search needs
+
 same-length-7 : tie.Need-same-length-7 Inv-loop μ-loop
 same-length-7 c = search needs
 
@@ -69,12 +69,6 @@ same-length-9 c = search needs
 
 same-length-10 : tie.Need-same-length-10 Inv-loop μ-loop
 same-length-10 c = search needs
-
-same-length-11 : tie.Need-same-length-11 Inv-loop μ-loop
-same-length-11 c = search needs
-
-same-length-12 : tie.Need-same-length-12 Inv-loop μ-loop
-same-length-12 c = search needs
 
 returns-2 : tie.Need-returns-2 Inv-loop μ-loop
 returns-2 c = search needs
@@ -95,15 +89,13 @@ run-spec =
     same-length-3
     same-length-4
     same-length-5
-    same-length-6
     returns
     sub-left
     loop-less
     loop-again
+    same-length-6
     same-length-7
     same-length-8
     same-length-9
     same-length-10
-    same-length-11
-    same-length-12
     returns-2)

@@ -1,90 +1,98 @@
--- `search_grow::note` meets its contract: one law of `Noting` for each way out.
--- Assumes nothing.
-use Prim.Native.Nat.{_+_}
+use Rattle.search_grow.proofs.Noting.{first-word, by-ring, ring-place, ring-records, ring-room, inside-appended, note-impossible, note-spent, note-found, note-over, note-kept}
+use Rattle.search_grow.proofs.Adding.{inside-none, inside-count}
+use Rattle.search_grow.specs.Kept.{state, Noted}
+use Rattle.search_store.specs.Store.{standingIn}
+use Rattle.search_words.specs.declared.Shape.{Shape}
+use mathlib.Core.List.{List}
+use mathlib.Core.Bool.{true}
+use mathlib.Core.Path.{_≡_, refl, sym, _∙_}
 use native.Mathlib.Omega.{arith}
-use mathlib.Core.Path.{refl, sym, _∙_}
-use Rattle.search_grow.specs.Kept.{state}
-use Rattle.search_grow.proofs.Adding.{inside-none, inside-count, room-less}
-use Rattle.search_grow.proofs.Noting.{first-word, inside-appended, note-impossible, note-spent, note-found, note-over, note-kept}
+use Prim.Native.Nat.{ℕ, _+_, _*_, _≤_}
 use borrow.Author.Needs.{needs}
 use Rattle.search_grow.proofs.note.Statement.{statement}
 use Rattle.search_grow.proofs.note.Tie as tie
+
+-- a standing on its way is noted, for every ring claim
+abbrev Notes : ℕ → List ℕ → ℕ → List ℕ → ℕ → List ℕ → ℕ → ℕ → Shape → Type 0
+Notes cap w n w′ m s parent letter k =
+    (left right : List ℕ) (rows : List (List ℕ)) → Noted k left right cap (state rows w n) (state rows w′ m) (standingIn true s) parent letter
 
 element-copy-out-if1 : tie.Need-element-copy-out-if1
 element-copy-out-if1 c = search needs
 
 returns : tie.Need-returns
-returns c =
-    let a = c .before .before .before .args in
-    let s = state (a .records .now) (a .words .now) (a .n) in (
-      inside-none _ _ s (c .before .before .before .pre .counted),
-      λ left right old low. note-impossible (a .k) left right (a .cap) s old (a .parent) (a .letter) _ (first-word _ _ ∙ c .if1 .taken),
-    )
+returns c = let a = c .before .before .before .args in (
+  λ rows. inside-none true (a .cap) (state rows (a .words .now) (a .n)) (c .before .before .before .pre .2),
+  by-ring (Notes (a .cap) (a .words .now) (a .n) (a .words .now) (a .n) (a .s .now) (a .parent) (a .letter))
+      (λ x y z left right rows old low.
+      note-impossible (record { ring = true; right = x; live = y; relations = z }) left right (a .cap) (state rows (a .words .now) (a .n)) old
+      (a .parent) (a .letter) _ (first-word true _ ∙ c .if1 .taken)),
+)
 
 returns-2 : tie.Need-returns-2
-returns-2 c =
-    let a = c .before .before .before .before .args in
-    let s = state (a .records .now) (a .words .now) (a .n) in (
-      inside-none _ _ s (c .before .before .before .before .pre .counted),
-      λ left right old low. note-spent (a .k) left right (a .cap) s old (a .parent) (a .letter) _ (c .if2 .taken),
-    )
+returns-2 c = let a = c .before .before .before .before .args in (
+  λ rows. inside-none true (a .cap) (state rows (a .words .now) (a .n)) (c .before .before .before .before .pre .2),
+  by-ring (Notes (a .cap) (a .words .now) (a .n) (a .words .now) (a .n) (a .s .now) (a .parent) (a .letter))
+      (λ x y z left right rows old low.
+      note-spent (record { ring = true; right = x; live = y; relations = z }) left right (a .cap) (state rows (a .words .now) (a .n)) old
+      (a .parent) (a .letter) _ (c .if2 .taken)),
+)
 
 find-requires : tie.Need-find-requires
-find-requires c κs = room-less _ _ _ _ _ (omega arith) (c .before .before .before .before .before .before .pre .room)
+find-requires c κs = search needs
 
 same-length : tie.Need-same-length
 same-length c = search needs
 
-same-length-2 : tie.Need-same-length-2
-same-length-2 c = search needs
-
 returns-3 : tie.Need-returns-3
-returns-3 c =
-    let a = c .before .before .before .before .before .before .before .before .args in
-    let s = state (a .records .now) (a .words .now) (a .n) in (
-      inside-none _ _ s (c .before .before .before .before .before .before .before .before .pre .counted),
-      λ left right old low. note-found (a .k) left right (a .cap) s old (a .parent) (a .letter) _ (c .before .find .result) (c .before .find .ensures) (c .if3 .taken) (c .before .before .before .before .if2 .left),
+returns-3 c = let a = c .before .before .before .before .before .before .before .args in
+    let f = c .before .find in (
+      λ rows. inside-none true (a .cap) (state rows (a .words .now) (a .n)) (c .before .before .before .before .before .before .before .pre .2),
+      by-ring (Notes (a .cap) (a .words .now) (a .n) (a .words .now) (a .n) (a .s .now) (a .parent) (a .letter))
+          (λ x y z left right rows old low.
+          note-found (record { ring = true; right = x; live = y; relations = z }) left right (a .cap) (state rows (a .words .now) (a .n)) old
+          (a .parent) (a .letter) _ (f .result) (ring-place rows _ _ _ _ (f .ensures)) (c .if3 .taken) (omega arith)),
     )
 
 append-requires : tie.Need-append-requires
-append-requires c κs = room-less _ _ _ _ _ (omega arith) (c .before .before .before .before .before .before .before .before .before .before .before .pre .room)
+append-requires c κs = search needs
 
 add-result : tie.Need-add-result
 add-result c = search needs
 
-same-length-3 : tie.Need-same-length-3
-same-length-3 c = search needs
-
-same-length-4 : tie.Need-same-length-4
-same-length-4 c = search needs
+same-length-2 : tie.Need-same-length-2
+same-length-2 c = search needs
 
 returns-4 : tie.Need-returns-4
-returns-4 c =
-    let a = c .before .before .before .before .before .before .before .before .before .before .before .before .before .before .before .args in
-    let s = state (a .records .now) (a .words .now) (a .n) in (
-      inside-appended _ _ _ _ _ (a .s .now) (a .parent) (a .letter) _ _ (c .before .before .before .append .ensures .0) (c .before .before .before .append .ensures .1) (c .before .before .before .before .before .before .if4 .taken),
-      λ left right old low.
-          note-kept (a .k) left right (a .cap) s old (a .parent) (a .letter) (a .s .now) (c .before .before .before .before .before .before .before .before .find .result)
-          (λ z. c .before .before .before .before .before .before .before .before .before .before .before .before .if1 .left (sym (first-word _ _) ∙ z)) (c .before .before .before .before .before .before .before .before .find .ensures) (c .before .before .before .before .before .before .before .if3 .left) low
-          (room-less _ _ _ _ _ (omega arith) (c .before .before .before .before .before .before .before .before .before .before .before .before .before .before .before .pre .room)) (c .before .before .before .before .before .before .if4 .taken) _ _ (c .before .before .before .append .ensures .0) (c .before .before .before .append .ensures .1),
+returns-4 c = let a = c .before .before .before .before .before .before .before .before .before .before .before .before .args in
+    let f = c .before .before .before .before .before .before .find in
+    let w = c .before .before .append .last .0 in (
+      λ rows.
+          inside-appended true (a .cap) rows (a .words .now) (a .n) (a .s .now) (a .parent) (a .letter) rows w
+          (ring-records rows (a .n) (a .s .now) (a .parent) (a .letter)) (c .before .before .append .ensures) (omega arith),
+      by-ring (Notes (a .cap) (a .words .now) (a .n) w (a .n + 1) (a .s .now) (a .parent) (a .letter))
+          (λ x y z left right rows old low.
+          note-kept (record { ring = true; right = x; live = y; relations = z }) left right (a .cap) (state rows (a .words .now) (a .n)) old
+          (a .parent) (a .letter) (a .s .now) (f .result) (λ e. c .before .before .before .before .before .before .before .before .before .if1 .left (sym (first-word true _) ∙ e)) (ring-place rows _ _ _ _ (f .ensures)) (omega arith) low
+          (ring-room rows (a .words .now) (a .n + 1) (omega arith)) (omega arith) rows w
+          (ring-records rows (a .n) (a .s .now) (a .parent) (a .letter)) (c .before .before .append .ensures)),
     )
 
 add-result-2 : tie.Need-add-result-2
 add-result-2 c = search needs
 
-same-length-5 : tie.Need-same-length-5
-same-length-5 c = search needs
-
-same-length-6 : tie.Need-same-length-6
-same-length-6 c = search needs
+same-length-3 : tie.Need-same-length-3
+same-length-3 c = search needs
 
 returns-5 : tie.Need-returns-5
-returns-5 c =
-    let a = c .before .before .before .before .before .before .before .before .before .args in
-    let s = state (a .records .now) (a .words .now) (a .n) in (
-      inside-count _ _ s (state (a .records .now) (a .words .now) (a .n + 1)) refl refl (omega arith) (omega arith),
-      λ left right old low. note-over (a .k) left right (a .cap) s old (a .parent) (a .letter) (a .s .now) (c .before .before .find .result)
-          (λ z. c .before .before .before .before .before .before .if1 .left (sym (first-word _ _) ∙ z)) (c .before .before .find .ensures) (c .before .if3 .left) (omega arith),
+returns-5 c = let a = c .before .before .before .before .before .before .before .before .args in
+    let f = c .before .before .find in (
+      λ rows.
+          inside-count true (a .cap) (state rows (a .words .now) (a .n)) (state rows (a .words .now) (a .n + 1)) refl refl (omega arith) (omega arith),
+      by-ring (Notes (a .cap) (a .words .now) (a .n) (a .words .now) (a .n + 1) (a .s .now) (a .parent) (a .letter))
+          (λ x y z left right rows old low.
+          note-over (record { ring = true; right = x; live = y; relations = z }) left right (a .cap) (state rows (a .words .now) (a .n)) old
+          (a .parent) (a .letter) (a .s .now) (f .result) (λ e. c .before .before .before .before .before .if1 .left (sym (first-word true _) ∙ e)) (ring-place rows _ _ _ _ (f .ensures)) (omega arith) (omega arith)),
     )
 
 pub note-spec : {M : Type 1} → statement M
@@ -96,14 +104,11 @@ note-spec =
     returns-2
     find-requires
     same-length
-    same-length-2
     returns-3
     append-requires
     add-result
-    same-length-3
-    same-length-4
+    same-length-2
     returns-4
     add-result-2
-    same-length-5
-    same-length-6
+    same-length-3
     returns-5)

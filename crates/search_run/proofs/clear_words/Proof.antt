@@ -6,7 +6,7 @@ use mathlib.Core.Path.{_≡_, refl, _∙_, ap}
 use lib.ListN.{length, length-set}
 use borrow.Author.Needs.{needs}
 use Rattle.claims.specs.Calls.{cleared}
-use Rattle.search_run.proofs.Cleared.{cleared-none, cleared-more}
+use Rattle.search_records.proofs.Cleared.{cleared-none, cleared-more}
 use Rattle.search_run.proofs.clear_words.Statement.{statement}
 use Rattle.search_run.proofs.clear_words.Tie as tie
 

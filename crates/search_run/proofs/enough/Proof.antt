@@ -1,7 +1,7 @@
--- `search_run::enough` meets its contract, by the claim's kind.
--- Assumes nothing.
-use borrow.Author.Needs.{needs}
 use Rattle.search_run.proofs.Rooms.{room-of-ring, room-of-path}
+use lib.Dec.{leb}
+use mathlib.Core.Path.{_∙_, ap}
+use borrow.Author.Needs.{needs}
 use Rattle.search_run.proofs.enough.Statement.{statement}
 use Rattle.search_run.proofs.enough.Tie as tie
 
@@ -9,10 +9,10 @@ mul-result : tie.Need-mul-result
 mul-result c = search needs
 
 returns : tie.Need-returns
-returns c = room-of-ring _ _ _ _ (c .if1 .taken)
+returns c = λ r e. room-of-ring _ _ r _ (c .if1 .taken)
 
 returns-2 : tie.Need-returns-2
-returns-2 c = room-of-path _ _ _ _ (c .if1 .left)
+returns-2 c = λ r e. ap (leb _) e ∙ room-of-path _ _ r _ (c .if1 .left)
 
 pub enough-spec : {M : Type 1} → statement M
 enough-spec = tie.close (tie.spec mul-result returns returns-2)

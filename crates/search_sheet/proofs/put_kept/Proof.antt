@@ -1,17 +1,16 @@
--- `search_sheet::put_kept` meets its contract: the field looks at the words of the standing only, and these are in the memory.
+-- `search_sheet::put_kept` meets its contract: the field looks at the words of the standing only.
 -- Assumes nothing.
 use native.Mathlib.Omega.{arith}
 use mathlib.Core.Path.{sym, _∙_, ap}
 use Rattle.search_fields.specs.Written.{written}
 use Rattle.search_fields.specs.FieldWords.{fieldWords}
 use Rattle.search_fields.proofs.FirstWords.{field-first}
-use Rattle.search_sheet.proofs.Steps.{room-below}
 use borrow.Author.Needs.{needs}
 use Rattle.search_sheet.proofs.put_kept.Statement.{statement}
 use Rattle.search_sheet.proofs.put_kept.Tie as tie
 
-load-requires : tie.Need-load-requires
-load-requires c κs = room-below (omega arith) (c .before .before .before .pre .0)
+stand-requires : tie.Need-stand-requires
+stand-requires c κs = λ e. omega (arith, c .before .before .before .pre .0 e)
 
 put-standing-requires : tie.Need-put-standing-requires
 put-standing-requires c κs = search needs
@@ -23,11 +22,12 @@ returns : tie.Need-returns
 returns c =
     let a = c .before .before .before .before .before .before .before .before .before .args in
     let p = c .before .before .put-standing in
-    let l = c .before .before .before .before .before .load in (
+    let l = c .before .before .before .before .before .stand in (
       p .ensures .0,
-      p .ensures .1
-          ∙ ap (λ bs. written bs (a .out .now)) (sym (field-first (l .last .1 .1 .1 .1 .0) (a .ring)) ∙ ap (fieldWords (a .ring)) (l .ensures)),
+      λ r e.
+          p .ensures .1
+          ∙ ap (λ bs. written bs (a .out .now)) (sym (field-first (l .last .1 .1 .1 .1 .0) (a .ring)) ∙ ap (fieldWords (a .ring)) (l .ensures r e)),
     )
 
 pub put-kept-spec : {M : Type 1} → statement M
-put-kept-spec = tie.close (tie.spec load-requires put-standing-requires same-length returns)
+put-kept-spec = tie.close (tie.spec stand-requires put-standing-requires same-length returns)

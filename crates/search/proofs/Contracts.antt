@@ -1,0 +1,3 @@
+-- The contract of the search call, as a function that calls it takes it.
+pub mod Search
+pub mod SearchAlone

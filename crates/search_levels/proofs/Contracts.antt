@@ -1,0 +1,3 @@
+-- The contracts of the functions over lent records, as a function that calls one takes them.
+pub mod Turn
+pub mod Levels
