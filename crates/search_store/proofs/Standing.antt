@@ -4,11 +4,13 @@ use Prim.Native.Nat.{ℕ, _+_, _*_, _-_, _≤_, _<_}
 use native.Mathlib.Omega.{arith}
 use mathlib.Core.Path.{_≡_, refl, sym, _∙_, ap}
 use mathlib.Core.Bool.{Bool, true, false}
+use mathlib.Core.Logic.{⊎-elim}
 use mathlib.Core.List.{List, [], _∷_}
 use lib.ListN.{length, getD, set, take}
 use Rattle.words.specs.Memory.{words, changed}
 use lib.Seq.{length-take-le, getD-take}
 use Rattle.words.proofs.Words.{words-same, words-at, words-ext, fill-more, changed-length, changed-in, changed-end}
+use Rattle.kat.proofs.Bools.{le-or-lt}
 use Rattle.search_words.specs.Systems.{width}
 use Rattle.search_store.specs.Store.{fieldAt, standingAt, parentAt, letterAt, standingIn, Place, Agree, copied, recordsAfter, wordsAfter}
 
@@ -17,8 +19,13 @@ module _ (at : ℕ → List ℕ) (n : ℕ) (s : List ℕ) where
   pub found-here : (i : ℕ) → i < n → at i ≡ s → Place at n s i
   found-here i h e = record { within = omega arith; found = λ _. e; none = λ z. absurd (omega arith) }
 
-  pub found-none : (i : ℕ) → n ≤ i → ((k : ℕ) → k < i → at k ≡ s → ⊥) → Place at n s n
-  found-none i h f = record { within = omega arith; found = λ z. absurd (omega arith); none = λ _ k l. f k (omega arith) }
+  pub found-none : ((k : ℕ) → 0 ≤ k → k < n → at k ≡ s → ⊥) → Place at n s n
+  found-none f = record { within = omega arith; found = λ z. absurd (omega arith); none = λ _ k l. f k (omega arith) l }
+
+  -- one place further down
+  pub none-below : (i j : ℕ) → i ≡ j + 1 → ((k : ℕ) → i ≤ k → k < n → at k ≡ s → ⊥) → (at j ≡ s → ⊥)
+      → (k : ℕ) → j ≤ k → k < n → at k ≡ s → ⊥
+  none-below i j q f d k a l e = ⊎-elim (λ b. d (ap at (omega arith) ∙ e)) (λ b. f k (omega arith) l e) (le-or-lt k j)
 
 module _ (r : List (List ℕ)) (w : List ℕ) (i : ℕ) (s : List ℕ) where
   -- two words are equal

@@ -34,18 +34,18 @@ fn equal_at(words: &[u64], base: usize, s: &[u64; 40]) -> bool
     true
 }
 
-// A place below n at which this ring standing is kept, or n.
+// A place below n at which this ring standing is kept, or n. From the last one down: an equal standing is most often one of the last.
 pub fn find(words: &[u64], n: usize, s: &[u64; 40]) -> usize
     requires { ⌜ 40 * n ≤ length (now words) ⌝ }
     ensures { λ r.
         ⌜ Place (standingAt true [] (now (words .entry))) n (standingIn true (now (s .entry))) r ⌝ }
 {
-    let mut i = 0;
-    while i < n {
+    let mut i = n;
+    while i > 0 {
+        i -= 1;
         if equal_at(words, STRIDE * i, s) {
             return i;
         }
-        i += 1;
     }
     n
 }
