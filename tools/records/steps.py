@@ -84,12 +84,7 @@ def entries(t):
     s = lists(nm.canon(t)); out = []; k = toks(s); i = 0
     while i < len(k):
         if k[i] == '(':
-            d = 0; j = i
-            while True:
-                if k[j] in ('(', '{'): d += 1
-                elif k[j] in (')', '}'): d -= 1
-                if d == 0: break
-                j += 1
+            j = closing(k, i)
             out.append(T(show(k[i+1:j][2:])).rstrip(', ')); i = j + 1
         else: i += 1
     return out

@@ -13,12 +13,7 @@ def split(t):
         if t[i] == 'λ':
             out.append(t[i:]); break
         if t[i] in ('(', '{'):
-            d = 0; j = i
-            while True:
-                if t[j] in ('(', '{'): d += 1
-                elif t[j] in (')', '}'): d -= 1
-                if d == 0: break
-                j += 1
+            j = closing(t, i)
             if t[i] == '{': out[-1] = out[-1] + t[i:j+1]
             else: out.append(t[i:j+1])
             i = j + 1
@@ -108,6 +103,14 @@ def structs(text):
         text = re.sub(pre + r'Val record \{[^}]*?ty = (?:\(?row )?(\w+)\.the-(?:type|row)[^}]*\} λ M 𝓤 H A W\. record \{[^}]*\}', kind(pre), text)
     return text
 
+def closing(t, i):
+    """where the bracket that opens at i closes, in a text or in tokens"""
+    d = 0
+    for j in range(i, len(t)):
+        if t[j] in ('(', '{'): d += 1
+        elif t[j] in (')', '}'): d -= 1
+        if d == 0: return j
+
 def lists(text):
     """_∷_ a (_∷_ b []) as a ∷ b ∷ []"""
     t = toks(text)
@@ -115,12 +118,7 @@ def lists(text):
         out = []; i = 0
         while i < len(t):
             if t[i] == '(':
-                d = 0; j = i
-                while True:
-                    if t[j] == '(': d += 1
-                    elif t[j] == ')': d -= 1
-                    if d == 0: break
-                    j += 1
+                j = closing(t, i)
                 innr = t[i+1:j]
                 if innr and innr[0] == '_∷_':
                     out += ['('] + flat(innr) + [')']
@@ -138,57 +136,28 @@ def lists(text):
     t = flat(t) if t and t[0] == '_∷_' else conv(t)
     return show(t)
 
-def symbols(text, crate):
-    """the MIR type of a declared struct, spelled out, as its mir"""
-    def f(m):
-        codes = [int(x) for x in re.findall(r'\d+', m.group(1))]
-        name = ''.join(chr(c) for c in codes)
-        if name == '&[]':
-            return m.group(0)
-        return '(' + name.split('::')[-1] + '′.mir)'
-    # tyStruct (n ∷ .. ∷ []) (tcons .. tnil)
+def spelled(text, head, told):
+    """each type that begins with head, told by its name and its text"""
     out = ''; i = 0
     while True:
-        j = text.find('(tyStruct ', i)
-        if j < 0: out += text[i:]; break
-        d = 0; k = j
-        while True:
-            if text[k] == '(': d += 1
-            elif text[k] == ')': d -= 1
-            if d == 0: break
-            k += 1
-        term = text[j:k+1]
-        codes = re.match(r'\(tyStruct \(([\d ∷\[\]]+)\)', term)
-        name = ''.join(chr(int(x)) for x in re.findall(r'\d+', codes.group(1)))
-        if name == '&[]':
-            ptr = re.match(r'\(tyStruct \([^)]*\) \(tcons (.*) \(tcons \(tyInt w64\) tnil\)\)\)$', term).group(1)
-            out += text[i:j] + f'(sliceTy {ptr})'
-        else:
-            out += text[i:j] + name.split('::')[-1] + '′.mir'
-        i = k + 1
-    return out
-
-def enums(text):
-    out = ''; i = 0
-    while True:
-        j = text.find('(tyEnum (', i)
+        j = text.find(f'({head} (', i)
         if j < 0: return out + text[i:]
-        d = 0; k = j
-        while True:
-            if text[k] == '(': d += 1
-            elif text[k] == ')': d -= 1
-            if d == 0: break
-            k += 1
-        codes = re.match(r'\(tyEnum \(([\d ∷\[\]]+)\)', text[j:k+1])
-        name = ''.join(chr(int(x)) for x in re.findall(r'\d+', codes.group(1)))
-        out += text[i:j] + name.split('::')[-1] + '′.mir'
+        k = closing(text, j)
+        codes = re.match(r'\(\w+ \(([\d ∷\[\]]+)\)', text[j:k+1])
+        out += text[i:j] + told(''.join(chr(int(x)) for x in re.findall(r'\d+', codes.group(1))), text[j:k+1])
         i = k + 1
+
+def declared(name, term):
+    """the MIR type of a declared struct or enum, spelled out, as its mir; a slice as sliceTy"""
+    if name == '&[]':
+        return '(sliceTy %s)' % re.match(r'\(tyStruct \([^)]*\) \(tcons (.*) \(tcons \(tyInt w64\) tnil\)\)\)$', term).group(1)
+    return name.split('::')[-1] + '′.mir'
 
 def tidy(text, nm, crate, elem, struct):
     t = nm.canon(text)
     t = lists(t)
-    t = symbols(t, crate)
-    t = enums(t)
+    t = spelled(t, 'tyStruct', declared)
+    t = spelled(t, 'tyEnum', declared)
     t = structs(t)
     t = element(t, elem, struct)
     t = by_value(t, elem, struct)
