@@ -146,6 +146,7 @@ fn add_fields(bytes: &[u8], atoms: usize, relations: usize, listed: &mut [u64; 1
 
 // Reads the graph that the bytes are, of a query with so many atoms and relations. After the number of events `listed` has for each of 16
 // relations the row of each of 64 events, bit y of row x being the edge from x to y, and then the events' atoms; after a wrong field all is zero.
+// No query that the reader accepts has more than 16 relations, which is what is required.
 pub fn read(bytes: &[u8], atoms: usize, relations: usize, listed: &mut [u64; 1088]) -> Reading
     requires { ⌜ relations ≤ 16 ⌝ }
     ensures says { λ r. ⌜ Says (graphIn (record { atoms = atoms; relations = relations }) (now (bytes .entry))) r ⌝ }
