@@ -1,5 +1,6 @@
 // The working memory of a path claim: one record of 32 bytes for each standing, its P, its S, the place of its parent, and its letter.
 // A parent's place is 0 for the empty prefix, and i + 1 for standing i; a letter is 16 * atom + relation. (Document 01, "Standings".)
+// What is required is that as many records were lent as are looked at, which the search call has tested (refusal 9).
 ghost use Prim.Native.Nat.{_≤_};
 ghost use mathlib.Core.Path.{_≡_};
 ghost use mathlib.Core.Bool.{cond};

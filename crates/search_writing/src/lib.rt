@@ -1,6 +1,7 @@
 // A sheet written turn by turn: each turn is given one standing of the memory, a path claim's as its record, and puts its field or its letter.
 // (Document 01, "Sheet and graph bytes".) The length of the sheet is tested before its first byte is written (refusal 11); that of a word
 // is known once the relations of its prefix are counted. The letters are put from the last to the first, since a standing has its parent.
+// What is required of the sheet is how the turn before has left it, and of the standings what the allowance lets through.
 use search_records::Record;
 use search_sheet::proved_length;
 use search_sheet::put_frame;
