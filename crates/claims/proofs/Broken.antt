@@ -15,9 +15,9 @@ use Rattle.kat.specs.Closure.{entry}
 use Rattle.kat.specs.Graph.{Finite, graph}
 use Rattle.kat.proofs.Bools.{bool-cases, true-not-false, and-left, and-right, and-both, not-true-false, false-not-true}
 use Rattle.kat.proofs.Sets.{in-append-right}
-use Rattle.claims.specs.Tree.{Tree, TestTree, Name, Line, testLine, relLine, letLine, neverLine, withinLine, closedLine, assumeEmpty, assumeIrreflexive, claimLine}
-use Rattle.claims.specs.Query.{Query, tests, relations, indexOf, holds}
-use Rattle.claims.specs.Sides.{meant, single}
+use Rattle.notation.specs.Tree.{Tree, TestTree, Name, Line, testLine, relLine, letLine, neverLine, withinLine, closedLine, assumeEmpty, assumeIrreflexive, claimLine}
+use Rattle.notation.specs.Query.{Query, tests, relations, indexOf, holds}
+use Rattle.notation.specs.Sides.{meant, single}
 use Rattle.claims.specs.Judgement.{events, somePair, judged, breaks, firstBroken}
 use Rattle.claims.specs.Meaning.{Related, Meets, MeetsAll}
 use Rattle.claims.proofs.Pairs.{some-event, event-some, pairs-are-related}

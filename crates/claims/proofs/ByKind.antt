@@ -13,22 +13,22 @@ use Rattle.kat.specs.Lists.{member}
 use Rattle.kat.specs.Tables.{occurrences}
 use Rattle.kat.specs.Word.{Word}
 use Rattle.kat.specs.Ring.{Prefix}
-use Rattle.claims.specs.Width.{width, rowLength}
-use Rattle.claims.specs.Sides.{Decision}
-use Rattle.claims.specs.Standings.{pathSystem, ringSystem, systemOf, claimSystem}
-use Rattle.claims.specs.Search.{verdict}
+use Rattle.notation.specs.Width.{width, rowLength}
+use Rattle.notation.specs.Sides.{Decision}
+use Rattle.verdicts.specs.Standings.{pathSystem, ringSystem, systemOf, claimSystem}
+use Rattle.verdicts.specs.Search.{verdict}
 use Rattle.claims.specs.SheetBytes.{contentsLength, pathBytes, ringBytes, standingBytes}
 use Rattle.claims.specs.SheetReading.{standingOf}
 use Rattle.claims.specs.SheetWriting.{AllBytes, MayList}
-use Rattle.claims.specs.Passing.{refuting}
-use Rattle.claims.specs.Verdicts.{StandingOf}
-use Rattle.claims.specs.Words.{Guarded, Refutes}
-use Rattle.claims.specs.Orders.{Rising}
-use Rattle.claims.specs.Lawful.{Lawful}
-use Rattle.claims.specs.Refusals.{Result}
+use Rattle.verdicts.specs.Passing.{refuting}
+use Rattle.verdicts.specs.Verdicts.{StandingOf}
+use Rattle.notation.specs.Words.{Guarded, Refutes}
+use Rattle.verdicts.specs.Orders.{Rising}
+use Rattle.verdicts.specs.Lawful.{Lawful}
+use Rattle.notation.specs.Refusals.{Result}
 use Rattle.claims.specs.Calls.{Given, answerOf, searched}
-use Rattle.claims.proofs.Lawful.{path-sound, path-self, path-lawful, ring-sound, ring-self, ring-lawful}
-use Rattle.claims.proofs.Refuting.{refutes-path, refutes-ring}
+use Rattle.verdicts.proofs.Lawful.{path-sound, path-self, path-lawful, ring-sound, ring-self, ring-lawful}
+use Rattle.verdicts.proofs.Refuting.{refutes-path, refutes-ring}
 use Rattle.claims.proofs.StandingBytes.{pathBytes-length, path-read-back, ringBytes-length, ring-read-back}
 use Rattle.claims.proofs.StandingExactly.{path-exactly}
 use Rattle.claims.proofs.RingExactly.{ring-exactly}

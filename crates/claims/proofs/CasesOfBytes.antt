@@ -7,21 +7,24 @@ use Prim.Native.String.{String}
 use mathlib.Core.Path.{_≡_, refl}
 use mathlib.Core.Bool.{cond}
 use mathlib.Core.List.{List, [], _∷_, _++_, map}
-use lib.ListN.{length, replicate}
+use lib.ListN.{length, replicate, take}
 use Rattle.kat.specs.Lists.{upto}
 use Rattle.kat.specs.Graph.{Finite}
 use Rattle.kat.specs.Word.{Word, end, at, numbers}
-use Rattle.claims.specs.Bytes.{text}
-use Rattle.claims.specs.Refusals.{Result, ok, refused, refuse, spentAllowance, shortBuffer}
-use Rattle.claims.specs.Sides.{Decision}
+use Rattle.notation.specs.Bytes.{text}
+use Rattle.notation.specs.Refusals.{Result, ok, refused, refuse, spentAllowance, shortBuffer}
+use Rattle.notation.specs.Sides.{Decision}
 use Rattle.claims.specs.SheetReading.{Said, saysProved, saysRefuted, Part, partIn}
 use Rattle.claims.specs.Judgement.{Judgement, Outcome, holdsIn, breaksAt, breaksFrom}
 use Rattle.claims.specs.GraphWriting.{joined}
 use Rattle.claims.specs.Drawn.{drawn}
 use Rattle.claims.specs.Calls.{Asked, asked, provedWith, refutedBy, Lent, search-call, Passed, passedProved, passedRefuted, check-call, judge-call}
-use Rattle.claims.specs.Printed.{spaced, refusalLine}
+use Rattle.claims.specs.Printed.{spaced, refusalLine, memoryFor}
 use Rattle.claims.proofs.Evaluate.{everything}
-use Rattle.claims.proofs.Cases.{leaves}
+
+-- what the call of the query program leaves at the start of its buffer, n bytes
+unfoldable pub leaves : ℕ → String → List ℕ
+leaves n q = take n (search-call (text q) 200 (memoryFor 200) .lent .buffer)
 
 -- a sheet or a graph with its query, and the line that is printed
 pub record Sent : Type 0 where

@@ -9,21 +9,21 @@ use mathlib.Core.Logic.{_⊎_, _↔_}
 use mathlib.Core.Logic._⊎_.{inl, inr}
 use mathlib.Core.Bool.{Bool, true, false}
 use mathlib.Core.List.{List}
-use Rattle.claims.specs.Query.{Query}
-use Rattle.claims.specs.Refusals.{Cause, number, graphField, sheetField, doesNotPass, Refusal, Result, ok, refused, refuse, afterwards}
-use Rattle.claims.specs.Reading.{read}
-use Rattle.claims.specs.Sides.{Decision}
+use Rattle.notation.specs.Query.{Query}
+use Rattle.notation.specs.Refusals.{Cause, number, graphField, sheetField, doesNotPass, Refusal, Result, ok, refused, refuse, afterwards}
+use Rattle.notation.specs.Reading.{read}
+use Rattle.notation.specs.Sides.{Decision}
 use Rattle.claims.specs.SheetReading.{Said, saysProved, saysRefuted, sheetIn}
 use Rattle.claims.specs.SheetWriting.{AllBytes, MaySay, partBytes, WrongSheetField}
-use Rattle.claims.specs.Passing.{passes}
+use Rattle.verdicts.specs.Passing.{passes}
 use Rattle.claims.specs.GraphBytes.{Listed, graphIn, finite}
 use Rattle.claims.specs.GraphWriting.{WrongGraphField}
 use Rattle.claims.specs.Judgement.{judgement}
 use Rattle.claims.specs.Calls.{Passed, passedProved, passedRefuted, passedOf, checked, check-call, judge-call}
-use Rattle.claims.specs.RefusalOrder.{Accepted}
+use Rattle.notation.specs.RefusalOrder.{Accepted}
 use Rattle.claims.specs.CallOrder.{sought, WellFormed, CheckRefused, rangesOf, unread, wrong, failed}
-use Rattle.claims.proofs.LineOrder.{ok-not-refused, same-refusal}
-use Rattle.claims.proofs.Precedence.{reading-refusals}
+use Rattle.notation.proofs.LineOrder.{ok-not-refused, same-refusal}
+use Rattle.notation.proofs.Precedence.{reading-refusals}
 use Rattle.claims.proofs.SearchOrder.{asked-refused, asked-accepted, asked-fate}
 use Rattle.claims.proofs.Limits.{WithinLimits, asked-within-limits}
 use Rattle.claims.proofs.SheetExactly.{sheet-written, sheet-reading}

@@ -10,18 +10,18 @@ use Rattle.kat.specs.Lists.{member}
 use Rattle.kat.specs.Word.{Word, end, at}
 use Rattle.kat.proofs.Bools.{and-left, and-right, true-not-false}
 use Rattle.kat.proofs.Sets.{member-in, in-member}
-use Rattle.claims.specs.Sides.{Decision}
-use Rattle.claims.specs.Standings.{System, Letter, claimSystem}
-use Rattle.claims.specs.Refusals.{Refusal, doesNotPass, Result, ok, refused, afterwards}
+use Rattle.notation.specs.Sides.{Decision}
+use Rattle.verdicts.specs.Standings.{System, Letter, claimSystem}
+use Rattle.notation.specs.Refusals.{Refusal, doesNotPass, Result, ok, refused, afterwards}
 use Rattle.claims.specs.SheetReading.{Said, saysProved, saysRefuted, sheetIn}
 use Rattle.claims.specs.SheetWriting.{InRange}
-use Rattle.claims.specs.Passing.{passes, proving, refuting, completes}
-use Rattle.claims.specs.Words.{Guarded, Refutes}
+use Rattle.verdicts.specs.Passing.{passes, proving, refuting, completes}
+use Rattle.notation.specs.Words.{Guarded, Refutes}
 use Rattle.claims.specs.Calls.{passedProved, passedRefuted, passedOf, checked}
-use Rattle.claims.specs.Orders.{Rising}
-use Rattle.claims.specs.Lawful.{Lawful}
+use Rattle.verdicts.specs.Orders.{Rising}
+use Rattle.verdicts.specs.Lawful.{Lawful}
 use Rattle.claims.specs.Sheets.{SaysRefuted}
-use Rattle.claims.proofs.Passing.{passing-proved-refutes-none}
+use Rattle.verdicts.proofs.Passing.{passing-proved-refutes-none}
 use Rattle.claims.proofs.ByKind.{lawful, same-relations, refutes-by-standings}
 use Rattle.claims.proofs.WordBytes.{word-in-range}
 use Rattle.claims.proofs.PartReading.{word-was-read}

@@ -14,27 +14,27 @@ use mathlib.Core.List.{List}
 use lib.ListN.{length}
 use Rattle.kat.specs.Word.{Word}
 use Rattle.kat.proofs.Bools.{bool-cases}
-use Rattle.claims.specs.Query.{Query}
-use Rattle.claims.specs.Sides.{Decision}
-use Rattle.claims.specs.Standings.{System, pathSystem, ringSystem, systemOf}
-use Rattle.claims.specs.Search.{proved, refuted, spent, verdict}
+use Rattle.notation.specs.Query.{Query}
+use Rattle.notation.specs.Sides.{Decision}
+use Rattle.verdicts.specs.Standings.{System, pathSystem, ringSystem, systemOf}
+use Rattle.verdicts.specs.Search.{proved, refuted, spent, verdict}
 use Rattle.claims.specs.SheetBytes.{pathBytes, ringBytes}
-use Rattle.claims.specs.Passing.{refuting}
-use Rattle.claims.specs.Refusals.{spentAllowance, Refusal, Result, ok, refused, refuse}
-use Rattle.claims.specs.Words.{Guarded, Refutes}
-use Rattle.claims.specs.Verdicts.{ProvedBy, RefutedBy, SpentAt, Answered, ExactlyOne}
-use Rattle.claims.specs.Orders.{Rising}
-use Rattle.claims.specs.Lawful.{Lawful}
+use Rattle.verdicts.specs.Passing.{refuting}
+use Rattle.notation.specs.Refusals.{spentAllowance, Refusal, Result, ok, refused, refuse}
+use Rattle.notation.specs.Words.{Guarded, Refutes}
+use Rattle.verdicts.specs.Verdicts.{ProvedBy, RefutedBy, SpentAt, Answered, ExactlyOne}
+use Rattle.verdicts.specs.Orders.{Rising}
+use Rattle.verdicts.specs.Lawful.{Lawful}
 use Rattle.claims.specs.Calls.{Answer, provedWith, refutedBy, Given, answerOf, searched, Asked, asked, Lent, Done, search-call}
-use Rattle.claims.specs.RefusalOrder.{Accepted}
+use Rattle.notation.specs.RefusalOrder.{Accepted}
 use Rattle.claims.specs.CallOrder.{sought, Ready}
 use Rattle.claims.specs.Demands.{MeansProved, MeansRefuted, MeansSpent, AnswerMeans, OneMeaning, FixedByWords, answerAlone}
 use Rattle.claims.specs.Sheets.{sheetLength}
-use Rattle.claims.proofs.LineOrder.{ok-not-refused, same-value}
-use Rattle.claims.proofs.Lawful.{path-lawful, ring-lawful, decision-rising}
+use Rattle.notation.proofs.LineOrder.{ok-not-refused, same-value}
+use Rattle.verdicts.proofs.Lawful.{path-lawful, ring-lawful, decision-rising}
 use Rattle.claims.proofs.Limits.{asked-read}
-use Rattle.claims.proofs.Refuting.{refutes-path, refutes-ring}
-use Rattle.claims.proofs.Verdict.{exactly-one, is-proved, is-refuted, is-spent}
+use Rattle.verdicts.proofs.Refuting.{refutes-path, refutes-ring}
+use Rattle.verdicts.proofs.Verdict.{exactly-one, is-proved, is-refuted, is-spent}
 use Rattle.claims.proofs.SearchOrder.{asked-only-accepted, search-refuses, spent-next, else-answered}
 use Rattle.claims.proofs.SheetLength.{searched-sheet-fits}
 use Rattle.claims.proofs.VerdictsByWords.{proved-by-words, refuted-by-words, spent-at-by-words, answer-by-words, spent-by-words}

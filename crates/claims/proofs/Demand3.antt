@@ -8,7 +8,7 @@ use mathlib.Core.Path.{_≡_}
 use mathlib.Core.List.{List}
 use Rattle.kat.specs.Graph.{Finite, graph}
 use Rattle.kat.specs.Word.{Word}
-use Rattle.claims.specs.Refusals.{ok}
+use Rattle.notation.specs.Refusals.{ok}
 use Rattle.claims.specs.Calls.{Asked, asked, passedProved, passedRefuted, check-call, judge-call}
 use Rattle.claims.specs.Judgement.{holdsIn, Judgement, judgement}
 use Rattle.claims.specs.Judgements.{JudgementIsMeaning}

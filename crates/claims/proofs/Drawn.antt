@@ -5,11 +5,11 @@
 -- Assumes nothing.
 use Rattle.kat.specs.Graph.{graph}
 use Rattle.kat.specs.Word.{Word}
-use Rattle.claims.specs.Tree.{Claim, includes, empty, irreflexive}
-use Rattle.claims.specs.Query.{Query}
-use Rattle.claims.specs.Sides.{decision}
+use Rattle.notation.specs.Tree.{Claim, includes, empty, irreflexive}
+use Rattle.notation.specs.Query.{Query}
+use Rattle.notation.specs.Sides.{decision}
 use Rattle.claims.specs.Meaning.{Execution, MeetsAll, ClaimHolds}
-use Rattle.claims.specs.Words.{Refutes}
+use Rattle.notation.specs.Words.{Refutes}
 use Rattle.claims.specs.Drawn.{drawn}
 use Rattle.claims.proofs.DrawnPath.{drawn-include, drawn-empty}
 use Rattle.claims.proofs.DrawnRing.{drawn-irreflexive}

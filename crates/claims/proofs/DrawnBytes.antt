@@ -14,9 +14,9 @@ use Rattle.kat.specs.Lists.{In, here, there}
 use Rattle.kat.specs.Graph.{Finite, graph}
 use Rattle.kat.specs.Word.{Word, end, at, size}
 use Rattle.kat.proofs.Sets.{in-append}
-use Rattle.claims.specs.Query.{Query, atoms, relations}
-use Rattle.claims.specs.Sides.{Decision}
-use Rattle.claims.specs.Refusals.{ok}
+use Rattle.notation.specs.Query.{Query, atoms, relations}
+use Rattle.notation.specs.Sides.{Decision}
+use Rattle.notation.specs.Refusals.{ok}
 use Rattle.claims.specs.Calls.{Asked, asked, passedRefuted, check-call, judge-call}
 use Rattle.claims.specs.Judgement.{holdsIn, judgement}
 use Rattle.claims.specs.Drawn.{drawn, filled, stepsOf, ringAtoms}

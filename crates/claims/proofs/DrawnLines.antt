@@ -9,9 +9,9 @@ use mathlib.Core.List.{List}
 use Rattle.kat.specs.Lists.{In, here, there}
 use Rattle.kat.specs.Graph.{Finite, Graph, Rel, graph}
 use Rattle.kat.specs.Word.{Word}
-use Rattle.claims.specs.Tree.{Tree, Claim, Line, testLine, relLine, letLine, neverLine, withinLine, closedLine, assumeEmpty, assumeIrreflexive, claimLine}
-use Rattle.claims.specs.Query.{Query, assumedEmpty, assumedIrreflexive}
-use Rattle.claims.specs.Sides.{side, unionAll, a0, a1}
+use Rattle.notation.specs.Tree.{Tree, Claim, Line, testLine, relLine, letLine, neverLine, withinLine, closedLine, assumeEmpty, assumeIrreflexive, claimLine}
+use Rattle.notation.specs.Query.{Query, assumedEmpty, assumedIrreflexive}
+use Rattle.notation.specs.Sides.{side, unionAll, a0, a1}
 use Rattle.claims.specs.Meaning.{Execution, Meets, MeetsAll, ClaimHolds}
 use Rattle.claims.specs.GraphBytes.{finite}
 use Rattle.claims.specs.Drawn.{stepsOf, filled, drawn}

@@ -19,11 +19,11 @@ use Rattle.kat.specs.Tables.{null}
 use Rattle.kat.specs.Walk.{Walk, stay, go, wordOf}
 use Rattle.kat.proofs.Walks.{related-by-words}
 use Rattle.kat.proofs.Words.{atom-is-word}
-use Rattle.claims.specs.Tree.{Tree, includes, empty}
-use Rattle.claims.specs.Query.{Query}
-use Rattle.claims.specs.Sides.{decisionOf, decision, side, a0, a1, zero as zeros, somewhere}
+use Rattle.notation.specs.Tree.{Tree, includes, empty}
+use Rattle.notation.specs.Query.{Query}
+use Rattle.notation.specs.Sides.{decisionOf, decision, side, a0, a1, zero as zeros, somewhere}
 use Rattle.claims.specs.Meaning.{Related}
-use Rattle.claims.specs.Words.{Refutes}
+use Rattle.notation.specs.Words.{Refutes}
 use Rattle.claims.specs.GraphBytes.{finite}
 use Rattle.claims.specs.Drawn.{stepsOf, drawn}
 use Rattle.claims.proofs.Filled.{shut, Plain, related-in-plain}

@@ -23,11 +23,11 @@ use Rattle.kat.specs.Turns.{NonEmpty}
 use Rattle.kat.proofs.Walks.{related-by-words, last-of-walk}
 use Rattle.kat.proofs.Words.{atom-is-word, word-of-body, covered-nothing}
 use Rattle.kat.proofs.Prefixes.{join-assoc, join-cancel, times-front, times-turned, body-join, body-of-letter, start-of-body}
-use Rattle.claims.specs.Tree.{Tree, irreflexive}
-use Rattle.claims.specs.Query.{Query}
-use Rattle.claims.specs.Sides.{decisionOf, decision, side, a0, a1, somewhere}
+use Rattle.notation.specs.Tree.{Tree, irreflexive}
+use Rattle.notation.specs.Query.{Query}
+use Rattle.notation.specs.Sides.{decisionOf, decision, side, a0, a1, somewhere}
 use Rattle.claims.specs.Meaning.{Related}
-use Rattle.claims.specs.Words.{Refutes}
+use Rattle.notation.specs.Words.{Refutes}
 use Rattle.claims.specs.GraphBytes.{finite}
 use Rattle.claims.specs.Drawn.{stepsOf, drawn}
 use Rattle.claims.proofs.Filled.{shut, Plain, related-in-plain}

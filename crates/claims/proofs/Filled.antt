@@ -19,16 +19,16 @@ use Rattle.kat.specs.Graph.{Finite, Graph, Rel, Plus, once, more, graph}
 use Rattle.kat.proofs.Bools.{and-both, bool-cases, not-true-false, true-not-false}
 use Rattle.kat.proofs.Sets.{in-some, filter-in, member-in, in-append-left, in-append-right}
 use Rattle.kat.proofs.Closure.{plus-join, closure-is-plus-of}
-use Rattle.claims.specs.Bytes.{same}
-use Rattle.claims.specs.Tree.{Name, TestTree, Tree, Line, neverLine, withinLine, closedLine}
-use Rattle.claims.specs.Query.{Query, Limit, each, indexOf, tests, relations, nevers, limits, closedNames, closed, holds, atoms, live, removed}
-use Rattle.claims.specs.Expanded.{Expanded, stepOf, plusOf, bounded, standsFor}
-use Rattle.claims.specs.Sides.{exprOf, replaced, side}
+use Rattle.notation.specs.Bytes.{same}
+use Rattle.notation.specs.Tree.{Name, TestTree, Tree, Line, neverLine, withinLine, closedLine}
+use Rattle.notation.specs.Query.{Query, Limit, each, indexOf, tests, relations, nevers, limits, closedNames, closed, holds, atoms, live, removed}
+use Rattle.notation.specs.Expanded.{Expanded, stepOf, plusOf, bounded, standsFor}
+use Rattle.notation.specs.Sides.{exprOf, replaced, side}
 use Rattle.claims.specs.Meaning.{Execution, Meets, Related}
 use Rattle.claims.specs.Drawn.{filled}
 use Rattle.claims.proofs.Limits.{live-below}
 use Rattle.claims.proofs.Lifting.{Passes, meant-lifted}
-use Rattle.claims.proofs.Results.{same-is-equal}
+use Rattle.notation.proofs.Results.{same-is-equal}
 use Rattle.claims.proofs.Replacement.{Between, bounded-means, single-edge, plus-map, side-means-the-same}
 
 pub same-itself : (n : List ℕ) → same n n ≡ true

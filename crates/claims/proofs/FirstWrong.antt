@@ -9,10 +9,10 @@ use mathlib.Core.Path.{_≡_, refl, sym, _∙_, ap, subst}
 use mathlib.Core.Logic.{_↔_, ⊎-elim}
 use mathlib.Core.List.{List, [], _∷_, _++_}
 use Rattle.kat.proofs.Sets.{in-append-left}
-use Rattle.claims.specs.Verdicts.{Distinct}
+use Rattle.verdicts.specs.Verdicts.{Distinct}
 use Rattle.claims.specs.Fields.{FirstWrong}
-use Rattle.claims.specs.Refusals.{Cause, Refusal, Result, ok, refused, refuse}
-use Rattle.claims.proofs.LineOrder.{ok-not-refused, same-refusal}
+use Rattle.notation.specs.Refusals.{Cause, Refusal, Result, ok, refused, refuse}
+use Rattle.notation.proofs.LineOrder.{ok-not-refused, same-refusal}
 
 -- a list that is not empty has a last one
 pub last-apart : {A : Type 0} (x : A) (xs : List A) → (ys : List A) × (y : A) × (x ∷ xs ≡ ys ++ (y ∷ []))

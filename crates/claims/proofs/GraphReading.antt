@@ -18,12 +18,12 @@ use Rattle.kat.specs.Graph.{graph}
 use Rattle.kat.proofs.Bools.{true-not-false, and-left, and-right, and-both, not-true-false}
 use Rattle.kat.proofs.Sets.{some-in, in-some, in-append}
 use Rattle.claims.specs.Fields.{Field, whole, cut, nextField, afterField, provided}
-use Rattle.claims.specs.Refusals.{ok, refuse, graphField}
-use Rattle.claims.specs.Query.{Query, atoms, relations}
+use Rattle.notation.specs.Refusals.{ok, refuse, graphField}
+use Rattle.notation.specs.Query.{Query, atoms, relations}
 use Rattle.claims.specs.Meaning.{Execution}
-use Rattle.claims.specs.Verdicts.{Distinct}
+use Rattle.verdicts.specs.Verdicts.{Distinct}
 use Rattle.claims.specs.GraphBytes.{Edge, Listed, sameEdge, Ranges, withEvent, withEdge, withField, fieldsIn, graphIn, finite}
-use Rattle.claims.proofs.Results.{provided-some}
+use Rattle.claims.proofs.Provided.{provided-some}
 use Rattle.claims.specs.GraphWriting.{WellListed}
 
 -- the test on edges is equality

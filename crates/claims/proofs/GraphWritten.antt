@@ -16,10 +16,10 @@ use Rattle.kat.specs.Lists.{In, here, there, isEmpty, some as someOf}
 use Rattle.kat.proofs.Bools.{and-left, and-right, and-both, true-not-false, false-not-true, false-of-not}
 use Rattle.kat.proofs.Sets.{some-in, in-append-right}
 use Rattle.claims.specs.Fields.{Field, whole, cut, contentsOf, nextField, afterField, provided, field, bigEndian}
-use Rattle.claims.specs.Refusals.{Result, ok, refuse, graphField}
-use Rattle.claims.specs.Verdicts.{Distinct}
+use Rattle.notation.specs.Refusals.{Result, ok, refuse, graphField}
+use Rattle.verdicts.specs.Verdicts.{Distinct}
 use Rattle.claims.specs.GraphBytes.{Edge, Listed, sameEdge, Ranges, withEvent, withEdge, withField, fieldsIn, graphIn}
-use Rattle.claims.proofs.Results.{provided-some}
+use Rattle.claims.proofs.Provided.{provided-some}
 use Rattle.claims.proofs.Bytes.{next-whole}
 use Rattle.claims.proofs.GraphReading.{same-edge, graph-accepted, moreEvent, moreEdge, eventFits, edgeFits}
 use Rattle.claims.specs.GraphWriting.{WellListed, joined, eventField, edgeField, graphBytes, graphFields}

@@ -7,17 +7,17 @@ use mathlib.Core.Path.{_≡_, refl, sym, _∙_, ap, subst}
 use mathlib.Core.List.{List}
 use mathlib.Core.Option.{some}
 use Rattle.kat.specs.Graph.{graph}
-use Rattle.claims.specs.Tree.{Claim, includes, empty, irreflexive}
-use Rattle.claims.specs.Query.{Query, atoms, relations}
-use Rattle.claims.specs.Sides.{Decision, decision}
-use Rattle.claims.specs.Reading.{read, claimOf}
-use Rattle.claims.specs.Refusals.{Result, ok, afterwards}
+use Rattle.notation.specs.Tree.{Claim, includes, empty, irreflexive}
+use Rattle.notation.specs.Query.{Query, atoms, relations}
+use Rattle.notation.specs.Sides.{Decision, decision}
+use Rattle.notation.specs.Reading.{read, claimOf}
+use Rattle.notation.specs.Refusals.{Result, ok, afterwards}
 use Rattle.claims.specs.Meaning.{Execution}
 use Rattle.claims.specs.GraphBytes.{Listed, Ranges, graphIn, finite}
 use Rattle.claims.specs.Judgement.{Judgement, judgement}
 use Rattle.claims.specs.Calls.{Asked, asked, judge-call}
 use Rattle.claims.proofs.Limits.{asked-read}
-use Rattle.claims.proofs.Results.{onward-ok}
+use Rattle.notation.proofs.Results.{onward-ok}
 use Rattle.claims.proofs.Judging.{judgement-is-meaning}
 use Rattle.claims.specs.Judgements.{JudgementIsMeaning}
 use Rattle.claims.proofs.GraphReading.{rangesOf, graph-accepted, accepted-is-execution}

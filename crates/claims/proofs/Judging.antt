@@ -15,8 +15,8 @@ use Rattle.kat.specs.Lists.{upto}
 use Rattle.kat.specs.Closure.{entry}
 use Rattle.kat.specs.Graph.{Finite, Graph, graph}
 use Rattle.kat.proofs.Bools.{bool-cases, true-not-false, and-left, and-right, and-both, not-true-false, false-not-true, false-of-not}
-use Rattle.claims.specs.Tree.{Tree, Claim, includes, empty, irreflexive}
-use Rattle.claims.specs.Query.{Query, relations}
+use Rattle.notation.specs.Tree.{Tree, Claim, includes, empty, irreflexive}
+use Rattle.notation.specs.Query.{Query, relations}
 use Rattle.claims.specs.Judgement.{Outcome, holdsIn, breaksAt, breaksFrom, events, judged, claimed, lowestEvent, lowestPair, judgement}
 use Rattle.claims.specs.Meaning.{ClaimHolds}
 use Rattle.claims.specs.Judgements.{BrokenAt, BrokenFrom, LowestAt, LowestFrom, OutcomeIsMeaning, JudgementIsMeaning}

@@ -15,7 +15,7 @@ use Rattle.kat.specs.Language.{Lang}
 use Rattle.kat.specs.Walk.{Walk, stay, go, wordOf}
 use Rattle.kat.proofs.Closure.{num-path}
 use Rattle.kat.proofs.Walks.{related-by-words}
-use Rattle.claims.specs.Sides.{somewhere}
+use Rattle.notation.specs.Sides.{somewhere}
 use Rattle.claims.proofs.Laid.{rest, rest-alone, LetterAt, Laid}
 
 module _ (G : Graph) where

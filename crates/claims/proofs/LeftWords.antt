@@ -15,11 +15,11 @@ use Rattle.kat.specs.Lists.{In, member}
 use Rattle.kat.specs.Graph.{Finite, Rel, Plus, once, more, graph}
 use Rattle.kat.specs.Word.{Word, end, at, first, last}
 use Rattle.kat.specs.Language.{Leads, places, Lang}
-use Rattle.claims.specs.Tree.{Name, Tree}
-use Rattle.claims.specs.Query.{Query, Limit, each, indexOf, tests, relations, limits, closed, holds, live}
-use Rattle.claims.specs.Expanded.{Expanded, stepOf, plusOf, bounded, standsFor}
-use Rattle.claims.specs.Sides.{Decision, exprOf, replaced, side}
-use Rattle.claims.specs.Words.{Guarded}
+use Rattle.notation.specs.Tree.{Name, Tree}
+use Rattle.notation.specs.Query.{Query, Limit, each, indexOf, tests, relations, limits, closed, holds, live}
+use Rattle.notation.specs.Expanded.{Expanded, stepOf, plusOf, bounded, standsFor}
+use Rattle.notation.specs.Sides.{Decision, exprOf, replaced, side}
+use Rattle.notation.specs.Words.{Guarded}
 use Rattle.claims.proofs.Lifting.{Passes, meant-lifted}
 use Rattle.claims.proofs.Replacement.{Between, bounded-means, single-edge}
 use Rattle.claims.proofs.Filled.{name-at-index, Plain}

@@ -7,10 +7,10 @@ use mathlib.Core.Path.{_≡_, refl, ap, subst}
 use mathlib.Core.Bool.{Bool, true, false}
 use mathlib.Core.List.{List, [], _∷_, _++_}
 use Rattle.kat.specs.Expr.{Expr, test, alt, seq, plus as repeated, none as nowhere}
-use Rattle.claims.specs.Bytes.{same}
-use Rattle.claims.specs.Tree.{Name, Tree, name, tested, union, sequence, star, plus, opt}
-use Rattle.claims.specs.Query.{Query, Bound, each, lookup, bound, boundLets, names, tests, relations, lets, holds}
-use Rattle.claims.specs.Sides.{expand, meant}
+use Rattle.notation.specs.Bytes.{same}
+use Rattle.notation.specs.Tree.{Name, Tree, name, tested, union, sequence, star, plus, opt}
+use Rattle.notation.specs.Query.{Query, Bound, each, lookup, bound, boundLets, names, tests, relations, lets, holds}
+use Rattle.notation.specs.Sides.{expand, meant}
 
 -- what passes from the parts of two expressions to the whole
 pub record Passes (Q : Expr → Expr → Type 0) : Type 0 where

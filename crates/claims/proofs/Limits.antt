@@ -14,20 +14,20 @@ use borrow.Author.Tests.{leb-true, leb-false}
 use Rattle.kat.specs.Lists.{member, upto}
 use Rattle.kat.specs.Tables.{occurrences}
 use Rattle.kat.proofs.Sets.{member-in, filter-in, upto-in}
-use Rattle.claims.specs.Bytes.{RawLine, rawLines}
-use Rattle.claims.specs.Tree.{Claim, includes, empty, irreflexive, Line, testLine, relLine, letLine, neverLine, withinLine, closedLine, assumeEmpty, assumeIrreflexive, claimLine}
-use Rattle.claims.specs.Query.{Query, each, testNames, relationNames, lets, tests, relations, atoms, live}
-use Rattle.claims.specs.Counting.{leftSize, rightSize, rightLimit, withinLimits}
-use Rattle.claims.specs.Reading.{crowded, claimOf, read}
-use Rattle.claims.specs.Refusals.{ok}
-use Rattle.claims.specs.Sides.{Decision, decision}
-use Rattle.claims.specs.Width.{width}
+use Rattle.notation.specs.Bytes.{RawLine, rawLines}
+use Rattle.notation.specs.Tree.{Claim, includes, empty, irreflexive, Line, testLine, relLine, letLine, neverLine, withinLine, closedLine, assumeEmpty, assumeIrreflexive, claimLine}
+use Rattle.notation.specs.Query.{Query, each, testNames, relationNames, lets, tests, relations, atoms, live}
+use Rattle.notation.specs.Counting.{leftSize, rightSize, rightLimit, withinLimits}
+use Rattle.notation.specs.Reading.{crowded, claimOf, read}
+use Rattle.notation.specs.Refusals.{ok}
+use Rattle.notation.specs.Sides.{Decision, decision}
+use Rattle.notation.specs.Width.{width}
 use Rattle.claims.specs.Calls.{Asked, asked}
-use Rattle.claims.specs.RefusalOrder.{Taken, Accepted}
-use Rattle.claims.proofs.Results.{each-append}
-use Rattle.claims.proofs.Precedence.{read-accepts}
+use Rattle.notation.specs.RefusalOrder.{Taken, Accepted}
+use Rattle.notation.proofs.Results.{each-append}
+use Rattle.notation.proofs.Precedence.{read-accepts}
 use Rattle.claims.proofs.SearchOrder.{asked-only-accepted}
-use Rattle.claims.proofs.Counts.{counted-left, counted-right}
+use Rattle.notation.proofs.Counts.{counted-left, counted-right}
 
 -- declarations: 6 tests, 16 relations and 32 lets
 pub record Declared (q : Query) : Type 0 where

@@ -13,16 +13,16 @@ use lib.ListN.{length, getD}
 use Rattle.kat.specs.Lists.{In, here, there, upto, filter}
 use Rattle.kat.specs.Graph.{Finite, graph}
 use Rattle.kat.proofs.Sets.{filter-in, in-filter, in-map, map-in, in-upto, upto-in}
-use Rattle.claims.specs.Tree.{Claim}
-use Rattle.claims.specs.Query.{Query, atoms, relations}
+use Rattle.notation.specs.Tree.{Claim}
+use Rattle.notation.specs.Query.{Query, atoms, relations}
 use Rattle.claims.specs.Meaning.{Execution}
-use Rattle.claims.specs.Verdicts.{Distinct}
-use Rattle.claims.specs.Orders.{Pairwise, Rising}
+use Rattle.verdicts.specs.Verdicts.{Distinct}
+use Rattle.verdicts.specs.Orders.{Pairwise, Rising}
 use Rattle.claims.specs.GraphBytes.{Edge, Listed, finite}
 use Rattle.claims.specs.GraphWriting.{WellListed, edgeOf, edgesOver, isEdge, listedOf}
 use Rattle.claims.specs.Judgement.{Outcome, Judgement, judgement}
 use Rattle.claims.specs.Judgements.{LowestAt, LowestFrom, OutcomeIsMeaning, JudgementIsMeaning}
-use Rattle.claims.proofs.Pairwise.{pairwise-filter, pairwise-map, in-rows, rows-in, pairwise-rows, rising-upto}
+use Rattle.verdicts.proofs.Pairwise.{pairwise-filter, pairwise-map, in-rows, rows-in, pairwise-rows, rising-upto}
 use Rattle.claims.proofs.GraphReading.{rangesOf, edge-is-listed}
 use Rattle.claims.proofs.Judging.{judgement-is-meaning}
 use Rattle.claims.proofs.OneJudgement.{one-judgement}

@@ -12,8 +12,8 @@ use lib.ListN.{length}
 use Rattle.kat.specs.Lists.{In, here, there}
 use Rattle.kat.specs.Graph.{Finite, Graph, graph}
 use Rattle.kat.proofs.Bools.{lt-or-le}
-use Rattle.claims.specs.Tree.{Claim, includes, empty, irreflexive, Line}
-use Rattle.claims.specs.Query.{Query}
+use Rattle.notation.specs.Tree.{Claim, includes, empty, irreflexive, Line}
+use Rattle.notation.specs.Query.{Query}
 use Rattle.claims.specs.Judgement.{Outcome, holdsIn, breaksAt, breaksFrom, Judgement}
 use Rattle.claims.specs.Judgements.{BrokenAt, BrokenFrom, FirstUnmet, LowestAt, LowestFrom, OutcomeIsMeaning, JudgementIsMeaning}
 

@@ -14,15 +14,16 @@ use borrow.Author.Tests.{eqb-true, leb-true}
 use Rattle.kat.specs.Lists.{some as someOf, isEmpty}
 use Rattle.kat.specs.Word.{Word}
 use Rattle.kat.proofs.Bools.{and-left, and-right, true-not-false, not-true-false}
-use Rattle.claims.specs.Bytes.{same}
-use Rattle.claims.specs.Sides.{Decision}
-use Rattle.claims.specs.Standings.{claimSystem}
+use Rattle.notation.specs.Bytes.{same}
+use Rattle.notation.specs.Sides.{Decision}
+use Rattle.verdicts.specs.Standings.{claimSystem}
 use Rattle.claims.specs.Fields.{Field, whole, cut, nextField, afterField, provided}
-use Rattle.claims.specs.Refusals.{sheetField, Result, ok, refused, refuse}
+use Rattle.notation.specs.Refusals.{sheetField, Result, ok, refused, refuse}
 use Rattle.claims.specs.SheetReading.{Said, saysProved, saysRefuted, Part, standingOf, wordOf, tagged, verdictIs, wordIn, standingIn, standingsIn, wordFrom, partFrom, partIn, onlyPart, sheetIn}
 use Rattle.claims.proofs.Bytes.{next-tag}
-use Rattle.claims.proofs.Results.{refused-not-ok, onward-ok, provided-some, same-is-equal}
-use Rattle.claims.proofs.LineOrder.{same-value}
+use Rattle.notation.proofs.Results.{refused-not-ok, onward-ok, same-is-equal}
+use Rattle.claims.proofs.Provided.{provided-some}
+use Rattle.notation.proofs.LineOrder.{same-value}
 
 -- the verdict's field is whole, has tag 1 and says v
 verdict-whole : (v : ℕ) (f : Field) → verdictIs v f ≡ true → f ≡ whole 1 (v ∷ []) (afterField f)

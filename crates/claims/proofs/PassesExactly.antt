@@ -11,15 +11,15 @@ use mathlib.Core.Bool.{true}
 use mathlib.Core.List.{List, []}
 use lib.ListN.{length}
 use Rattle.kat.specs.Word.{Word, numbers}
-use Rattle.claims.specs.Sides.{Decision}
-use Rattle.claims.specs.Standings.{claimSystem}
+use Rattle.notation.specs.Sides.{Decision}
+use Rattle.verdicts.specs.Standings.{claimSystem}
 use Rattle.claims.specs.SheetBytes.{sheetBytes}
 use Rattle.claims.specs.SheetReading.{saysProved, saysRefuted, sheetIn}
 use Rattle.claims.specs.SheetWriting.{AllBytes, InRange, MaySay, refutedSheet, partBytes}
-use Rattle.claims.specs.Passing.{passes, proving}
-use Rattle.claims.specs.Refusals.{ok, afterwards}
+use Rattle.verdicts.specs.Passing.{passes, proving}
+use Rattle.notation.specs.Refusals.{ok, afterwards}
 use Rattle.claims.specs.Calls.{Asked, asked, passedProved, passedRefuted, passedOf, checked, check-call}
-use Rattle.claims.specs.Words.{Refutes}
+use Rattle.notation.specs.Words.{Refutes}
 use Rattle.claims.proofs.ByKind.{same-relations, live-atoms, refutes-by-standings}
 use Rattle.claims.proofs.WordBytes.{guarded-in-range}
 use Rattle.claims.proofs.SheetOfBytes.{numbers-bytes, refuted-bytes}

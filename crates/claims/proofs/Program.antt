@@ -10,11 +10,11 @@ use lib.Dec.{leb}
 use lib.ListN.{length, replicate, length-replicate}
 use borrow.Author.Tests.{leb-true}
 use Rattle.kat.proofs.Bools.{and-left, and-right}
-use Rattle.claims.specs.Width.{width, rowLength, besideColumns, ringWords}
+use Rattle.notation.specs.Width.{width, rowLength, besideColumns, ringWords}
 use Rattle.claims.specs.SheetBytes.{contentsLength}
-use Rattle.claims.specs.Sides.{Decision}
-use Rattle.claims.specs.Standings.{systemOf}
-use Rattle.claims.specs.Refusals.{badAllowance, Result, ok, refused, refuse, afterwards}
+use Rattle.notation.specs.Sides.{Decision}
+use Rattle.verdicts.specs.Standings.{systemOf}
+use Rattle.notation.specs.Refusals.{badAllowance, Result, ok, refused, refuse, afterwards}
 use Rattle.claims.specs.Calls.{provedWith, searched, Asked, asked, Lent, neededRecords, neededWords, searchAsked, search-call}
 use Rattle.claims.specs.CallOrder.{Ready}
 use Rattle.claims.specs.Demands.{FixedByWords, answerAlone}

@@ -13,13 +13,13 @@ use Rattle.kat.specs.Expr.{Expr, test, seq}
 use Rattle.kat.specs.Lists.{In, here, there}
 use Rattle.kat.specs.Graph.{Graph, Rel, Plus, once, more}
 use Rattle.kat.proofs.Sets.{some-in}
-use Rattle.claims.specs.Bytes.{same}
-use Rattle.claims.specs.Tree.{Name, TestTree, Tree, Line, withinLine, closedLine}
-use Rattle.claims.specs.Query.{Query, Limit, each, indexOf, tests, relations, limits, closedNames, closed, holds}
-use Rattle.claims.specs.Expanded.{Expanded, stepOf, testOf, sequenceOf, plusOf, bounded, standsFor}
-use Rattle.claims.specs.Sides.{meant, single, exprOf, replaced, side}
+use Rattle.notation.specs.Bytes.{same}
+use Rattle.notation.specs.Tree.{Name, TestTree, Tree, Line, withinLine, closedLine}
+use Rattle.notation.specs.Query.{Query, Limit, each, indexOf, tests, relations, limits, closedNames, closed, holds}
+use Rattle.notation.specs.Expanded.{Expanded, stepOf, testOf, sequenceOf, plusOf, bounded, standsFor}
+use Rattle.notation.specs.Sides.{meant, single, exprOf, replaced, side}
 use Rattle.claims.specs.Meaning.{Related, Meets}
-use Rattle.claims.proofs.Results.{same-is-equal, each-in}
+use Rattle.notation.proofs.Results.{same-is-equal, each-in}
 use Rattle.claims.proofs.Lifting.{Passes, meant-lifted}
 
 pub limit-line : (n : Name) (l : Line) (b : Limit) → In b (limits n l) → l ≡ withinLine n (b .from) (b .to)

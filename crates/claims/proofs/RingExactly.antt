@@ -17,15 +17,15 @@ use borrow.Author.Tests.{eqb-true, ltb-true, leb-true, le-leb, lt-leb}
 use Rattle.kat.specs.Lists.{In, here, there}
 use Rattle.kat.specs.Tables.{occurrences}
 use Rattle.kat.proofs.Bools.{and-left, and-right}
-use Rattle.claims.specs.Width.{width, rowLength}
-use Rattle.claims.specs.Query.{bit}
-use Rattle.claims.specs.Sides.{Decision}
-use Rattle.claims.specs.Standings.{Ring, row}
+use Rattle.notation.specs.Width.{width, rowLength}
+use Rattle.notation.specs.Query.{bit}
+use Rattle.notation.specs.Sides.{Decision}
+use Rattle.verdicts.specs.Standings.{Ring, row}
 use Rattle.claims.specs.Fields.{bigEndian, fromBytes, setNumber, numberSet}
 use Rattle.claims.specs.SheetBytes.{setBytes, rowBytes, tableBytes, contentsLength, ringBytes}
 use Rattle.claims.specs.SheetReading.{setOf, setFits, rowNumbers, rowsPass, rowOfM, rowOfN, tableOf, ringOf}
 use Rattle.claims.specs.SheetWriting.{AllBytes, RisingWithin, RingShaped}
-use Rattle.claims.proofs.Results.{provided-some}
+use Rattle.claims.proofs.Provided.{provided-some}
 use Rattle.claims.proofs.SetBytes.{picked, filter-rising}
 use Rattle.claims.proofs.StandingBytes.{rowSets, rowSets-behind, partsRing, partsPass, ring-of-parts}
 use Rattle.claims.proofs.StandingExactly.{row-picked, bytes-as-written, set-as-written, set-exactly, even-rising, no-bits, bytes-take, bytes-drop}

@@ -8,9 +8,9 @@ use mathlib.Core.Logic._⊎_.{inl, inr}
 use mathlib.Core.List.{List}
 use Rattle.kat.specs.Expr.{Expr, step, test, alt, seq, plus as repeated}
 use Rattle.kat.specs.Graph.{Graph, Rel}
-use Rattle.claims.specs.Tree.{Claim, includes, empty, irreflexive, Line, testLine, relLine, letLine, neverLine, withinLine, closedLine, assumeEmpty, assumeIrreflexive, claimLine}
-use Rattle.claims.specs.Query.{Query, relations, indexOf}
-use Rattle.claims.specs.Sides.{meant, single}
+use Rattle.notation.specs.Tree.{Claim, includes, empty, irreflexive, Line, testLine, relLine, letLine, neverLine, withinLine, closedLine, assumeEmpty, assumeIrreflexive, claimLine}
+use Rattle.notation.specs.Query.{Query, relations, indexOf}
+use Rattle.notation.specs.Sides.{meant, single}
 use Rattle.claims.specs.Meaning.{Meets, MeetsAll, ClaimHolds}
 use Rattle.claims.specs.Judgements.{BrokenAt, BrokenFrom, FirstUnmet}
 use Rattle.claims.proofs.Replacement.{plus-map}

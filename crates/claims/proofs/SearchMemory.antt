@@ -11,14 +11,14 @@ use mathlib.Core.List.{List, []}
 use lib.ListN.{length, take, drop, replicate, length-append, length-replicate, length-drop}
 use lib.Seq.{take-at, drop-at}
 use Rattle.kat.proofs.Bools.{le-or-lt}
-use Rattle.claims.specs.Query.{Query}
-use Rattle.claims.specs.Refusals.{Cause, number, badAllowance, shortMemory, spentAllowance, shortBuffer, Refusal, Result, ok, refused, refuse}
-use Rattle.claims.specs.Reading.{read}
-use Rattle.claims.specs.Sides.{Decision}
+use Rattle.notation.specs.Query.{Query}
+use Rattle.notation.specs.Refusals.{Cause, number, badAllowance, shortMemory, spentAllowance, shortBuffer, Refusal, Result, ok, refused, refuse}
+use Rattle.notation.specs.Reading.{read}
+use Rattle.notation.specs.Sides.{Decision}
 use Rattle.claims.specs.Calls.{Answer, Given, searched, Lent, neededRecords, neededWords, cleared, leftBehind, Done, search-call}
-use Rattle.claims.proofs.LineOrder.{ok-not-refused, same-refusal}
-use Rattle.claims.proofs.Precedence.{reading-refusals}
-use Rattle.claims.specs.RefusalOrder.{Accepted}
+use Rattle.notation.proofs.LineOrder.{ok-not-refused, same-refusal}
+use Rattle.notation.proofs.Precedence.{reading-refusals}
+use Rattle.notation.specs.RefusalOrder.{Accepted}
 use Rattle.claims.proofs.SearchOrder.{asked-fate, search-refuses, search-reads-first, allowance-next, memory-next, spent-next, buffer-last, else-answered}
 use Rattle.claims.specs.CallOrder.{sought, Ready, zeroSlot, WayOut, unread, out, short, exhausted, unwritten, written}
 

@@ -13,22 +13,22 @@ use lib.Dec.{leb}
 use lib.ListN.{length}
 use borrow.Author.Tests.{le-leb, lt-leb}
 use Rattle.kat.proofs.Bools.{and-both}
-use Rattle.claims.specs.Bytes.{rawLines}
-use Rattle.claims.specs.Tree.{Claim}
-use Rattle.claims.specs.Query.{Query}
-use Rattle.claims.specs.Refusals.{noClaim, badAllowance, shortMemory, spentAllowance, shortBuffer, Refusal, Result, ok, refused, refuse}
-use Rattle.claims.specs.Decisions.{ToDecide, claimAt, lastOf}
-use Rattle.claims.specs.Reading.{read}
-use Rattle.claims.specs.Sides.{Decision, decision}
-use Rattle.claims.specs.Standings.{System, pathSystem, ringSystem}
-use Rattle.claims.specs.Search.{Verdict, proved, refuted, spent, verdict}
+use Rattle.notation.specs.Bytes.{rawLines}
+use Rattle.notation.specs.Tree.{Claim}
+use Rattle.notation.specs.Query.{Query}
+use Rattle.notation.specs.Refusals.{noClaim, badAllowance, shortMemory, spentAllowance, shortBuffer, Refusal, Result, ok, refused, refuse}
+use Rattle.notation.specs.Decisions.{ToDecide, claimAt, lastOf}
+use Rattle.notation.specs.Reading.{read}
+use Rattle.notation.specs.Sides.{Decision, decision}
+use Rattle.verdicts.specs.Standings.{System, pathSystem, ringSystem}
+use Rattle.verdicts.specs.Search.{Verdict, proved, refuted, spent, verdict}
 use Rattle.claims.specs.SheetBytes.{pathBytes, ringBytes}
 use Rattle.claims.specs.Calls.{Given, answerOf, searched, Asked, asked, Lent, neededRecords, neededWords, leftBehind, enoughMemory, finish, searchAsked, search-call}
-use Rattle.claims.proofs.LineOrder.{ok-not-refused, same-value}
-use Rattle.claims.proofs.ClaimLast.{claim-is-last}
-use Rattle.claims.proofs.Decisions.{claim-decided}
-use Rattle.claims.proofs.Precedence.{read-accepts}
-use Rattle.claims.specs.RefusalOrder.{Accepted, EndsWith}
+use Rattle.notation.proofs.LineOrder.{ok-not-refused, same-value}
+use Rattle.notation.proofs.ClaimLast.{claim-is-last}
+use Rattle.notation.proofs.Decisions.{claim-decided}
+use Rattle.notation.proofs.Precedence.{read-accepts}
+use Rattle.notation.specs.RefusalOrder.{Accepted, EndsWith}
 use Rattle.claims.specs.CallOrder.{askedAs, sought, Ready, Short}
 
 -- what the reader refuses is refused so, and what it accepts is asked

@@ -10,7 +10,7 @@ use mathlib.Core.Bool.{Bool, true, false, cond}
 use mathlib.Core.List.{List, [], _∷_}
 use lib.Dec.{eqb}
 use Rattle.kat.specs.Lists.{counted, upto, filter}
-use Rattle.claims.specs.Query.{bit}
+use Rattle.notation.specs.Query.{bit}
 use Rattle.claims.specs.Fields.{setNumber, numberSet}
 pub use Rattle.claims.specs.SheetWriting.{RisingWithin}
 

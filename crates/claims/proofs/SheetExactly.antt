@@ -15,17 +15,17 @@ use Rattle.kat.specs.Lists.{In, here, there, isEmpty}
 use Rattle.kat.specs.Tables.{occurrences}
 use Rattle.kat.specs.Word.{Word, numbers}
 use Rattle.kat.proofs.Sets.{in-append-left, in-append-right}
-use Rattle.claims.specs.Width.{width}
-use Rattle.claims.specs.Sides.{Decision}
-use Rattle.claims.specs.Standings.{claimSystem}
+use Rattle.notation.specs.Width.{width}
+use Rattle.notation.specs.Sides.{Decision}
+use Rattle.verdicts.specs.Standings.{claimSystem}
 use Rattle.claims.specs.Fields.{field, nextField, whole}
-use Rattle.claims.specs.Refusals.{sheetField, ok, refuse, afterwards}
+use Rattle.notation.specs.Refusals.{sheetField, ok, refuse, afterwards}
 use Rattle.claims.specs.SheetBytes.{contentsLength, standingBytes, standingFields}
 use Rattle.claims.specs.SheetReading.{Said, saysProved, saysRefuted, Part, wordOf, tagged, partIn, onlyPart, sheetIn}
 use Rattle.claims.specs.SheetWriting.{AllBytes, MayList, MaySay, partBytes, partFields, IsPart, Ends}
-use Rattle.claims.specs.Verdicts.{Distinct}
-use Rattle.claims.proofs.Results.{refused-not-ok, onward-ok}
-use Rattle.claims.proofs.LineOrder.{same-value}
+use Rattle.verdicts.specs.Verdicts.{Distinct}
+use Rattle.notation.proofs.Results.{refused-not-ok, onward-ok}
+use Rattle.notation.proofs.LineOrder.{same-value}
 use Rattle.claims.proofs.Limits.{WithinLimits}
 use Rattle.claims.proofs.Bytes.{next-whole, field-as-written}
 use Rattle.claims.proofs.WordBytes.{word-read-back, word-in-range, read-numbers}

@@ -10,24 +10,24 @@ use mathlib.Core.Bool.{Bool, true, false}
 use mathlib.Core.List.{List, [], _∷_}
 use lib.ListN.{length, length-append}
 use Rattle.kat.specs.Word.{Word, size, numbers}
-use Rattle.claims.specs.Width.{width, rowLength}
-use Rattle.claims.specs.Sides.{Decision}
-use Rattle.claims.specs.Standings.{System, claimSystem}
-use Rattle.claims.specs.Search.{Verdict, proved, refuted, spent, verdict}
+use Rattle.notation.specs.Width.{width, rowLength}
+use Rattle.notation.specs.Sides.{Decision}
+use Rattle.verdicts.specs.Standings.{System, claimSystem}
+use Rattle.verdicts.specs.Search.{Verdict, proved, refuted, spent, verdict}
 use Rattle.claims.specs.Fields.{field}
 use Rattle.claims.specs.SheetBytes.{contentsLength, standingBytes, standingFields, sheetBytes}
-use Rattle.claims.specs.Refusals.{ok}
-use Rattle.claims.specs.Orders.{Rising}
-use Rattle.claims.specs.Lawful.{Lawful}
+use Rattle.notation.specs.Refusals.{ok}
+use Rattle.verdicts.specs.Orders.{Rising}
+use Rattle.verdicts.specs.Lawful.{Lawful}
 use Rattle.claims.specs.Calls.{Answer, provedWith, refutedBy, Given, answerOf, searched, Lent, Done, leftBehind, search-call}
 use Rattle.claims.specs.CallOrder.{askedAs, sought, WayOut, unread, out, short, exhausted, unwritten, written}
 use Rattle.claims.specs.Sheets.{sheetLength, LeavesOwnSheet}
-use Rattle.claims.proofs.Results.{refused-not-ok}
-use Rattle.claims.proofs.LineOrder.{same-value}
+use Rattle.notation.proofs.Results.{refused-not-ok}
+use Rattle.notation.proofs.LineOrder.{same-value}
 use Rattle.claims.proofs.Bytes.{field-length}
 use Rattle.claims.proofs.WordBytes.{numbers-length}
 use Rattle.claims.proofs.ByKind.{lawful, searched-by-kind, contents-length}
-use Rattle.claims.proofs.Verdict.{proved-is-few, refuted-is-within}
+use Rattle.verdicts.proofs.Verdict.{proved-is-few, refuted-is-within}
 use Rattle.claims.proofs.SearchOrder.{asked-accepted, search-reads-first, allowance-next, memory-next, spent-next, buffer-last, else-answered}
 use Rattle.claims.proofs.SearchMemory.{search-outcomes}
 use Rattle.claims.proofs.Sheets.{no-answer, left-buffer}

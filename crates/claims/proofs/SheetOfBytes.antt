@@ -10,10 +10,10 @@ use lib.ListN.{length}
 use Rattle.kat.specs.Lists.{In, here, there}
 use Rattle.kat.specs.Word.{Word, end, at, numbers}
 use Rattle.kat.proofs.Sets.{in-append}
-use Rattle.claims.specs.Width.{width, rowLength}
-use Rattle.claims.specs.Sides.{Decision}
-use Rattle.claims.specs.Standings.{System, Path, Ring, row}
-use Rattle.claims.specs.Search.{proved, refuted}
+use Rattle.notation.specs.Width.{width, rowLength}
+use Rattle.notation.specs.Sides.{Decision}
+use Rattle.verdicts.specs.Standings.{System, Path, Ring, row}
+use Rattle.verdicts.specs.Search.{proved, refuted}
 use Rattle.claims.specs.Fields.{bigEndian, setNumber, field}
 use Rattle.claims.specs.SheetBytes.{setBytes, rowBytes, tableBytes, pathBytes, ringBytes, standingFields, sheetBytes}
 use Rattle.claims.proofs.Bytes.{bigEndian-small}

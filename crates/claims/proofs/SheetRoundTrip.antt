@@ -15,14 +15,14 @@ use Rattle.kat.specs.Lists.{some as someOf, In, here, there}
 use Rattle.kat.specs.Word.{Word, numbers}
 use Rattle.kat.proofs.Bools.{false-of-not, true-not-false}
 use Rattle.kat.proofs.Sets.{some-in, in-some, in-append, in-append-left, in-append-right}
-use Rattle.claims.specs.Sides.{Decision}
-use Rattle.claims.specs.Standings.{System, claimSystem}
+use Rattle.notation.specs.Sides.{Decision}
+use Rattle.verdicts.specs.Standings.{System, claimSystem}
 use Rattle.claims.specs.Fields.{field, nextField, whole}
 use Rattle.claims.specs.SheetBytes.{standingBytes, standingFields}
 use Rattle.claims.specs.SheetReading.{saysProved, saysRefuted, standingOf, wordOf, tagged, verdictIs, wordIn, standingIn, standingsIn, wordFrom, partFrom, partIn}
 use Rattle.claims.specs.SheetWriting.{partBytes}
-use Rattle.claims.specs.Refusals.{sheetField, ok, refuse}
-use Rattle.claims.specs.Verdicts.{Distinct}
+use Rattle.notation.specs.Refusals.{sheetField, ok, refuse}
+use Rattle.verdicts.specs.Verdicts.{Distinct}
 use Rattle.claims.proofs.Bytes.{field-read-back}
 
 module _ (S : System) where

@@ -10,18 +10,18 @@ use mathlib.Core.List.{List, _++_}
 use lib.ListN.{length, drop}
 use Rattle.kat.specs.Graph.{Graph, graph}
 use Rattle.kat.specs.Word.{Word}
-use Rattle.claims.specs.Sides.{Decision, decision}
-use Rattle.claims.specs.Refusals.{Refusal, Result, ok, refused, afterwards}
+use Rattle.notation.specs.Sides.{Decision, decision}
+use Rattle.notation.specs.Refusals.{Refusal, Result, ok, refused, afterwards}
 use Rattle.claims.specs.Calls.{Answer, Given, searched, Asked, asked, Lent, Done, leftBehind, search-call, passedProved, passedRefuted, checked, check-call}
-use Rattle.claims.specs.Words.{Refutes}
+use Rattle.notation.specs.Words.{Refutes}
 use Rattle.claims.specs.Drawn.{drawn}
 use Rattle.claims.specs.Meaning.{Execution, MeetsAll, ClaimHolds}
-use Rattle.claims.proofs.Results.{refused-not-ok}
+use Rattle.notation.proofs.Results.{refused-not-ok}
 use Rattle.claims.proofs.SearchOrder.{asked-accepted, search-reads-first, allowance-next, memory-next, spent-next, buffer-last, else-answered}
 use Rattle.claims.specs.CallOrder.{askedAs, sought, WayOut, unread, out, short, exhausted, unwritten, written}
 use Rattle.claims.proofs.SearchMemory.{search-outcomes}
-use Rattle.claims.specs.Orders.{Rising}
-use Rattle.claims.proofs.Lawful.{decision-rising}
+use Rattle.verdicts.specs.Orders.{Rising}
+use Rattle.verdicts.proofs.Lawful.{decision-rising}
 use Rattle.claims.proofs.Limits.{asked-within-limits, asked-read}
 use Rattle.claims.proofs.Soundness.{holds-in-every-graph}
 use Rattle.claims.proofs.Drawn.{drawn-is-counterexample}

@@ -25,12 +25,12 @@ use Rattle.kat.proofs.Words.{atom-is-word}
 use Rattle.kat.proofs.Decided.{language-decided}
 use Rattle.kat.proofs.Turns.{join-nothing, start-join}
 use Rattle.kat.proofs.Traces.{Trace, trace-join, trace-of-walk, walk-of-trace, trace-start, trace-times}
-use Rattle.claims.specs.Tree.{TestTree, Tree, Claim, includes, empty, irreflexive, Line, neverLine, withinLine, closedLine, assumeEmpty, assumeIrreflexive}
-use Rattle.claims.specs.Query.{Query, each, tests, relations, holds, atoms, removed, live, nevers, assumedEmpty, assumedIrreflexive}
-use Rattle.claims.specs.Sides.{side, unionAll, a0, a1, zero, somewhere, decision, decisionOf}
-use Rattle.claims.specs.Words.{Guarded, Refutes}
+use Rattle.notation.specs.Tree.{TestTree, Tree, Claim, includes, empty, irreflexive, Line, neverLine, withinLine, closedLine, assumeEmpty, assumeIrreflexive}
+use Rattle.notation.specs.Query.{Query, each, tests, relations, holds, atoms, removed, live, nevers, assumedEmpty, assumedIrreflexive}
+use Rattle.notation.specs.Sides.{side, unionAll, a0, a1, zero, somewhere, decision, decisionOf}
+use Rattle.notation.specs.Words.{Guarded, Refutes}
 use Rattle.claims.specs.Meaning.{Execution, Related, MeetsAll, ClaimHolds}
-use Rattle.claims.proofs.Results.{each-in}
+use Rattle.notation.proofs.Results.{each-in}
 use Rattle.claims.proofs.Replacement.{side-means-the-same}
 
 empty-line : (e : Tree) (l : Line) → In e (assumedEmpty l) → l ≡ assumeEmpty e

@@ -16,9 +16,9 @@ use borrow.Author.Tests.{lt-ltb, le-leb, eq-eqb, leb-false}
 use Rattle.kat.specs.Lists.{In, here, there}
 use Rattle.kat.specs.Tables.{occurrences}
 use Rattle.kat.proofs.Bools.{and-both}
-use Rattle.claims.specs.Width.{width, rowLength}
-use Rattle.claims.specs.Sides.{Decision}
-use Rattle.claims.specs.Standings.{Path, Ring, row}
+use Rattle.notation.specs.Width.{width, rowLength}
+use Rattle.notation.specs.Sides.{Decision}
+use Rattle.verdicts.specs.Standings.{Path, Ring, row}
 use Rattle.claims.specs.Fields.{bigEndian, fromBytes, setNumber, numberSet, provided}
 use Rattle.claims.specs.SheetBytes.{setBytes, rowBytes, tableBytes, contentsLength, pathBytes, ringBytes}
 use Rattle.claims.specs.SheetReading.{setOf, setFits, pathOf, rowNumbers, rowsPass, rowOfM, rowOfN, tableOf, ringOf}

@@ -18,14 +18,14 @@ use Rattle.kat.specs.Lists.{In, here, there}
 use Rattle.kat.specs.Tables.{occurrences}
 use Rattle.kat.proofs.Bools.{and-left, and-right}
 use Rattle.kat.proofs.Sets.{in-append-left, in-append-right}
-use Rattle.claims.specs.Query.{bit}
-use Rattle.claims.specs.Sides.{Decision}
-use Rattle.claims.specs.Standings.{Path}
+use Rattle.notation.specs.Query.{bit}
+use Rattle.notation.specs.Sides.{Decision}
+use Rattle.verdicts.specs.Standings.{Path}
 use Rattle.claims.specs.Fields.{bigEndian, fromBytes, setNumber, numberSet}
 use Rattle.claims.specs.SheetBytes.{setBytes, contentsLength, pathBytes}
 use Rattle.claims.specs.SheetReading.{setOf, setFits, pathOf}
 use Rattle.claims.specs.SheetWriting.{AllBytes, RisingWithin, PathShaped}
-use Rattle.claims.proofs.Results.{provided-some}
+use Rattle.claims.proofs.Provided.{provided-some}
 use Rattle.claims.proofs.SetBytes.{filter-rising, setNumber-double, setNumber-odd, picked, picked-suc, picked-even, picked-rising}
 
 -- the bytes, read on from m, are the digits of the number that they are, and m stands in front of them

@@ -14,9 +14,9 @@ use Rattle.kat.specs.Ring.{Prefix}
 use Rattle.kat.proofs.Bools.{false-of-not}
 use Rattle.kat.proofs.Sets.{map-in, some-none, filter-none, upto-length}
 use Rattle.kat.proofs.Ranges.{reads-range}
-use Rattle.claims.specs.Sides.{Decision}
-use Rattle.claims.specs.Standings.{Letter, Path, pathStep, pathSystem, Ring, row, states, moves, ringBegin, pairs, ringStep, ringSystem}
-use Rattle.claims.specs.Verdicts.{StandingOf, begun, grown}
+use Rattle.notation.specs.Sides.{Decision}
+use Rattle.verdicts.specs.Standings.{Letter, Path, pathStep, pathSystem, Ring, row, states, moves, ringBegin, pairs, ringStep, ringSystem}
+use Rattle.verdicts.specs.Verdicts.{StandingOf, begun, grown}
 use Rattle.claims.specs.SheetWriting.{RisingWithin, PathShaped, RingShaped}
 use Rattle.claims.proofs.SetBytes.{filter-rising}
 

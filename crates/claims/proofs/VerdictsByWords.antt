@@ -10,21 +10,21 @@ use mathlib.Core.List.{List}
 use lib.ListN.{length}
 use Rattle.kat.specs.Word.{Word}
 use Rattle.kat.proofs.Bools.{true-not-false}
-use Rattle.claims.specs.Sides.{Decision}
-use Rattle.claims.specs.Standings.{System, pathSystem, ringSystem, systemOf}
-use Rattle.claims.specs.Search.{Verdict, proved, refuted, spent, verdict}
+use Rattle.notation.specs.Sides.{Decision}
+use Rattle.verdicts.specs.Standings.{System, pathSystem, ringSystem, systemOf}
+use Rattle.verdicts.specs.Search.{Verdict, proved, refuted, spent, verdict}
 use Rattle.claims.specs.SheetBytes.{sheetBytes, pathBytes, ringBytes}
-use Rattle.claims.specs.Passing.{refuting}
-use Rattle.claims.specs.Refusals.{Refusal, Result, ok, refused}
-use Rattle.claims.specs.Words.{Guarded, Refutes}
-use Rattle.claims.specs.Verdicts.{ProvedBy, RefutedBy, SpentAt}
+use Rattle.verdicts.specs.Passing.{refuting}
+use Rattle.notation.specs.Refusals.{Refusal, Result, ok, refused}
+use Rattle.notation.specs.Words.{Guarded, Refutes}
+use Rattle.verdicts.specs.Verdicts.{ProvedBy, RefutedBy, SpentAt}
 use Rattle.claims.specs.Calls.{provedWith, refutedBy, Given, answerOf, searched}
-use Rattle.claims.proofs.Results.{refused-not-ok}
-use Rattle.claims.specs.Orders.{Rising}
-use Rattle.claims.proofs.Lawful.{path-lawful, ring-lawful}
-use Rattle.claims.specs.Lawful.{Lawful}
-use Rattle.claims.proofs.Verdict.{proved-is-proved, refuted-is-least, spent-is-spent}
-use Rattle.claims.proofs.Refuting.{refutes-path, refutes-ring}
+use Rattle.notation.proofs.Results.{refused-not-ok}
+use Rattle.verdicts.specs.Orders.{Rising}
+use Rattle.verdicts.proofs.Lawful.{path-lawful, ring-lawful}
+use Rattle.verdicts.specs.Lawful.{Lawful}
+use Rattle.verdicts.proofs.Verdict.{proved-is-proved, refuted-is-least, spent-is-spent}
+use Rattle.verdicts.proofs.Refuting.{refutes-path, refutes-ring}
 use Rattle.claims.specs.Demands.{MeansProved, MeansRefuted, MeansSpent, AnswerMeans}
 
 -- for any lawful kind of standing whose refuting words are those of the languages

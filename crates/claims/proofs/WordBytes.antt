@@ -13,13 +13,13 @@ use borrow.Author.Tests.{lt-ltb, ltb-true}
 use Rattle.kat.specs.Lists.{member}
 use Rattle.kat.specs.Word.{Word, end, at, size, numbers}
 use Rattle.kat.proofs.Bools.{and-left, and-right}
-use Rattle.claims.specs.Sides.{Decision}
-use Rattle.claims.specs.Standings.{System}
+use Rattle.notation.specs.Sides.{Decision}
+use Rattle.verdicts.specs.Standings.{System}
 use Rattle.claims.specs.Fields.{provided}
 use Rattle.claims.specs.SheetReading.{wordOf}
 use Rattle.claims.specs.SheetWriting.{InRange}
-use Rattle.claims.specs.Words.{Guarded}
-use Rattle.claims.proofs.Results.{provided-some}
+use Rattle.notation.specs.Words.{Guarded}
+use Rattle.claims.proofs.Provided.{provided-some}
 
 pub numbers-length : (w : Word) → length (numbers w) ≡ 2 * size w + 1
 numbers-length (end a) = refl

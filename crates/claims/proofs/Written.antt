@@ -6,20 +6,20 @@ use native.Mathlib.Omega.{arith}
 use mathlib.Core.Path.{_≡_, refl, sym, _∙_, ap, subst}
 use mathlib.Core.List.{List}
 use Rattle.kat.specs.Word.{Word}
-use Rattle.claims.specs.Sides.{Decision}
-use Rattle.claims.specs.Standings.{claimSystem}
-use Rattle.claims.specs.Search.{Verdict, proved, refuted, spent, verdict}
+use Rattle.notation.specs.Sides.{Decision}
+use Rattle.verdicts.specs.Standings.{claimSystem}
+use Rattle.verdicts.specs.Search.{Verdict, proved, refuted, spent, verdict}
 use Rattle.claims.specs.SheetBytes.{standingBytes, sheetBytes}
 use Rattle.claims.specs.SheetReading.{saysProved, saysRefuted}
 use Rattle.claims.specs.SheetWriting.{MaySay}
-use Rattle.claims.specs.Passing.{passes}
-use Rattle.claims.specs.Refusals.{ok, afterwards}
+use Rattle.verdicts.specs.Passing.{passes}
+use Rattle.notation.specs.Refusals.{ok, afterwards}
 use Rattle.claims.specs.Calls.{Given, answerOf, searched, passedOf, checked}
-use Rattle.claims.specs.Orders.{Rising}
+use Rattle.verdicts.specs.Orders.{Rising}
 use Rattle.claims.specs.Sheets.{passedAs}
-use Rattle.claims.proofs.Results.{refused-not-ok}
-use Rattle.claims.proofs.LineOrder.{same-value}
-use Rattle.claims.proofs.Verdict.{proved-is-proved, refuted-is-least, refuted-is-within, search-proved-passes, search-refuted-passes}
+use Rattle.notation.proofs.Results.{refused-not-ok}
+use Rattle.notation.proofs.LineOrder.{same-value}
+use Rattle.verdicts.proofs.Verdict.{proved-is-proved, refuted-is-least, refuted-is-within, search-proved-passes, search-refuted-passes}
 use Rattle.claims.proofs.Limits.{WithinLimits}
 use Rattle.claims.proofs.WordBytes.{numbers-length, guarded-in-range}
 use Rattle.claims.proofs.ByKind.{lawful, same-relations, live-atoms, searched-by-kind, standings-may-list}

@@ -12,10 +12,10 @@ use lib.ListN.{length, length-append}
 use Rattle.kat.specs.Lists.{isEmpty}
 use Rattle.kat.proofs.Sets.{in-append-left}
 use Rattle.claims.specs.Fields.{nextField, afterField}
-use Rattle.claims.specs.Refusals.{graphField, Refusal, Result, ok, refused, refuse}
+use Rattle.notation.specs.Refusals.{graphField, Refusal, Result, ok, refused, refuse}
 use Rattle.claims.specs.GraphBytes.{Edge, Listed, Ranges, withField, fieldsIn, graphIn}
 use Rattle.claims.specs.GraphWriting.{eventField, edgeField, graphBytes, graphFields, WellListed, IsGraph, GoodGraphFields, WrongGraphField}
-use Rattle.claims.proofs.LineOrder.{ok-not-refused, same-refusal}
+use Rattle.notation.proofs.LineOrder.{ok-not-refused, same-refusal}
 use Rattle.claims.proofs.FirstWrong.{last-apart, distinct-front, refused-at}
 use Rattle.claims.proofs.GraphReading.{nothing-accepted, with-field, moreEdge}
 use Rattle.claims.proofs.GraphWritten.{Onward, event-on, edge-on, field-read, graph-read-on, graph-reading}

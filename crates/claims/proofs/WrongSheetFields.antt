@@ -13,15 +13,15 @@ use lib.ListN.{length, length-append}
 use Rattle.kat.specs.Lists.{isEmpty}
 use Rattle.kat.specs.Word.{Word, numbers}
 use Rattle.kat.proofs.Sets.{in-append-left}
-use Rattle.claims.specs.Sides.{Decision}
-use Rattle.claims.specs.Standings.{claimSystem}
+use Rattle.notation.specs.Sides.{Decision}
+use Rattle.verdicts.specs.Standings.{claimSystem}
 use Rattle.claims.specs.Fields.{Field, field, nextField, afterField, FirstWrong}
-use Rattle.claims.specs.Refusals.{sheetField, Refusal, Result, ok, refused, refuse, afterwards}
+use Rattle.notation.specs.Refusals.{sheetField, Refusal, Result, ok, refused, refuse, afterwards}
 use Rattle.claims.specs.SheetBytes.{standingBytes, standingFields}
 use Rattle.claims.specs.SheetReading.{Said, saysProved, saysRefuted, Part, wordIn, wordFrom, standingsIn, partIn, onlyPart, sheetIn}
 use Rattle.claims.specs.SheetWriting.{AllBytes, MaySay, partBytes, partFields, IsSheet, IsPart, Begun, nothing, refutedOnly, saying, begunBytes, begunFields, MayBegin, GoodSheetFields, WrongSheetField, WrongPart}
-use Rattle.claims.proofs.Results.{refused-not-ok}
-use Rattle.claims.proofs.LineOrder.{ok-not-refused, same-refusal}
+use Rattle.notation.proofs.Results.{refused-not-ok}
+use Rattle.notation.proofs.LineOrder.{ok-not-refused, same-refusal}
 use Rattle.claims.proofs.FirstWrong.{last-apart, distinct-front, refused-at}
 use Rattle.claims.proofs.Limits.{WithinLimits}
 use Rattle.claims.proofs.WordBytes.{word-read-back}

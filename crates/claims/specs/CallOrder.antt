@@ -7,16 +7,16 @@ use mathlib.Core.Logic.{_⊎_}
 use mathlib.Core.Bool.{Bool, false}
 use mathlib.Core.List.{List}
 use lib.ListN.{length}
-use Rattle.claims.specs.Tree.{Claim}
-use Rattle.claims.specs.Query.{Query}
-use Rattle.claims.specs.Refusals.{spentAllowance, Refusal, ok, refused, refuse, Cause, sheetField, doesNotPass}
-use Rattle.claims.specs.Reading.{read}
-use Rattle.claims.specs.Sides.{Decision, decision}
+use Rattle.notation.specs.Tree.{Claim}
+use Rattle.notation.specs.Query.{Query}
+use Rattle.notation.specs.Refusals.{spentAllowance, Refusal, ok, refused, refuse, Cause, sheetField, doesNotPass}
+use Rattle.notation.specs.Reading.{read}
+use Rattle.notation.specs.Sides.{Decision, decision}
 use Rattle.claims.specs.Calls.{Given, searched, Asked, Lent, neededRecords, neededWords, Slot}
-use Rattle.claims.specs.RefusalOrder.{Accepted}
+use Rattle.notation.specs.RefusalOrder.{Accepted}
 use Rattle.claims.specs.SheetReading.{Said}
 use Rattle.claims.specs.SheetWriting.{MaySay, partBytes, WrongSheetField}
-use Rattle.claims.specs.Passing.{passes}
+use Rattle.verdicts.specs.Passing.{passes}
 use Rattle.claims.specs.GraphBytes.{Ranges}
 
 -- what a call asks about, for a query with its claim

@@ -9,20 +9,20 @@ use mathlib.Core.Option.{some, none}
 use lib.Dec.{leb}
 use lib.ListN.{length, drop, replicate}
 use Rattle.kat.specs.Word.{Word}
-use Rattle.claims.specs.Query.{Query, atoms, relations}
-use Rattle.claims.specs.Width.{ringWords}
-use Rattle.claims.specs.Tree.{Claim}
-use Rattle.claims.specs.Decisions.{decisions, lastOf}
-use Rattle.claims.specs.Reading.{read}
-use Rattle.claims.specs.Sides.{Decision, decision}
-use Rattle.claims.specs.Standings.{System, pathSystem, ringSystem}
-use Rattle.claims.specs.Search.{Verdict, proved, refuted, spent, verdict}
+use Rattle.notation.specs.Query.{Query, atoms, relations}
+use Rattle.notation.specs.Width.{ringWords}
+use Rattle.notation.specs.Tree.{Claim}
+use Rattle.notation.specs.Decisions.{decisions, lastOf}
+use Rattle.notation.specs.Reading.{read}
+use Rattle.notation.specs.Sides.{Decision, decision}
+use Rattle.verdicts.specs.Standings.{System, pathSystem, ringSystem}
+use Rattle.verdicts.specs.Search.{Verdict, proved, refuted, spent, verdict}
 use Rattle.claims.specs.SheetBytes.{sheetBytes, pathBytes, ringBytes}
 use Rattle.claims.specs.SheetReading.{Said, saysProved, saysRefuted, sheetIn}
-use Rattle.claims.specs.Passing.{passes}
+use Rattle.verdicts.specs.Passing.{passes}
 use Rattle.claims.specs.GraphBytes.{graphIn, finite}
 use Rattle.claims.specs.Judgement.{Judgement, judgement}
-use Rattle.claims.specs.Refusals.{noClaim, badAllowance, shortMemory, spentAllowance, shortBuffer, doesNotPass, Result, ok, refused, refuse, afterwards}
+use Rattle.notation.specs.Refusals.{noClaim, badAllowance, shortMemory, spentAllowance, shortBuffer, doesNotPass, Result, ok, refused, refuse, afterwards}
 
 -- proved with the count of standings, or refuted with the first word ("Refusals with an example each")
 pub data Answer : Type 0 where

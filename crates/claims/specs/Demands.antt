@@ -7,11 +7,11 @@ use mathlib.Core.List.{List}
 use lib.ListN.{length}
 use Rattle.kat.specs.Lists.{In}
 use Rattle.kat.specs.Word.{Word, size, numbers}
-use Rattle.claims.specs.Sides.{Decision}
-use Rattle.claims.specs.Standings.{System}
-use Rattle.claims.specs.Words.{Refutes}
-use Rattle.claims.specs.Verdicts.{Distinct, NotAfter, Holds, AtMost, MoreThan, FreshAt}
-use Rattle.claims.specs.Refusals.{spentAllowance, Result, ok, refused, refuse}
+use Rattle.notation.specs.Sides.{Decision}
+use Rattle.verdicts.specs.Standings.{System}
+use Rattle.notation.specs.Words.{Refutes}
+use Rattle.verdicts.specs.Verdicts.{Distinct, NotAfter, Holds, AtMost, MoreThan, FreshAt}
+use Rattle.notation.specs.Refusals.{spentAllowance, Result, ok, refused, refuse}
 use Rattle.claims.specs.Calls.{Answer, provedWith, refutedBy, Given}
 
 -- proved, with the count c

@@ -10,7 +10,7 @@ use lib.ListN.{length, getD}
 use Rattle.kat.specs.Closure.{entry, closure}
 use Rattle.kat.specs.Graph.{Finite}
 use Rattle.kat.specs.Word.{Word, end, at, size}
-use Rattle.claims.specs.Query.{Query, relations, closed}
+use Rattle.notation.specs.Query.{Query, relations, closed}
 use Rattle.claims.specs.GraphBytes.{Edge, Listed, finite}
 
 -- the atoms of a line of events ("Words")

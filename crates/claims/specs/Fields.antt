@@ -8,7 +8,7 @@ use mathlib.Core.Option.{Option, some, none}
 use lib.Dec.{leb}
 use lib.ListN.{length, take, drop}
 use Rattle.kat.specs.Lists.{upto, filter}
-use Rattle.claims.specs.Query.{bit}
+use Rattle.notation.specs.Query.{bit}
 
 -- a number in n bytes, big-endian ("Sheet and graph bytes")
 unfoldable pub bigEndian : ℕ → ℕ → List ℕ

@@ -10,7 +10,7 @@ use lib.ListN.{length}
 use Rattle.kat.specs.Lists.{some as someOf, isEmpty}
 use Rattle.kat.specs.Graph.{Finite}
 use Rattle.claims.specs.Fields.{Field, whole, cut, nextField, afterField, provided}
-use Rattle.claims.specs.Refusals.{graphField, Result, ok, refuse}
+use Rattle.notation.specs.Refusals.{graphField, Result, ok, refuse}
 
 -- an edge: relation, from, to ("Sheet and graph bytes")
 pub record Edge : Type 0 where

@@ -9,9 +9,9 @@ use lib.ListN.{length}
 use Rattle.kat.specs.Lists.{In, upto, filter}
 use Rattle.kat.specs.Graph.{Finite}
 use Rattle.claims.specs.Fields.{field, FirstWrong}
-use Rattle.claims.specs.Verdicts.{Distinct}
+use Rattle.verdicts.specs.Verdicts.{Distinct}
 use Rattle.claims.specs.GraphBytes.{Edge, Listed, Ranges}
-use Rattle.claims.specs.Query.{atoms, relations}
+use Rattle.notation.specs.Query.{atoms, relations}
 
 -- one after the other, what f makes of each
 abbrev pub joined : {A : Type 0} → (A → List ℕ) → List A → List ℕ

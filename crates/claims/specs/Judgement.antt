@@ -11,9 +11,9 @@ use Rattle.kat.specs.Expr.{Expr, step, test, alt, seq, plus}
 use Rattle.kat.specs.Lists.{upto, some}
 use Rattle.kat.specs.Closure.{Table, table, entry, closure}
 use Rattle.kat.specs.Graph.{Finite}
-use Rattle.claims.specs.Tree.{Tree, Claim, includes, empty, irreflexive, Line, testLine, relLine, letLine, neverLine, withinLine, closedLine, assumeEmpty, assumeIrreflexive, claimLine}
-use Rattle.claims.specs.Query.{Query, tests, relations, indexOf, holds}
-use Rattle.claims.specs.Sides.{meant, single}
+use Rattle.notation.specs.Tree.{Tree, Claim, includes, empty, irreflexive, Line, testLine, relLine, letLine, neverLine, withinLine, closedLine, assumeEmpty, assumeIrreflexive, claimLine}
+use Rattle.notation.specs.Query.{Query, tests, relations, indexOf, holds}
+use Rattle.notation.specs.Sides.{meant, single}
 
 module _ (G : Finite) where
   -- the events of the graph, by number ("Sheet and graph bytes")

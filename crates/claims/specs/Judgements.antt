@@ -8,8 +8,8 @@ use mathlib.Core.List.{List, _∷_, _++_}
 use lib.ListN.{length}
 use Rattle.kat.specs.Lists.{In}
 use Rattle.kat.specs.Graph.{Finite, Graph, graph}
-use Rattle.claims.specs.Tree.{Claim, includes, empty, irreflexive, Line}
-use Rattle.claims.specs.Query.{Query, holds}
+use Rattle.notation.specs.Tree.{Claim, includes, empty, irreflexive, Line}
+use Rattle.notation.specs.Query.{Query, holds}
 use Rattle.claims.specs.Judgement.{Outcome, holdsIn, breaksAt, breaksFrom, Judgement, breaks}
 use Rattle.claims.specs.Meaning.{Related, MeetsAll, ClaimHolds, Meets}
 

@@ -1,38 +1,36 @@
--- "The query": bytes and lines, trees, line kinds with their words, tokens, the grammar, lines.
-pub mod Bytes
-pub mod Tree
-pub mod LineKinds
-pub mod Tokens
-pub mod Grammar
-pub mod Lines
--- "Refusals with an example each": causes and numbers; then names, the query, what a relation stands for, the limits, what is to be decided, and the reading with 1 to 8.
-pub mod Refusals
-pub mod Names
-pub mod Query
-pub mod Width
-pub mod Expanded
-pub mod Counting
-pub mod Decisions
-pub mod Reading
--- "Words": the two sides, refuting words.
-pub mod Sides
-pub mod Words
--- "Standings": path and ring as they are computed, and what their fields say; levels, the verdict.
-pub mod Standings
-pub mod JustRead
-pub mod Search
--- "Sheet and graph bytes": fields, the sheet written, read and passing.
+-- Of `notation`, passed on: "The query", "Refusals with an example each" for 1 to 8, and "Words".
+pub use Rattle.notation.specs.Bytes
+pub use Rattle.notation.specs.Tree
+pub use Rattle.notation.specs.LineKinds
+pub use Rattle.notation.specs.Tokens
+pub use Rattle.notation.specs.Grammar
+pub use Rattle.notation.specs.Lines
+pub use Rattle.notation.specs.Refusals
+pub use Rattle.notation.specs.RefusalLine
+pub use Rattle.notation.specs.Names
+pub use Rattle.notation.specs.Query
+pub use Rattle.notation.specs.Width
+pub use Rattle.notation.specs.Expanded
+pub use Rattle.notation.specs.Counting
+pub use Rattle.notation.specs.Decisions
+pub use Rattle.notation.specs.Reading
+pub use Rattle.notation.specs.Sides
+pub use Rattle.notation.specs.Words
+pub use Rattle.notation.specs.RefusalOrder
+-- Of `verdicts`, passed on: "Standings", what a verdict says, which sheets pass, and which letters may be left out.
+pub use Rattle.verdicts.specs.Standings
+pub use Rattle.verdicts.specs.JustRead
+pub use Rattle.verdicts.specs.Search
+pub use Rattle.verdicts.specs.Passing
+pub use Rattle.verdicts.specs.Thin
+pub use Rattle.verdicts.specs.Alike
+pub use Rattle.verdicts.specs.Verdicts
+pub use Rattle.verdicts.specs.Orders
+pub use Rattle.verdicts.specs.Lawful
+-- "Sheet and graph bytes": fields, the sheet written and read.
 pub mod Fields
 pub mod SheetBytes
 pub mod SheetReading
-pub mod Passing
--- Letters that the search and the check of a sheet may leave out.
-pub mod Thin
-pub mod Alike
--- What a verdict says, the order of words and prefixes, and what every kind of standing keeps to.
-pub mod Verdicts
-pub mod Orders
-pub mod Lawful
 -- What a sheet may say, its bytes, and its first wrong field, in plain words.
 pub mod SheetWriting
 -- Graph bytes, the judgement, the relational meaning, the drawn graph.
@@ -48,6 +46,5 @@ pub mod Printed
 -- What is shown of them: what an answer says, and what a sheet says.
 pub mod Demands
 pub mod Sheets
--- The rules of refusing, in plain words.
-pub mod RefusalOrder
+-- The rules of refusing of the calls, in plain words.
 pub mod CallOrder

@@ -7,9 +7,9 @@ use mathlib.Core.Bool.{true}
 use lib.ListN.{length}
 use Rattle.kat.specs.Lists.{In}
 use Rattle.kat.specs.Graph.{Graph, Rel}
-use Rattle.claims.specs.Tree.{Tree, Claim, includes, empty, irreflexive, Line, testLine, relLine, letLine, neverLine, withinLine, closedLine, assumeEmpty, assumeIrreflexive, claimLine}
-use Rattle.claims.specs.Query.{Query, tests, relations, indexOf, holds, atoms}
-use Rattle.claims.specs.Sides.{meant, single}
+use Rattle.notation.specs.Tree.{Tree, Claim, includes, empty, irreflexive, Line, testLine, relLine, letLine, neverLine, withinLine, closedLine, assumeEmpty, assumeIrreflexive, claimLine}
+use Rattle.notation.specs.Query.{Query, tests, relations, indexOf, holds, atoms}
+use Rattle.notation.specs.Sides.{meant, single}
 
 module _ (G : Graph) (q : Query) where
   -- an execution graph of the query: each event has one of its atoms, each edge is of one of its relations ("Sheet and graph bytes")

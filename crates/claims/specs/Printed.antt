@@ -1,41 +1,23 @@
 -- The line that the query program prints. (Document 01, "The desk's cases".) It uses allowance 200 and memory and a sheet buffer that
 -- suffice for any answer; the allowance is given by the kind of the claim.
 -- Assumes nothing.
-use Prim.Native.Nat.{ℕ, zero, suc, _+_, _*_, _/_, _%_}
+use Prim.Native.Nat.{ℕ, _*_}
 use mathlib.Core.Bool.{Bool, true, false, cond, _&&_}
 use mathlib.Core.List.{List, [], _∷_, _++_}
-use lib.Dec.{leb, ltb}
+use lib.Dec.{leb}
 use lib.ListN.{replicate}
 use Rattle.kat.specs.Word.{numbers}
-use Rattle.claims.specs.Bytes.{text}
-use Rattle.claims.specs.Width.{ringWords}
+use Rattle.notation.specs.Bytes.{text}
+use Rattle.notation.specs.Width.{ringWords}
 use Rattle.claims.specs.Sheets.{sheetLength}
-use Rattle.claims.specs.Refusals.{Refusal, number, Result, ok, refused, refuse, afterwards, badAllowance}
+use Rattle.notation.specs.Refusals.{Result, ok, refused, refuse, afterwards, badAllowance}
+unfoldable pub use Rattle.notation.specs.RefusalLine.{digitsBefore, decimal, spaced, refusalLine}
 use Rattle.claims.specs.Calls.{Answer, provedWith, refutedBy, Given, searched, asked, Lent, search-call}
-
--- a number in decimal digits, before what stands behind it; f bounds the number of digits ("The desk's cases")
-unfoldable pub digitsBefore : ℕ → ℕ → List ℕ → List ℕ
-digitsBefore zero n ds = ds
-digitsBefore (suc f) n ds =
-    elim (ltb n 10) [ true ↦ (48 + n) ∷ ds | false ↦ digitsBefore f (n / 10) ((48 + n % 10) ∷ ds) ]
-
--- a number in decimal digits ("The desk's cases")
-unfoldable pub decimal : ℕ → List ℕ
-decimal n = digitsBefore (suc n) n []
-
--- each number after a space ("The desk's cases")
-unfoldable pub spaced : List ℕ → List ℕ
-spaced [] = []
-spaced (n ∷ ns) = 32 ∷ (decimal n ++ spaced ns)
 
 -- `proved` and the count, or `refuted` and the word ("The desk's cases")
 unfoldable pub answerLine : Answer → List ℕ
 answerLine (provedWith c) = text "proved" ++ spaced (c ∷ [])
 answerLine (refutedBy w) = text "refuted" ++ spaced (numbers w)
-
--- `refusal`, number, `line`, place ("The desk's cases")
-unfoldable pub refusalLine : Refusal → List ℕ
-refusalLine r = text "refusal" ++ (spaced (number (r .cause) ∷ []) ++ (text " line" ++ spaced (r .place ∷ [])))
 
 -- the line of a result, ended by byte 10 ("The desk's cases")
 unfoldable pub lineOf : Result Answer → List ℕ

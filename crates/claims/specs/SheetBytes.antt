@@ -5,10 +5,10 @@ use Prim.Native.Nat.{ℕ, zero, suc, _+_, _*_}
 use mathlib.Core.Bool.{Bool, true, false, cond}
 use mathlib.Core.List.{List, [], _∷_, _++_}
 use Rattle.kat.specs.Word.{numbers}
-use Rattle.claims.specs.Width.{width, rowLength}
-use Rattle.claims.specs.Sides.{Decision}
-use Rattle.claims.specs.Standings.{System, Path, Ring, row, systemOf}
-use Rattle.claims.specs.Search.{Verdict, proved, refuted, spent}
+use Rattle.notation.specs.Width.{width, rowLength}
+use Rattle.notation.specs.Sides.{Decision}
+use Rattle.verdicts.specs.Standings.{System, Path, Ring, row, systemOf}
+use Rattle.verdicts.specs.Search.{Verdict, proved, refuted, spent}
 use Rattle.claims.specs.Fields.{bigEndian, setNumber, field}
 
 -- a set in 8 bytes, bit k - 1 for occurrence k ("Sheet and graph bytes")

@@ -11,13 +11,14 @@ use lib.ListN.{length, take, drop, getD}
 use Rattle.kat.specs.Lists.{some as someOf, isEmpty}
 use Rattle.kat.specs.Tables.{occurrences}
 use Rattle.kat.specs.Word.{Word, end, at}
-use Rattle.claims.specs.Bytes.{same}
-use Rattle.claims.specs.Sides.{Decision}
-use Rattle.claims.specs.Standings.{Path, Ring, systemOf, claimSystem}
+use Rattle.notation.specs.Bytes.{same}
+use Rattle.notation.specs.Sides.{Decision}
+use Rattle.verdicts.specs.Standings.{Path, Ring, systemOf, claimSystem}
+pub use Rattle.verdicts.specs.Passing.{Said, saysProved, saysRefuted}
 use Rattle.claims.specs.Fields.{Field, whole, cut, nextField, afterField, provided, fromBytes, numberSet}
-use Rattle.claims.specs.Width.{width, rowLength}
+use Rattle.notation.specs.Width.{width, rowLength}
 use Rattle.claims.specs.SheetBytes.{contentsLength}
-use Rattle.claims.specs.Refusals.{sheetField, Result, ok, refuse, afterwards}
+use Rattle.notation.specs.Refusals.{sheetField, Result, ok, refuse, afterwards}
 
 -- a set of 8 bytes over n occurrences ("Sheet and graph bytes")
 unfoldable pub setOf : ℕ → List ℕ → List ℕ
@@ -81,11 +82,6 @@ wordOf D (a ∷ r ∷ ns) =
 abbrev pub standingOf : (ring : Bool) (D : Decision) → List ℕ → Option (systemOf ring D .Standing)
 standingOf false D = pathOf D
 standingOf true D = ringOf D
-
--- what a part of a sheet says: proved with the standings listed, or refuted with a word ("Sheet and graph bytes")
-pub data Said (D : Decision) : Type 0 where
-  saysProved : List (claimSystem D .Standing) → Said D
-  saysRefuted : Word → Said D
 
 -- a part that was read: what it says, the number of the next field, and the bytes from there on ("Sheet and graph bytes")
 pub record Part (D : Decision) : Type 0 where

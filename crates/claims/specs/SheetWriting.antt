@@ -9,12 +9,12 @@ use lib.ListN.{length}
 use Rattle.kat.specs.Lists.{In}
 use Rattle.kat.specs.Tables.{occurrences}
 use Rattle.kat.specs.Word.{Word, end, at, numbers}
-use Rattle.claims.specs.Sides.{Decision}
-use Rattle.claims.specs.Standings.{Path, Ring, row, systemOf, claimSystem}
+use Rattle.notation.specs.Sides.{Decision}
+use Rattle.verdicts.specs.Standings.{Path, Ring, row, systemOf, claimSystem}
 use Rattle.claims.specs.Fields.{field, FirstWrong}
 use Rattle.claims.specs.SheetBytes.{standingBytes, standingFields}
 use Rattle.claims.specs.SheetReading.{Said, saysProved, saysRefuted, tagged}
-use Rattle.claims.specs.Verdicts.{Distinct}
+use Rattle.verdicts.specs.Verdicts.{Distinct}
 
 -- each number of the list is a byte ("Sheet and graph bytes")
 abbrev pub AllBytes : List ℕ → Type 0

@@ -7,10 +7,10 @@ use mathlib.Core.Bool.{Bool}
 use mathlib.Core.List.{List, _++_}
 use lib.ListN.{length, drop}
 use Rattle.kat.specs.Word.{Word, size}
-use Rattle.claims.specs.Sides.{Decision}
+use Rattle.notation.specs.Sides.{Decision}
 use Rattle.claims.specs.SheetBytes.{contentsLength}
 use Rattle.claims.specs.SheetReading.{saysRefuted, sheetIn}
-use Rattle.claims.specs.Refusals.{ok}
+use Rattle.notation.specs.Refusals.{ok}
 use Rattle.claims.specs.Calls.{Answer, provedWith, refutedBy, searched, Asked, asked, Passed, passedProved, passedRefuted}
 
 -- what the sheet of an answer says

@@ -15,7 +15,7 @@ use Rattle.claims.specs.SheetReading.{wordOf, saysRefuted}
 use Rattle.claims.specs.SheetWriting.{RisingWithin}
 use Rattle.claims.specs.Sides.{Decision}
 use Rattle.claims.specs.Standings.{claimSystem}
-use Rattle.claims.proofs.Results.{provided-some}
+use Rattle.claims.proofs.Provided.{provided-some}
 use Rattle.claims.proofs.WordBytes.{word-in-range}
 use Rattle.side_turned.specs.SideTable.{sideTable}
 use Rattle.standings.proofs.LettersOf.{LettersOf}

@@ -1,0 +1,33 @@
+-- The cases.
+pub mod Evaluate
+pub mod CasesOfVerdicts
+-- Standings of prefixes, and refuting words.
+pub mod Rows
+pub mod PathStandings
+pub mod RingStandings
+pub mod JustRead
+pub mod RingCovered
+pub mod Refuting
+-- The search.
+pub mod Pairwise
+pub mod Distinct
+pub mod Lawful
+pub mod Letters
+pub mod Passing
+pub mod Order
+pub mod Prefixes
+pub mod Fresh
+pub mod Candidates
+pub mod Levels
+pub mod Ordered
+pub mod Answers
+pub mod Walk
+pub mod MoreLevels
+pub mod Plain
+pub mod Verdict
+-- Letters that the search and the check of a sheet may leave out.
+pub mod Thinned
+pub mod ThinVerdict
+pub mod Alike
+pub mod AlikePath
+pub mod AlikeRing
