@@ -1,2 +1,0 @@
--- The line that a judgement names.
-pub mod BrokenLine

@@ -1,8 +1,5 @@
 // Small graphs for a query, made by arithmetic alone, so that another program can make the same ones. (vectors/README.md, "The circle")
 // Which line a judgement names is said by a definition, and for the rest only that it is safe and ends: the cases compare it.
-use graph::Judged;
-ghost use mathlib.Core.Path.{_≡_};
-ghost use Rattle.circle_graphs.specs.BrokenLine.{brokenLine};
 
 // How many names the lines that begin with this word declare.
 pub fn declared(text: &[u8], word: &[u8]) -> usize {
@@ -33,18 +30,6 @@ fn is_closed(text: &[u8], relation: usize) -> bool {
     false
 }
 
-// The first line that the graph breaks; one that is refused counts as breaking line 4,097.
-pub fn broken_line(j: Judged) -> usize
-    ensures { λ r. ⌜ r ≡ brokenLine j ⌝ }
-{
-    match j {
-        Judged::Holds(line) => line,
-        Judged::BreaksAt(line, _event) => line,
-        Judged::BreaksFrom(line, _from, _to) => line,
-        Judged::Refused(_why, _place) => 4097,
-    }
-}
-
 // A graph that was made: how many bytes it has, whether it has edges, and the number that goes on.
 pub struct Made {
     pub bytes: usize,
@@ -68,7 +53,7 @@ fn meets(
     graph: &mut [u8],
 ) -> bool {
     let n = small_graphs::write(atoms, count, edges, relations, graph);
-    broken_line(graph::judge(text, texts::first(graph, n))) == 0
+    broken_lines::broken_line(graph::judge(text, texts::first(graph, n))) == 0
 }
 
 // How many atoms there are for so many tests, of which a query has at most 6.

@@ -3,39 +3,7 @@
 // of the rest it is proved only that it is safe and stays within the memory, and the cases compare it. Texts are put at a place within the
 // memory, which is required: the place after the piece before it.
 ghost use Prim.Native.Nat.{_<_, _≤_};
-ghost use mathlib.Core.Path.{_≡_};
 ghost use lib.ListN.{length};
-ghost use Rattle.print_line.specs.Puts.{Puts};
-ghost use Rattle.dot.specs.DotText.{opening, isStep};
-
-// The first lines.
-fn put_opening(out: &mut [u8]) -> usize
-    ensures { λ r. ⌜ Puts (now (out .entry)) 0 opening r (now (out .exit)) ⌝ }
-{
-    print_line::put_text(
-        out,
-        0,
-        b"digraph counterexample {\n  rankdir=LR;\n  node [shape=box];\n",
-    )
-}
-
-// Whether the edge of relation r from an event to another is a step of the word, in a graph of so many events: the step that begins at the
-// event, to the next one, or from the last to the first.
-fn is_step(word: &[u8], count: usize, r: u8, from: u8, to: u8) -> bool
-    ensures { λ x. ⌜ x ≡ isStep (now (word .entry)) count r from to ⌝ }
-{
-    let i = 2 * (from as usize) + 1;
-    if word.len() <= i {
-        return false;
-    }
-    if word[i] != r {
-        return false;
-    }
-    if from as usize + 1 == count {
-        return to == 0;
-    }
-    to as usize == from as usize + 1
-}
 
 // The name of test i behind a space, where it holds.
 fn put_test(out: &mut [u8], at: usize, text: &[u8], i: usize, holds: bool) -> usize
@@ -148,7 +116,7 @@ fn put_field(
     let r = graph[at + 3];
     let from = graph[at + 4];
     let target = graph[at + 5];
-    let solid = is_step(word, count, r, from, target);
+    let solid = dot_steps::is_step(word, count, r, from, target);
     put_edge(out, to, text, solid, r, from, target)
 }
 
@@ -173,7 +141,7 @@ pub fn dot(text: &[u8], word: &[u8], graph: &[u8], out: &mut [u8]) -> usize
     ensures { λ r. ⌜ r ≤ length (now (out .exit)) ⌝ }
 {
     let count = events(graph);
-    let mut to = put_opening(out);
+    let mut to = dot_steps::put_opening(out);
     let mut at = 0;
     while at < graph.len() {
         to = put_field(out, to, text, word, count, graph, at);

@@ -2,5 +2,3 @@
 pub mod Sizes
 pub mod ThirdDemand
 pub mod Confirmed
--- The contract of the call.
-pub mod Contracts

@@ -1,17 +1,14 @@
-// Evidence for every answer: the search, and the check of the sheet that it wrote. (Document 01, "Sheet and graph bytes".) The two calls share
-// only the reading of the query; `specs/ThirdDemand.antt` says what they owe together.
+// Evidence for every answer: the sheet that an answer left in the buffer, and the outcome that a check of it keeps. (Document 01, "Sheet and
+// graph bytes".) The search and the check share only the reading of the query; `specs/ThirdDemand.antt` says what they owe together.
 use refusals::Reason;
-use search_records::Record;
-use search_run::Outcome;
+use search_report::Outcome;
 use sheet::Checked;
 use words::least;
 ghost use Prim.Native.Nat.{_+_, _*_, _<_};
 ghost use mathlib.Core.Path.{_≡_};
 ghost use lib.ListN.{getD, take};
-ghost use Rattle.claims.specs.Calls.{search-call, check-call};
-ghost use Rattle.search_run.specs.Outcomes.{lentOf, Gives};
 ghost use Rattle.evidence.specs.Sizes.{atMost, answerSize};
-ghost use Rattle.evidence.specs.inner.Kept.{keptProved, keptRefuted, kept as keptBy};
+ghost use Rattle.evidence.specs.inner.Kept.{keptProved, keptRefuted};
 
 // The byte at a place as a number, 0 past the end.
 fn byte(bytes: &[u8], at: usize) -> usize
@@ -60,7 +57,7 @@ pub fn sheet_of(r: Outcome, buffer: &[u8]) -> &[u8]
 }
 
 // Proved, if the check says so.
-fn kept_proved(n: usize, c: Checked) -> Outcome
+pub fn kept_proved(n: usize, c: Checked) -> Outcome
     ensures { λ o. ⌜ o ≡ keptProved n c ⌝ }
 {
     match c {
@@ -71,7 +68,7 @@ fn kept_proved(n: usize, c: Checked) -> Outcome
 }
 
 // Refuted, if the check says so.
-fn kept_refuted(n: usize, c: Checked) -> Outcome
+pub fn kept_refuted(n: usize, c: Checked) -> Outcome
     ensures { λ o. ⌜ o ≡ keptRefuted n c ⌝ }
 {
     match c {
@@ -79,33 +76,4 @@ fn kept_refuted(n: usize, c: Checked) -> Outcome
         Checked::Refuted => Outcome::Refuted(n),
         Checked::Refused(why, place) => Outcome::Refused(Reason::DoesNotPass, 0),
     }
-}
-
-// The outcome, if the check says the same of the sheet.
-fn kept(r: Outcome, text: &[u8], sheet: &[u8]) -> Outcome
-    ensures { λ o. ⌜ o ≡ keptBy r (check-call (now (text .entry)) (now (sheet .entry))) ⌝ }
-{
-    match r {
-        Outcome::Proved(n) => kept_proved(n, sheet::check(text, sheet)),
-        Outcome::Refuted(n) => kept_refuted(n, sheet::check(text, sheet)),
-        Outcome::Refused(why, place) => Outcome::Refused(why, place),
-    }
-}
-
-// The search, whose every answer is handed on only after the check of its sheet has said the same. That the outcome is nevertheless that of the
-// search, for every text, allowance and lent memory, is the end of the third demand: the check never fails a sheet that the search wrote.
-pub fn search_and_check(
-    text: &[u8],
-    allowance: usize,
-    records: &mut [Record],
-    words: &mut [u64],
-    buffer: &mut [u8],
-) -> Outcome
-    ensures { λ r.
-        ⌜ Gives (search-call (now (text .entry)) allowance (lentOf (now (records .entry)) (now (words .entry)) (now (buffer .entry)))) r
-        (lentOf (now (records .exit)) (now (words .exit)) (now (buffer .exit))) ⌝ }
-{
-    let r = search::search(text, allowance, records, words, buffer);
-    let sheet = sheet_of(r, buffer);
-    kept(r, text, sheet)
 }

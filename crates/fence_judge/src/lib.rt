@@ -14,7 +14,7 @@ fn write(fd: i32, out: &[u8], n: usize) {
 
 // Judges, and writes the line of the judgement and what it means.
 fn show(text: &[u8], graph: &[u8], out: &mut [u8]) {
-    let said = judge_line::judged_line(text, graph, out);
+    let said = judged_line::judged_line(text, graph, out);
     write(STDOUT_FILENO, out, said.bytes);
     let j = said.judged;
     let m = judge_line::words(j, text, out);

@@ -1,5 +1,0 @@
--- The word in a sheet, the result with more records, the line of an outcome, and how long it is.
-pub mod WordInSheet
-pub mod MoreRecords
-pub mod OutcomeLines
-pub mod Lengths

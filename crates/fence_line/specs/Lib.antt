@@ -1,2 +1,0 @@
--- The line of an outcome.
-pub mod Shown

@@ -4,7 +4,7 @@ use draw::Drawing;
 use libc::STDERR_FILENO;
 use libc::STDOUT_FILENO;
 use refusals::Reason;
-use search_run::Outcome;
+use search_report::Outcome;
 use sheet::Checked;
 
 // Writes the first n bytes of the memory.
@@ -27,7 +27,7 @@ fn refuse(why: Reason, place: usize, text: &[u8], out: &mut [u8]) {
 
 // Writes the line of an outcome.
 fn show(r: Outcome, text: &[u8], buffer: &[u8], out: &mut [u8]) {
-    let n = fence_line::outcome_line(r, buffer, out);
+    let n = outcome_lines::outcome_line(r, buffer, out);
     write(STDOUT_FILENO, out, n);
     if let Outcome::Refused(why, place) = r {
         explain(why, place, text, out);
@@ -40,7 +40,11 @@ pub fn show_sheet(r: Outcome, text: &[u8], buffer: &[u8], out: &mut [u8]) {
         refuse(why, place, text, out);
         return;
     }
-    write(STDOUT_FILENO, buffer, fence_line::sheet_length(r, buffer));
+    write(
+        STDOUT_FILENO,
+        buffer,
+        outcome_lines::sheet_length(r, buffer),
+    );
 }
 
 // The line of the sheet check.

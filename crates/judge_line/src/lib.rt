@@ -1,15 +1,13 @@
 // The line of a judgement, and what it means in words, as bytes in lent memory. (Document 01, "Sheet and graph bytes", last paragraph.)
 // Whatever does not fit is not written; for memory that is long enough the whole line stands there.
 use graph::Judged;
-ghost use Prim.Native.Nat.{_+_, _≤_};
+ghost use Prim.Native.Nat.{_+_};
 ghost use mathlib.Core.List.{[], _∷_, _++_};
 ghost use mathlib.Core.Path.{_≡_};
-ghost use lib.ListN.{length};
 ghost use Rattle.claims.specs.Bytes.{text as quoted};
 ghost use Rattle.claims.specs.Printed.{decimal};
 ghost use Rattle.texts.specs.Lines.{lineAt};
 ghost use Rattle.print_line.specs.Puts.{Puts};
-ghost use Rattle.claims.specs.Calls.{judge-call};
 ghost use Rattle.graph.specs.Answers.{resultOf};
 ghost use Rattle.judge_line.specs.JudgementLine.{judgementLine};
 ghost use Rattle.judge_line.specs.JudgedWords.{lineEnds, notHeld, brokenWords, judgedWords};
@@ -65,26 +63,6 @@ pub fn line(j: Judged, out: &mut [u8]) -> usize
         Judged::BreaksAt(line, event) => event_line(out, line, event),
         Judged::BreaksFrom(line, from, to) => pair_line(out, line, from, to),
         Judged::Refused(why, place) => print_line::refusal_line(out, why, place),
-    }
-}
-
-// A line in memory: how many bytes it has, and the judgement that it shows.
-pub struct Said {
-    pub bytes: usize,
-    pub judged: Judged,
-}
-
-// The line of the judgement of a graph for the query that the text is, as far as it fits, and the judgement.
-pub fn judged_line(text: &[u8], graph: &[u8], out: &mut [u8]) -> Said
-    ensures { λ r.
-        ⌜ Puts (now (out .entry)) 0 (judgementLine (judge-call (now (text .entry)) (now (graph .entry)))) (r .bytes) (now (out .exit))
-        × (resultOf (r .judged) ≡ judge-call (now (text .entry)) (now (graph .entry))) ⌝ }
-{
-    let j = graph::judge(text, graph);
-    let n = line(j, out);
-    Said {
-        bytes: n,
-        judged: j,
     }
 }
 

@@ -27,7 +27,7 @@ use Rattle.read_tests.specs.declared.Parsed.the-variants.{Got, Wrong}
 use Rattle.read_names.specs.Slips.{firstOf, slipNumber, slipOfCode, declaredSlip, relationNumber}
 use Rattle.read_bodies.specs.Bodies.{TestThen, ending, BodyOutcome, Bare, Declaration, Declares, DeclaresLet}
 use Rattle.read_bodies.specs.inner.Parts.{TreeThen, limitsReader, limitCodes, limitUses, LimitsThen}
-use Rattle.read_tests.proofs.Next.{goes-on, passed}
+use Rattle.read_next.proofs.Next.{goes-on, passed}
 use Rattle.read_bodies.proofs.Parts.{tree-line}
 use Rattle.read_bodies.proofs.NextWords.{named-here, declared-here, name-reserved, name-here, declared-slip, relation-slip, relation-number, slip-first, slip-alone}
 

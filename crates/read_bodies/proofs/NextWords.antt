@@ -29,7 +29,7 @@ use denote.Enum.Declared.{tagOf}
 use Rattle.read_tokens.proofs.Token.{the-type}
 use Rattle.read_tokens.proofs.Tokens.{Scanned, ScannedWord, tokens-scanned}
 use Rattle.read_names.proofs.Names.{same-key, reserved-name, reserved-is-reserved}
-use Rattle.read_tests.specs.Next.{wordEnd, wordNext}
+use Rattle.read_next.specs.Next.{wordEnd, wordNext}
 use Rattle.read_names.specs.Slips.{slipNumber, firstOf, slipOfCode, declaredSlip, relationNumber}
 use Rattle.read_bodies.specs.Bodies.{wordOf, Named}
 use Rattle.read_names.proofs.Slips.{first-none}

@@ -28,9 +28,9 @@ use Rattle.read_bodies.specs.Bodies.{Behind, Ends, Reads, ending, TestTh
 use Rattle.read_bodies.specs.inner.Parts.{Fits, oneCode, codeStored, Bracketed, limitsReader, limitCodes, limitUses, LimitsThen}
 use denote.Enum.Declared.{tagOf}
 use Rattle.read_tests.proofs.Parsed.{the-type}
-use Rattle.read_tests.proofs.Stores.{stores-then}
+use Rattle.read_next.proofs.Stores.{stores-then}
 use Rattle.read_names.proofs.Slips.{slips-then}
-use Rattle.read_tests.proofs.Next.{goes-on, passed}
+use Rattle.read_next.proofs.Next.{goes-on, passed}
 
 -- what a reader's answer is known to be
 pub behind-of : (s : List ℕ) (at used more : ℕ) (r : Parsed) (g : Place) → r ≡ Got g → Ends s at used more r → Behind s at used more g

@@ -23,7 +23,7 @@ use Rattle.read_names.specs.Keys.{Knows}
 use Rattle.read_names.specs.Slips.{slipNumber}
 use Rattle.read_bodies.specs.Bodies.{ending, BodyOutcome, Bare, OneSided, oneSide}
 use Rattle.read_bodies.specs.inner.Parts.{TreeThen}
-use Rattle.read_tests.proofs.Stores.{stores-then}
+use Rattle.read_next.proofs.Stores.{stores-then}
 use Rattle.read_names.proofs.Slips.{slips-then}
 use Rattle.read_bodies.proofs.Parts.{Failed, tree-line}
 use Rattle.read_bodies.proofs.NextWords.{SaysWord, keyword, choose-here, choose-next, choose-none}

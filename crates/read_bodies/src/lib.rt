@@ -31,7 +31,7 @@ pub fn declaration(
         return Parsed::Wrong;
     };
     let slip = read_names::declaration_slip(k, names, n);
-    let end = read_tests::write(out, used, 1, code);
+    let end = read_next::write(out, used, 1, code);
     Parsed::Got(Place {
         at: next,
         used: end,
@@ -47,7 +47,7 @@ fn code_behind(r: Parsed, code: u64, out: &mut [u64; 4096]) -> Parsed
     let Parsed::Got(g) = r else {
         return r;
     };
-    let used = read_tests::write(out, g.used, 1, code);
+    let used = read_next::write(out, g.used, 1, code);
     Parsed::Got(Place {
         at: g.at,
         used,
@@ -92,7 +92,7 @@ fn bracketed(s: &[u8], names: &[u64], n: usize, p: Place, out: &mut [u64; 4096])
     requires { ⌜ Room (now s) p ⌝ }
     ensures { λ r. ⌜ Bracketed (now (s .entry)) (now (names .entry)) n p (now (out .entry)) (now (out .exit)) r ⌝ }
 {
-    let next = read_tests::mark_next(s, p.at, b'[');
+    let next = read_next::mark_next(s, p.at, b'[');
     if next == 0 {
         return Parsed::Wrong;
     }
@@ -111,7 +111,7 @@ fn bracketed(s: &[u8], names: &[u64], n: usize, p: Place, out: &mut [u64; 4096])
     let Parsed::Got(g) = r else {
         return r;
     };
-    let end = read_tests::mark_next(s, g.at, b']');
+    let end = read_next::mark_next(s, g.at, b']');
     if end == 0 {
         return Parsed::Wrong;
     }
@@ -138,7 +138,7 @@ pub fn let_body(
     let Token::Word(k, next) = t else {
         return Parsed::Wrong;
     };
-    let start = read_tests::mark_next(s, next, b'=');
+    let start = read_next::mark_next(s, next, b'=');
     if start == 0 {
         return Parsed::Wrong;
     }
@@ -225,7 +225,7 @@ pub fn closed_body(
         return Parsed::Wrong;
     }
     let c = read_names::find(names, n, k);
-    let end = read_tests::write(
+    let end = read_next::write(
         out,
         used,
         1,
@@ -252,7 +252,7 @@ pub fn one_side(
     requires { ⌜ used + (length (now s) - at) + 1 ≤ 4096 ⌝ }
     ensures { λ r. ⌜ ((f g : Tree → Line) (c : Bool) → OneSided f empty c → OneSided g irreflexive c → BodyOutcome (choose (oneSide f g)) (Bare c) (now (s .entry)) (now (names .entry)) n at used (now (out .entry)) (now (out .exit)) r) ⌝ }
 {
-    let e = read_tests::word_next(s, at, read_names::word_key(read_names::EMPTY));
+    let e = read_next::word_next(s, at, read_names::word_key(read_names::EMPTY));
     if e != 0 {
         return expression_then(
             s,
@@ -267,7 +267,7 @@ pub fn one_side(
             out,
         );
     }
-    let i = read_tests::word_next(s, at, read_names::word_key(read_names::IRREFLEXIVE));
+    let i = read_next::word_next(s, at, read_names::word_key(read_names::IRREFLEXIVE));
     if i != 0 {
         return expression_then(
             s,
@@ -308,7 +308,7 @@ fn two_sides(
     let Parsed::Got(g) = r else {
         return r;
     };
-    let next = read_tests::word_next(s, g.at, read_names::word_key(read_names::IN));
+    let next = read_next::word_next(s, g.at, read_names::word_key(read_names::IN));
     if next == 0 {
         return Parsed::Wrong;
     }
@@ -338,7 +338,7 @@ pub fn claim_body(
     requires { ⌜ used + (length (now s) - at) + 1 ≤ 4096 ⌝ }
     ensures { λ r. ⌜ BodyOutcome (choose claims) (Bare true) (now (s .entry)) (now (names .entry)) n at used (now (out .entry)) (now (out .exit)) r ⌝ }
 {
-    let i = read_tests::word_next(s, at, read_names::word_key(read_names::INCLUDE));
+    let i = read_next::word_next(s, at, read_names::word_key(read_names::INCLUDE));
     if i != 0 {
         return two_sides(s, i, names, n, used, out);
     }

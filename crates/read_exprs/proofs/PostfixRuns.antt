@@ -18,12 +18,12 @@ use Rattle.read_tests.specs.declared.Place.{Place}
 use Rattle.read_exprs.specs.declared.Sign.{Sign}
 use Rattle.read_tests.specs.declared.Parsed.{Parsed}
 use Rattle.read_tests.specs.declared.Parsed.the-variants.{Got}
-use Rattle.read_tests.specs.Next.{markNext}
+use Rattle.read_next.specs.Next.{markNext}
 use Rattle.read_tests.specs.Places.{Room, Read, TreeOutcome, Finds}
 use Rattle.read_exprs.specs.inner.Postfix.{Wraps, SignStands, SignNext, PostfixesNext}
-use Rattle.read_tests.proofs.Stores.{stores-then}
+use Rattle.read_next.proofs.Stores.{stores-then}
 use Rattle.read_tests.proofs.Told.{told-store, told-as}
-use Rattle.read_tests.proofs.Next.{mark-stands, mark-missing, goes-on, passed, one-fewer}
+use Rattle.read_next.proofs.Next.{mark-stands, mark-missing, goes-on, passed, one-fewer}
 use Rattle.read_tests.proofs.Outcomes.{NoTree, handed-on}
 
 -- a postfix with its mark b and its code c stands next

@@ -17,9 +17,9 @@ use Rattle.claims.specs.Query.{Query}
 use Rattle.codes.specs.Codes.{TESTED, UNION, SEQUENCE, testCodes, treeCodes}
 use Rattle.read_tests.specs.declared.Place.{Place}
 use Rattle.read_tests.specs.declared.Parsed.{Parsed}
-use Rattle.read_tests.specs.Next.{markNext}
+use Rattle.read_next.specs.Next.{markNext}
 use Rattle.read_tests.specs.Places.{TreeOutcome, Finds, Is}
-use Rattle.read_tests.proofs.Next.{mark-missing}
+use Rattle.read_next.proofs.Next.{mark-missing}
 use Rattle.read_tests.proofs.Outcomes.{outcome-of-all}
 use Rattle.read_tests.proofs.Chains.{Chain, Chained}
 use Rattle.read_tests.proofs.Bracketed.{Bracket}

@@ -7,7 +7,7 @@ use read_tokens::Token;
 ghost use mathlib.Core.Path.{_≡_};
 ghost use Prim.Native.Nat.{_≤_};
 ghost use Rattle.claims.specs.Lines.{expression};
-ghost use Rattle.read_tests.specs.Next.{markNext};
+ghost use Rattle.read_next.specs.Next.{markNext};
 ghost use Rattle.read_tests.specs.Places.{Room, TreeOutcome, Is, Finds};
 ghost use Rattle.claims.specs.Grammar.{unionOf, sequenceOf, postfixOf, factorOf, nameNext};
 ghost use Rattle.claims.specs.Tree.{name};
@@ -38,8 +38,8 @@ pub fn union(
         let Parsed::Got(got) = r else {
             return r;
         };
-        let used = read_tests::write(out, got.used, more, codes::UNION);
-        let next = read_tests::mark_next(s, got.at, b'|');
+        let used = read_next::write(out, got.used, more, codes::UNION);
+        let next = read_next::mark_next(s, got.at, b'|');
         if next == 0 {
             return Parsed::Got(Place {
                 at: got.at,
@@ -75,8 +75,8 @@ fn sequence(
         let Parsed::Got(got) = r else {
             return r;
         };
-        let used = read_tests::write(out, got.used, more, codes::SEQUENCE);
-        let next = read_tests::mark_next(s, got.at, b';');
+        let used = read_next::write(out, got.used, more, codes::SEQUENCE);
+        let next = read_next::mark_next(s, got.at, b';');
         if next == 0 {
             return Parsed::Got(Place {
                 at: got.at,
@@ -124,7 +124,7 @@ fn factor(
     requires { ⌜ (depth ≤ 32) × Room (now s) p ⌝ }
     ensures { λ r. ⌜ TreeOutcome (Finds factorOf depth 1) (now (s .entry)) (now (names .entry)) n p (now (out .entry)) (now (out .exit)) r ⌝ }
 {
-    let next = read_tests::mark_next(s, p.at, b'(');
+    let next = read_next::mark_next(s, p.at, b'(');
     if next == 0 {
         return leaf(s, names, n, depth, p, out);
     }
@@ -140,7 +140,7 @@ fn factor(
     let Parsed::Got(got) = r else {
         return r;
     };
-    let end = read_tests::mark_next(s, got.at, b')');
+    let end = read_next::mark_next(s, got.at, b')');
     if end == 0 {
         return Parsed::Wrong;
     }
@@ -157,7 +157,7 @@ fn leaf(s: &[u8], names: &[u64], n: usize, depth: usize, p: Place, out: &mut [u6
     requires { ⌜ markNext (now s) (p .at) 40 ≡ 0 ⌝ }
     ensures { λ r. ⌜ TreeOutcome (Finds factorOf depth 1) (now (s .entry)) (now (names .entry)) n p (now (out .entry)) (now (out .exit)) r ⌝ }
 {
-    let next = read_tests::mark_next(s, p.at, b'[');
+    let next = read_next::mark_next(s, p.at, b'[');
     if next == 0 {
         return named(s, names, n, p, out);
     }
@@ -170,11 +170,11 @@ fn leaf(s: &[u8], names: &[u64], n: usize, depth: usize, p: Place, out: &mut [u6
     let Parsed::Got(got) = r else {
         return r;
     };
-    let end = read_tests::mark_next(s, got.at, b']');
+    let end = read_next::mark_next(s, got.at, b']');
     if end == 0 {
         return Parsed::Wrong;
     }
-    let used = read_tests::write(out, got.used, 1, codes::TESTED);
+    let used = read_next::write(out, got.used, 1, codes::TESTED);
     Parsed::Got(Place {
         at: end,
         used,
@@ -211,21 +211,21 @@ fn named(s: &[u8], names: &[u64], n: usize, p: Place, out: &mut [u64; 4096]) -> 
 fn sign_next(s: &[u8], at: usize) -> Sign
     ensures { λ r. ⌜ SignNext (now (s .entry)) at r ⌝ }
 {
-    let star = read_tests::mark_next(s, at, b'*');
+    let star = read_next::mark_next(s, at, b'*');
     if star != 0 {
         return Sign {
             at: star,
             code: codes::STAR,
         };
     }
-    let plus = read_tests::mark_next(s, at, b'+');
+    let plus = read_next::mark_next(s, at, b'+');
     if plus != 0 {
         return Sign {
             at: plus,
             code: codes::PLUS,
         };
     }
-    let opt = read_tests::mark_next(s, at, b'?');
+    let opt = read_next::mark_next(s, at, b'?');
     if opt != 0 {
         return Sign {
             at: opt,

@@ -27,14 +27,14 @@ use Rattle.read_names.specs.Keys.{sameKey, wordKey}
 use Rattle.read_names.proofs.Names.{same-key, reserved-name}
 use Rattle.read_tokens.proofs.Tokens.{Scanned, ScannedWord}
 use Rattle.refusals.specs.declared.Reason.the-variants.{Notation as BadNotation, AfterClaim}
-use Rattle.read_lines.specs.declared.State.{State}
-use Rattle.read_lines.specs.declared.LineRead.{LineRead}
-use Rattle.read_lines.specs.declared.LineRead.the-variants.{Taken, Refused}
-use Rattle.read_lines.specs.State.{lineFate, hasClaim, After, ReadsLine}
+use Rattle.read_declarations.specs.declared.State.{State}
+use Rattle.read_declarations.specs.declared.LineRead.{LineRead}
+use Rattle.read_declarations.specs.declared.LineRead.the-variants.{Taken, Refused}
+use Rattle.read_declarations.specs.State.{lineFate, hasClaim, After, ReadsLine}
 use Rattle.refusals.specs.Causes.{causeOf}
-use Rattle.read_lines.specs.inner.Kinds.{wholeLine, KindSays, KindOutcome, kindPlace, readsAt}
+use Rattle.read_declarations.specs.inner.Kinds.{wholeLine, KindSays, KindOutcome, kindPlace, readsAt}
 use Rattle.read_bodies.proofs.NextWords.{choose-here, choose-next, choose-none, NoWord, token-found}
-use Rattle.read_lines.proofs.Fates.{fate-wrong}
+use Rattle.read_declarations.proofs.Fates.{fate-wrong}
 
 -- what a line with the word w in front is read by
 abbrev pub After-word : Name → List Notation.Token → Found Line

@@ -14,7 +14,7 @@ use Rattle.claims.specs.Lines.{Choice, lineKinds}
 use Rattle.read_tests.specs.declared.Parsed.{Parsed}
 use Rattle.read_tests.specs.declared.Parsed.the-variants.{Got, Wrong, Deep}
 use Rattle.read_bodies.specs.Bodies.{BodyOutcome, Bare}
-use Rattle.read_lines.specs.inner.Kinds.{readsAt, SortOf}
+use Rattle.read_declarations.specs.inner.Kinds.{readsAt, SortOf}
 
 -- a line of one sort is of another, where the one is the other
 pub body-sorted : (D : List Notation.Token → Found Line) (K L : Line → Type 0) (s names : List ℕ) (n at used : ℕ) (before after : List ℕ)

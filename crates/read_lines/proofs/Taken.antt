@@ -22,23 +22,23 @@ use Rattle.claims.specs.Refusals.{Result, ok, refuse}
 use Rattle.codes.specs.Codes.{letNames, lineCodes}
 use Rattle.read_tokens.specs.Scan.{tokenAt}
 use Rattle.read_tests.specs.declared.Parsed.{Parsed}
-use Rattle.read_lines.specs.declared.Checked.{Checked}
-use Rattle.read_lines.specs.declared.Checked.the-variants.{Fine, Faulty}
+use Rattle.read_declarations.specs.declared.Checked.{Checked}
+use Rattle.read_declarations.specs.declared.Checked.the-variants.{Fine, Faulty}
 use Rattle.refusals.specs.declared.Reason.{Reason}
 use Rattle.refusals.specs.declared.Reason.the-variants.{TooMany}
-use Rattle.read_lines.specs.declared.State.{State}
-use Rattle.read_lines.specs.declared.LineRead.{LineRead}
-use Rattle.read_lines.specs.declared.LineRead.the-variants.{Taken, Refused}
+use Rattle.read_declarations.specs.declared.State.{State}
+use Rattle.read_declarations.specs.declared.LineRead.{LineRead}
+use Rattle.read_declarations.specs.declared.LineRead.the-variants.{Taken, Refused}
 use Rattle.read_names.specs.Keys as Keys
-use Rattle.read_lines.specs.State.{After, Small, Tabled}
+use Rattle.read_declarations.specs.State.{After, Small, Tabled}
 use Rattle.refusals.specs.Causes.{causeOf}
 use Rattle.read_names.specs.Keys.{entered}
-use Rattle.read_lines.specs.inner.Declaring.{countOf, numberOf, mostOf, oneIf, oneMore, declaredRead, declaredNames, DeclaresNext}
-use Rattle.read_lines.specs.inner.Kinds.{checked, plainRead, wholeLine, KindSays, KindOutcome}
+use Rattle.read_declarations.specs.inner.Declaring.{countOf, numberOf, mostOf, oneIf, oneMore, declaredRead, declaredNames, DeclaresNext}
+use Rattle.read_declarations.specs.inner.Kinds.{checked, plainRead, wholeLine, KindSays, KindOutcome}
 use Rattle.read_bodies.specs.Bodies.{Body, BodySays, BodyOutcome, Bare, wordOf}
 use Rattle.read_bodies.proofs.Parts.{behind-of}
-use Rattle.read_lines.proofs.Declared.{bare-plain, after-declared, after-plain, knows-declared, knows-plain}
-use Rattle.read_lines.proofs.Fates.{Whole, fine-whole, faulty-fate, fate-crowded, fate-taken, clean-slips}
+use Rattle.read_declarations.proofs.Declared.{bare-plain, after-declared, after-plain, knows-declared, knows-plain}
+use Rattle.read_declarations.proofs.Fates.{Whole, fine-whole, faulty-fate, fate-crowded, fate-taken, clean-slips}
 
 -- the table of names, as the readers of T and E want it
 known : (q : Query) (st : State) (before out names : List ℕ) → After q st before out → Small st → Tabled names (st .names) q

@@ -16,10 +16,10 @@ use Rattle.read_tokens.proofs.Tokens.{ScannedMark}
 use Rattle.read_tests.specs.declared.Place.{Place}
 use Rattle.read_tests.specs.declared.Parsed.{Parsed}
 use Rattle.read_tests.specs.declared.Parsed.the-variants.{Got, Wrong}
-use Rattle.read_tests.specs.Next.{markNext}
+use Rattle.read_next.specs.Next.{markNext}
 use Rattle.read_tests.specs.Places.{Room, Read, ReaderOutcome, Finds}
 use Rattle.read_tests.proofs.Told.{told-store, told-as, told-from}
-use Rattle.read_tests.proofs.Next.{mark-stands, mark-missing, goes-on, passed, one-fewer}
+use Rattle.read_next.proofs.Next.{mark-stands, mark-missing, goes-on, passed, one-fewer}
 use Rattle.read_tests.proofs.Outcomes.{NoTree, handed-on}
 
 -- the reader `outer`, with `depth` brackets open, reads what `inner` reads between two marks, with `within` open

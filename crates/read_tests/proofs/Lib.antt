@@ -1,6 +1,3 @@
--- What stands next, and codes written.
-pub mod Next
-pub mod Stores
 -- What was told between two places, and one name or word.
 pub mod Told
 pub mod Outcomes

@@ -14,10 +14,10 @@ use Rattle.read_names.specs.Keys.{Knows}
 use Rattle.read_tests.specs.declared.Place.{Place}
 use Rattle.read_tests.specs.declared.Parsed.{Parsed}
 use Rattle.read_tests.specs.declared.Parsed.the-variants.{Got}
-use Rattle.read_tests.specs.Next.{markNext}
+use Rattle.read_next.specs.Next.{markNext}
 use Rattle.read_tests.specs.Places.{Room, Told, Read, ReaderOutcome, Finds}
 use Rattle.read_tests.proofs.Told.{told-then, told-store, told-as}
-use Rattle.read_tests.proofs.Next.{mark-stands, mark-missing, goes-on, passed, one-fewer}
+use Rattle.read_next.proofs.Next.{mark-stands, mark-missing, goes-on, passed, one-fewer}
 use Rattle.read_tests.proofs.Outcomes.{NoTree, handed-on}
 use Rattle.read_tests.proofs.Chains.{Chain, Waiting, joined, leftCodes, leftUses, joined-codes, joined-uses, goes-further, ends-here}
 

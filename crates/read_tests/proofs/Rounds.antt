@@ -16,9 +16,9 @@ use Rattle.claims.specs.Names.{Use}
 use Rattle.claims.specs.Query.{Query}
 use Rattle.read_tests.specs.declared.Place.{Place}
 use Rattle.read_tests.specs.declared.Parsed.{Parsed}
-use Rattle.read_tests.specs.Next.{markNext}
+use Rattle.read_next.specs.Next.{markNext}
 use Rattle.read_tests.specs.Places.{ReaderOutcome, Finds}
-use Rattle.read_tests.proofs.Next.{mark-stands, mark-missing, goes-on}
+use Rattle.read_next.proofs.Next.{mark-stands, mark-missing, goes-on}
 use Rattle.read_tests.proofs.Outcomes.{outcome-by}
 use Rattle.read_tests.proofs.Bracketed.{Bracket}
 

@@ -17,12 +17,12 @@ use Rattle.claims.specs.Names.{testUses}
 use Rattle.claims.specs.Query.{Query}
 use Rattle.codes.specs.Codes.{OR, AND, NOT, testCodes}
 use Rattle.read_tests.specs.declared.Place.{Place}
-use Rattle.read_tests.specs.declared.Run.{Run}
+use Rattle.read_next.specs.declared.Run.{Run}
 use Rattle.read_tests.specs.declared.Parsed.{Parsed}
 use Rattle.read_tests.specs.declared.Parsed.the-variants.{Got}
-use Rattle.read_tests.specs.Next.{MarksNext}
+use Rattle.read_next.specs.Next.{MarksNext}
 use Rattle.read_tests.specs.Places.{Room, Read, TestOutcome, Finds, Is}
-use Rattle.read_tests.proofs.Stores.{replicate-more}
+use Rattle.read_next.proofs.Stores.{replicate-more}
 use Rattle.read_tests.proofs.Told.{told-store, told-as, told-from}
 use Rattle.read_tests.proofs.Outcomes.{NoTree, handed-on, outcome-of-all}
 use Rattle.read_tests.proofs.Chains.{Chain, Chained}

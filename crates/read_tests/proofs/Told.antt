@@ -11,7 +11,7 @@ use Rattle.claims.specs.Query.{Query}
 use Rattle.read_tests.specs.declared.Place.{Place}
 use Rattle.read_tests.specs.Places.{Told}
 use Rattle.read_names.specs.Slips.{firstOf, slipNumber}
-use Rattle.read_tests.proofs.Stores.{stores-then}
+use Rattle.read_next.proofs.Stores.{stores-then}
 use Rattle.read_names.proofs.Slips.{slips-then, no-slip}
 
 module _ (q : Query) (p : Place) (before : List ℕ) where

@@ -26,7 +26,7 @@ use Rattle.read_names.proofs.Names.{same-key, reserved-name, reserved-is-reserv
 use Rattle.read_tests.specs.declared.Place.{Place}
 use Rattle.read_tests.specs.declared.Parsed.the-variants.{Got, Wrong}
 use Rattle.read_tests.specs.Places.{Moved, Read, TestOutcome, TreeOutcome, Is}
-use Rattle.read_tests.proofs.Next.{NoWord}
+use Rattle.read_next.proofs.Next.{NoWord}
 use Rattle.read_names.specs.Slips.{slipNumber, firstOf, slipOfCode}
 use Rattle.read_names.proofs.Slips.{no-slip, test-slip, either-slip}
 

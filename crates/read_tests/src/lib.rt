@@ -1,15 +1,10 @@
 // Readers of T over the bytes of a line: `|`, then `&`, then prefix `!`, over names, `true`, `false` and round brackets. (Document 01, "The
 // query".) They find what the grammar finds in the line's tokens, and write the codes of the tree. A name is looked up at once; a slip of
 // one is only remembered, since a fault of the notation further on in the line comes first. Operators and prefix `!` are read by loops,
-// so that only brackets take the machine's stack. What stands next in a line, and the place of a reader, serve the readers of E too.
-use read_tokens::Key;
+// so that only brackets take the machine's stack. The place of a reader serves the readers of E too.
 use read_tokens::Token;
-ghost use mathlib.Core.Path.{_≡_};
 ghost use Prim.Native.Nat.{_+_, _≤_};
-ghost use lib.ListN.{replicate};
-ghost use lib.Seq.{sets};
 ghost use Rattle.claims.specs.Lines.{condition};
-ghost use Rattle.read_tests.specs.Next.{markNext, wordNext, MarksNext};
 ghost use Rattle.read_tests.specs.Places.{Room, TestOutcome, Is, Finds};
 ghost use Rattle.claims.specs.Grammar.{testUnion, testMeet, testNot, testBasic, testWord};
 
@@ -26,63 +21,6 @@ pub enum Parsed {
     Got(Place),
     Wrong,
     Deep,
-}
-
-// A run of one mark: how many, and the position behind them.
-struct Run {
-    at: usize,
-    count: usize,
-}
-
-// The position behind the mark b, if it stands next, else 0.
-pub fn mark_next(s: &[u8], at: usize, b: u8) -> usize
-    ensures { λ r. ⌜ r ≡ markNext (now (s .entry)) at b ⌝ }
-{
-    let t = read_tokens::token_at(s, at);
-    let Token::Mark(c, next) = t else {
-        return 0;
-    };
-    if b == c { next } else { 0 }
-}
-
-// The position behind the word with the key k, if it stands next, else 0.
-pub fn word_next(s: &[u8], at: usize, k: Key) -> usize
-    ensures { λ r. ⌜ r ≡ wordNext (now (s .entry)) at k ⌝ }
-{
-    let t = read_tokens::token_at(s, at);
-    let Token::Word(l, next) = t else {
-        return 0;
-    };
-    if read_names::same_key(k, l) { next } else { 0 }
-}
-
-// As many marks b as stand next.
-fn marks_next(s: &[u8], at: usize, b: u8) -> Run
-    ensures { λ r. ⌜ MarksNext (now (s .entry)) at b r ⌝ }
-{
-    let mut i = at;
-    let mut count = 0;
-    loop {
-        let next = mark_next(s, i, b);
-        if next == 0 {
-            return Run { at: i, count };
-        }
-        i = next;
-        count += 1;
-    }
-}
-
-// Writes the code `count` times. The room is what the readers above have, since a code takes a byte of the line at least.
-pub fn write(out: &mut [u64; 4096], used: usize, count: usize, code: u64) -> usize
-    requires { ⌜ used + count ≤ 4096 ⌝ }
-    ensures { λ r. ⌜ (r ≡ used + count) × (now (out .exit) ≡ sets (now (out .entry)) used (replicate count code)) ⌝ }
-{
-    let mut i = 0;
-    while i < count {
-        out[used + i] = code;
-        i += 1;
-    }
-    used + count
 }
 
 // T.
@@ -104,8 +42,8 @@ pub fn union(
         let Parsed::Got(got) = r else {
             return r;
         };
-        let used = write(out, got.used, more, codes::OR);
-        let next = mark_next(s, got.at, b'|');
+        let used = read_next::write(out, got.used, more, codes::OR);
+        let next = read_next::mark_next(s, got.at, b'|');
         if next == 0 {
             return Parsed::Got(Place {
                 at: got.at,
@@ -134,8 +72,8 @@ fn meet(s: &[u8], names: &[u64], n: usize, depth: usize, p: Place, out: &mut [u6
         let Parsed::Got(got) = r else {
             return r;
         };
-        let used = write(out, got.used, more, codes::AND);
-        let next = mark_next(s, got.at, b'&');
+        let used = read_next::write(out, got.used, more, codes::AND);
+        let next = read_next::mark_next(s, got.at, b'&');
         if next == 0 {
             return Parsed::Got(Place {
                 at: got.at,
@@ -157,7 +95,7 @@ fn not(s: &[u8], names: &[u64], n: usize, depth: usize, p: Place, out: &mut [u64
     requires { ⌜ (depth ≤ 32) × Room (now s) p ⌝ }
     ensures { λ r. ⌜ TestOutcome (Finds testNot depth 2) (now (s .entry)) (now (names .entry)) n p (now (out .entry)) (now (out .exit)) r ⌝ }
 {
-    let run = marks_next(s, p.at, b'!');
+    let run = read_next::marks_next(s, p.at, b'!');
     let inner = Place {
         at: run.at,
         used: p.used,
@@ -167,7 +105,7 @@ fn not(s: &[u8], names: &[u64], n: usize, depth: usize, p: Place, out: &mut [u64
     let Parsed::Got(got) = r else {
         return r;
     };
-    let used = write(out, got.used, run.count, codes::NOT);
+    let used = read_next::write(out, got.used, run.count, codes::NOT);
     Parsed::Got(Place {
         at: got.at,
         used,
@@ -180,7 +118,7 @@ fn basic(s: &[u8], names: &[u64], n: usize, depth: usize, p: Place, out: &mut [u
     requires { ⌜ (depth ≤ 32) × Room (now s) p ⌝ }
     ensures { λ r. ⌜ TestOutcome (Finds testBasic depth 1) (now (s .entry)) (now (names .entry)) n p (now (out .entry)) (now (out .exit)) r ⌝ }
 {
-    let next = mark_next(s, p.at, b'(');
+    let next = read_next::mark_next(s, p.at, b'(');
     if next == 0 {
         return word(s, names, n, p, out);
     }
@@ -196,7 +134,7 @@ fn basic(s: &[u8], names: &[u64], n: usize, depth: usize, p: Place, out: &mut [u
     let Parsed::Got(got) = r else {
         return r;
     };
-    let end = mark_next(s, got.at, b')');
+    let end = read_next::mark_next(s, got.at, b')');
     if end == 0 {
         return Parsed::Wrong;
     }

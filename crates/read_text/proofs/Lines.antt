@@ -24,15 +24,15 @@ use Rattle.read_tokens.specs.Scan.{front}
 use Rattle.read_names.specs.Keys.{findIn}
 use Rattle.read_text.specs.Reading.{claimed, inLines, summaryOf, SaysSummary}
 use Rattle.read_text.specs.inner.Steps.{inLine, known, Written}
-use Rattle.read_lines.specs.State.{After, Small, Tabled, Took, LineSays, ReadsLine, lineFate}
+use Rattle.read_declarations.specs.State.{After, Small, Tabled, Took, LineSays, ReadsLine, lineFate}
 use Rattle.refusals.specs.Causes.{causeOf}
 use Rattle.refusals.specs.declared.Reason.{Reason}
 use Rattle.refusals.specs.declared.Reason.the-variants.{NoClaim}
 use Rattle.read_text.specs.declared.Summary.{Summary}
 use Rattle.read_text.specs.declared.Reading.the-variants.{Accepted, Refused}
-use Rattle.read_lines.specs.declared.State.{State}
-use Rattle.read_lines.specs.declared.LineRead.{LineRead}
-use Rattle.read_lines.specs.declared.LineRead.the-variants.{Taken, Refused as LineRefused}
+use Rattle.read_declarations.specs.declared.State.{State}
+use Rattle.read_declarations.specs.declared.LineRead.{LineRead}
+use Rattle.read_declarations.specs.declared.LineRead.the-variants.{Taken, Refused as LineRefused}
 use Rattle.read_text.proofs.TextLines.{line-split}
 use Rattle.read_text.proofs.Answers.{claimed-none, claimed-some}
 

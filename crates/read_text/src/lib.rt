@@ -1,7 +1,7 @@
 // The reader of queries: every list of bytes gets an answer. (Document 01, "The query" and "Refusals with an example each".) It reads
 // line by line over a state that carries what the lines so far declare, and writes the query's syntax as codes, children before parents.
-use read_lines::LineRead;
-use read_lines::State;
+use read_declarations::LineRead;
+use read_declarations::State;
 use refusals::Reason;
 use words::clear;
 ghost use mathlib.Core.Path.{_≡_};

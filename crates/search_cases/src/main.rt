@@ -4,7 +4,7 @@
 use case_lines::Case;
 use case_lines::Cases;
 use libc::STDOUT_FILENO;
-use search_run::Outcome;
+use search_report::Outcome;
 
 // Whether the line is the one behind which sheets are asked for.
 fn asks_sheets(text: &[u8], n: usize) -> bool {
@@ -19,7 +19,7 @@ fn asks_sheets(text: &[u8], n: usize) -> bool {
 
 // Writes the line of an outcome.
 fn write_line(r: Outcome, buffer: &[u8], out: &mut [u8]) {
-    let m = fence_line::outcome_line(r, buffer, out);
+    let m = outcome_lines::outcome_line(r, buffer, out);
     if m <= out.len() {
         io::write_all(STDOUT_FILENO, &out[..m]);
     }

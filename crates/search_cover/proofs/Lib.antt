@@ -1,5 +1,2 @@
--- Rounds on columns, and what is sought in the closed table.
-pub mod Rounds
-pub mod Sought
 -- The atom that completes a word.
 pub mod Finals

@@ -21,9 +21,9 @@ use Rattle.search_store.proofs.Standing.{path-equal, path-first, path-second, r
 use Rattle.search_grow.specs.Kept.{State, state, Inside, Ready, wordsAt, Noted, NotedBehind}
 use Rattle.search_grow.proofs.Adding.{inside-none, inside-count, still-ready, room-less}
 use Rattle.search_grow.proofs.Noting.{inside-appended, note-found, note-over, note-kept}
-use Rattle.search_levels.specs.declared.Course.{Course}
-use Rattle.search_levels.specs.Turns.{answerOf, turnWeight, advanced, masksNow, Tries, Tryable, Small, Settles, recordOf, Beginning, Completing, Growing, At, Offers, Stepped}
-use Rattle.search_levels.proofs.OneCandidate.{letter-noted, noted-letter, two-words-in}
+use Rattle.search_course.specs.declared.Course.{Course}
+use Rattle.search_course.specs.Turns.{answerOf, turnWeight, advanced, masksNow, Tries, Tryable, Small, Settles, recordOf, Beginning, Completing, Growing, At, Offers, Stepped}
+use Rattle.search_candidates.proofs.OneCandidate.{letter-noted, noted-letter, two-words-in}
 
 -- nothing is offered
 abbrev pub quieted : Course → Course

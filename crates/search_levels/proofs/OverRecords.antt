@@ -14,10 +14,10 @@ use Rattle.search_records.proofs.Rows.{rows-length, rows-at, rows-kept, rows-fo
 use Rattle.search_grow.specs.Masks.{lettersIn}
 use Rattle.search_grow.specs.Kept.{state, Inside, Ready}
 use Rattle.search_grow.proofs.Adding.{inside-none, inside-more, inside-memory}
-use Rattle.search_levels.specs.declared.Course.{Course}
-use Rattle.search_levels.specs.declared.Answer.{Answer}
-use Rattle.search_levels.specs.Answers.{Answered}
-use Rattle.search_levels.specs.Turns.{answerOf, turnWeight, Small, Settles, recordOf, At, Stepped}
+use Rattle.search_course.specs.declared.Course.{Course}
+use Rattle.search_course.specs.declared.Answer.{Answer}
+use Rattle.search_course.specs.Answers.{Answered}
+use Rattle.search_course.specs.Turns.{answerOf, turnWeight, Small, Settles, recordOf, At, Stepped}
 use Rattle.search_levels.proofs.OneTurn.{at-small, seek-inside, count-small, turn-on}
 
 module _ (k : Shape) (left right first later : List ℕ) (cap : ℕ) (t : Course) (rs : List Record) (w : List ℕ)

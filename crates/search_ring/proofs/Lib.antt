@@ -1,3 +1,2 @@
--- Words joined into columns, and the standing that they are.
-pub mod Columns
+-- The standing that the columns are.
 pub mod Standing

@@ -28,7 +28,7 @@ use Rattle.search_words.specs.Systems.{wordSystem}
 use Rattle.search_words.specs.Over.{shown}
 use Rattle.search_words.proofs.PathShown.{pathOf}
 use Rattle.search_words.proofs.RingShown.{ringShown}
-use Rattle.search_fields.specs.FieldWords.{contentsWords}
+use Rattle.search_contents.specs.FieldWords.{contentsWords}
 use Rattle.search_sheet.proofs.SheetShown.{path-sheet, ring-sheet}
 use Rattle.query.specs.Decided.{Decided}
 use Rattle.search_run.specs.inner.Tried.{shapeOf, wordsVerdict}

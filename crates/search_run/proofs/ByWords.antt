@@ -29,8 +29,8 @@ use Rattle.search_words.proofs.PathShown.{TwoWords, pathOf, path-shows}
 use Rattle.search_words.proofs.RingShown.{ringShown, GoodRing}
 use Rattle.search_words.proofs.RingVerdict.{ring-shows}
 use Rattle.search_grow.specs.Masks.{tried, lettersIn}
-use Rattle.search_alike.proofs.Letters.{letters-by-live, letters-by-path-masks, letters-by-ring-masks}
-use Rattle.search_alike.proofs.Verdicts.{path-verdict-over-kept, ring-verdict-over-kept}
+use Rattle.search_atoms.proofs.Letters.{letters-by-live, letters-by-path-masks, letters-by-ring-masks}
+use Rattle.search_atoms.proofs.Verdicts.{path-verdict-over-kept, ring-verdict-over-kept}
 use Rattle.search_run.specs.inner.Tried.{shapeOf, firstLetters, laterLetters, wordsVerdict}
 use Rattle.search_run.proofs.Tried.{path-first, ring-first}
 

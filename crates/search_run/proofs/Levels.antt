@@ -5,10 +5,10 @@ use mathlib.Core.Path.{_≡_, ap, subst}
 use mathlib.Core.List.{List}
 use Rattle.claims.specs.Standings.{Letter}
 use Rattle.query.specs.declared.Facts.{Facts}
-use Rattle.search_alike.specs.Masks.{masksOf}
+use Rattle.search_atoms.specs.Masks.{masksOf}
 use Rattle.search_grow.specs.Masks.{lettersIn}
-use Rattle.search_levels.specs.declared.Answer.{Answer as Found}
-use Rattle.search_levels.specs.Answers.{Answered}
+use Rattle.search_course.specs.declared.Answer.{Answer as Found}
+use Rattle.search_course.specs.Answers.{Answered}
 use Rattle.search_run.specs.inner.Tried.{shapeOf, firstMasks, firstLetters, laterLetters}
 
 module _ (f : Facts) (left right first later : List ℕ) (cap : ℕ) (r : List (List ℕ)) (w : List ℕ) (x : Found)

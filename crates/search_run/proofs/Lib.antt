@@ -2,13 +2,10 @@
 pub mod Tried
 pub mod ByWords
 pub mod Answers
--- The memory: enough of it, and that which is cleared.
-pub mod Rooms
+-- The memory that is cleared.
 pub mod Cleared
--- What the levels find, what is reported of it, and that this is the end of document 01's search.
+-- What the levels find, and that what is reported of it is the end of document 01's search.
 pub mod Levels
-pub mod Found
-pub mod Reported
 pub mod Finished
 -- The ways out of the search on a decision.
 pub mod Ways

@@ -6,7 +6,7 @@ use mathlib.Core.Bool.{true, false}
 use mathlib.Core.List.{List}
 use Rattle.words.specs.Memory.{words}
 use Rattle.query.specs.declared.Facts.{Facts}
-use Rattle.search_alike.specs.Masks.{masksOf}
+use Rattle.search_atoms.specs.Masks.{masksOf}
 use Rattle.search_grow.specs.Masks.{lettersIn}
 use Rattle.search_run.specs.inner.Tried.{shapeOf, firstMasks, firstLetters, laterLetters}
 

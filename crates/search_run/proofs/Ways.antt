@@ -16,12 +16,12 @@ use Rattle.refusals.specs.declared.Reason.the-variants.{BadAllowance, ShortMemo
 use Rattle.query.specs.declared.Facts.{Facts}
 use Rattle.query.specs.Answer.{factsOf}
 use Rattle.search_grow.specs.Kept.{state, Ready}
-use Rattle.search_run.specs.declared.Outcome.{Outcome}
-use Rattle.search_run.specs.declared.Outcome.the-variants.{Refused}
-use Rattle.search_run.specs.Outcomes.{Gives}
+use Rattle.search_report.specs.declared.Outcome.{Outcome}
+use Rattle.search_report.specs.declared.Outcome.the-variants.{Refused}
+use Rattle.search_report.specs.Outcomes.{Gives}
 use Rattle.query.specs.Decided.{Decided}
-use Rattle.search_run.specs.inner.Memory.{roomFor, lentRows}
-use Rattle.search_run.proofs.Rooms.{room-by-test, enough-is}
+use Rattle.search_memory.specs.inner.Memory.{roomFor, lentRows}
+use Rattle.search_memory.proofs.Rooms.{room-by-test, enough-is}
 
 in-range : (cap : ℕ) → 1 ≤ cap → cap ≤ 4096 → (leb 1 cap && leb cap 4096) ≡ true
 in-range cap h k = and-both (le-leb 1 cap h) (le-leb cap 4096 k)

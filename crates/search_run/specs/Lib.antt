@@ -1,4 +1,2 @@
--- What a search answers, and what it leaves in lent memory.
-pub mod Outcomes
 -- Promises between the functions of this crate.
 pub mod inner

@@ -12,8 +12,8 @@ use Rattle.claims.specs.Verdicts.{relationsIn}
 use Rattle.claims.specs.Fields.{field}
 use Rattle.claims.proofs.Bytes.{field-length}
 use Rattle.search_store.specs.Store.{standingAt}
-use Rattle.search_fields.specs.FieldWords.{fieldWords, fieldLength}
-use Rattle.search_fields.proofs.Fields.{field-count}
+use Rattle.search_contents.specs.FieldWords.{fieldWords, fieldLength}
+use Rattle.search_contents.proofs.Fields.{field-count}
 use Rattle.search_sheet.specs.SheetWords.{prefixIn, wordBytes, fieldsFrom, provedSheet, refutedSheet}
 use Rattle.search_sheet.proofs.Steps.{word-length}
 

@@ -16,7 +16,7 @@ use Rattle.claims.specs.SheetWriting.{AllBytes}
 use Rattle.search_words.specs.declared.Shape.{Shape}
 use Rattle.search_words.specs.Systems.{wordSystem}
 use Rattle.search_store.specs.Store.{standingAt, prefixAt, Holds}
-use Rattle.search_fields.specs.FieldWords.{contentsWords, fieldWords}
+use Rattle.search_contents.specs.FieldWords.{contentsWords, fieldWords}
 use Rattle.search_sheet.specs.SheetWords.{prefixBytes, wordBytes, fieldsFrom, provedSheet, refutedSheet}
 use Rattle.search_sheet.proofs.PrefixIn.{prefix-kept}
 use Rattle.search_sheet.proofs.WordNumbers.{word-numbers}

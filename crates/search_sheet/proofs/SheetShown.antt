@@ -19,8 +19,8 @@ use Rattle.search_words.specs.Over.{shown}
 use Rattle.search_words.proofs.GoodStandings.{AllListedGood}
 use Rattle.search_words.proofs.PathShown.{TwoWords, pathOf}
 use Rattle.search_words.proofs.RingShown.{ringShown, GoodRing}
-use Rattle.search_fields.specs.FieldWords.{contentsWords}
-use Rattle.search_fields.proofs.FieldShown.{path-contents, ring-contents}
+use Rattle.search_contents.specs.FieldWords.{contentsWords}
+use Rattle.search_contents.proofs.FieldShown.{path-contents, ring-contents}
 
 module _ (S W : System) (show : W .Standing → S .Standing) (Good : W .Standing → Type 0)
     (contents : S .Standing → List ℕ) (ofWords : W .Standing → List ℕ)

@@ -14,10 +14,10 @@ use Rattle.claims.specs.Verdicts.{relationsIn}
 use Rattle.claims.proofs.Bytes.{bigEndian-length}
 use Rattle.standings.proofs.Upto.{upto-more}
 use Rattle.search_store.specs.Store.{standingAt, parentAt, letterAt, Room}
-use Rattle.search_fields.specs.Written.{written, over}
-use Rattle.search_fields.specs.FieldWords.{fieldWords, fieldLength}
-use Rattle.search_fields.proofs.Written.{written-next, over-none, over-next, over-before, length-written}
-use Rattle.search_fields.proofs.Fields.{field-of, field-count}
+use Rattle.search_contents.specs.Written.{written, over}
+use Rattle.search_contents.specs.FieldWords.{fieldWords, fieldLength}
+use Rattle.search_contents.proofs.Written.{written-next, over-none, over-next, over-before, length-written}
+use Rattle.search_contents.proofs.Fields.{field-of, field-count}
 use Rattle.search_sheet.specs.SheetWords.{Falling, prefixWithin, prefixIn, letterBytes, prefixBytes, wordHead, wordBytes, fieldsFrom, refutedSheet}
 use Rattle.search_sheet.proofs.PrefixIn.{prefix-more}
 

@@ -8,7 +8,7 @@ use Rattle.kat.specs.Word.{Word, end, at, numbers}
 use Rattle.kat.specs.Ring.{Prefix, nothing, then, onto}
 use Rattle.claims.specs.Fields.{bigEndian}
 use Rattle.claims.specs.SheetWriting.{AllBytes}
-use Rattle.search_fields.proofs.FieldShown.{one-byte}
+use Rattle.search_contents.proofs.FieldShown.{one-byte}
 use Rattle.search_sheet.specs.SheetWords.{prefixBytes}
 
 -- a number of what comes behind a prefix is one of the whole word

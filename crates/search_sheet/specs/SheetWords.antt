@@ -9,7 +9,7 @@ use Rattle.kat.specs.Lists.{upto}
 use Rattle.kat.specs.Ring.{Prefix, nothing, then}
 use Rattle.claims.specs.Fields.{bigEndian, field}
 use Rattle.search_store.specs.Store.{standingAt, parentAt, letterAt}
-use Rattle.search_fields.specs.FieldWords.{fieldWords}
+use Rattle.search_contents.specs.FieldWords.{fieldWords}
 
 -- a letter, 16 * atom + relation, as two bytes: the atom, and the relation behind it ("Sheet and graph bytes")
 unfoldable pub letterBytes : ℕ → List ℕ

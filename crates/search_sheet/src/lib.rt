@@ -3,9 +3,9 @@
 // claim comes as its record, by value, and one of a ring claim from the words. Each field is put at the start of the part of the buffer
 // that is not written yet, and its writer returns how many bytes it put there; the buffer around it is left as it is. What is required of the
 // room in it is what the search call has tested (refusal 11), and of the memory what the search leaves there.
-use search_fields::put_header;
-use search_fields::put_number;
 use search_fields::put_standing;
+use search_numbers::put_header;
+use search_numbers::put_number;
 use search_records::Record;
 ghost use Prim.Native.Nat.{ℕ, _+_, _*_, _≤_};
 ghost use mathlib.Core.Path.{_≡_};
@@ -16,8 +16,8 @@ ghost use Rattle.claims.specs.Fields.{bigEndian, field};
 ghost use Rattle.search_words.specs.Systems.{width};
 ghost use Rattle.search_records.specs.Rows.{recordAt};
 ghost use Rattle.search_store.specs.Store.{standingAt, parentAt, letterAt};
-ghost use Rattle.search_fields.specs.Written.{written, over};
-ghost use Rattle.search_fields.specs.FieldWords.{fieldWords, fieldLength};
+ghost use Rattle.search_contents.specs.Written.{written, over};
+ghost use Rattle.search_contents.specs.FieldWords.{fieldWords, fieldLength};
 ghost use Rattle.search_sheet.specs.SheetWords.{letterBytes, wordHead};
 
 // How many bytes the sheet of a proved claim with n standings has.

@@ -2,12 +2,10 @@
 // (Document 01, "Sheet and graph bytes".) The length of the sheet is tested before its first byte is written (refusal 11); that of a word
 // is known once the relations of its prefix are counted. The letters are put from the last to the first, since a standing has its parent.
 // What is required of the sheet is how the turn before has left it, and of the standings what the allowance lets through.
+use search_listing::Writing;
 use search_records::Record;
-use search_sheet::proved_length;
 use search_sheet::put_frame;
-use search_sheet::put_kept;
 use search_sheet::put_letter;
-use search_sheet::put_verdict;
 use search_store::letter;
 use search_store::parent;
 ghost use Prim.Native.Nat.{ℕ, _+_, _*_, _-_, _≤_, _<_};
@@ -18,87 +16,8 @@ ghost use lib.ListN.{length};
 ghost use Rattle.claims.specs.Verdicts.{relationsIn};
 ghost use Rattle.search_records.specs.Rows.{recordAt};
 ghost use Rattle.search_store.specs.Store.{Room};
-ghost use Rattle.search_fields.specs.FieldWords.{fieldLength};
 ghost use Rattle.search_sheet.specs.SheetWords.{Falling, prefixIn};
-ghost use Rattle.search_writing.specs.Left.{looksAt, atEnd, FieldsLeft, RelationsLeft, LettersLeft, ProofStands, WordStands, proofTurns, wordTurns};
-
-// Whether standing `at` is to be looked at, or the end is reached; whether it is looked at to count; whether the buffer is too short; how many
-// relations are counted, and how many letters are left to be put.
-pub struct Writing {
-    pub going: bool,
-    pub counting: bool,
-    pub short: bool,
-    pub at: usize,
-    pub count: usize,
-    pub letters: usize,
-}
-
-// Standing `at` is looked at next.
-fn looking(counting: bool, at: usize, count: usize, letters: usize) -> Writing
-    ensures { λ x. ⌜ x ≡ looksAt counting at count letters ⌝ }
-{
-    Writing {
-        going: true,
-        counting,
-        short: false,
-        at,
-        count,
-        letters,
-    }
-}
-
-// No standing is left to be looked at.
-pub fn ended(short: bool, count: usize) -> Writing
-    ensures { λ x. ⌜ x ≡ atEnd short count ⌝ }
-{
-    Writing {
-        going: false,
-        counting: false,
-        short,
-        at: 0,
-        count,
-        letters: 0,
-    }
-}
-
-// The sheet of a proved claim with n standings: the verdict, where the buffer is long enough for the sheet.
-pub fn begin_fields(ring: bool, n: usize, buffer: &mut [u8]) -> Writing
-    requires { ⌜ n ≤ 4096 ⌝ }
-    ensures { λ x.
-        ⌜ ((r : List (List ℕ)) (w : List ℕ) → Room ring r w n → ProofStands ring r w (now (buffer .entry)) n x (now (buffer .exit))) ⌝ }
-{
-    let length = proved_length(ring, n);
-    if buffer.len() < length {
-        return ended(true, 0);
-    }
-    put_verdict(buffer, 1);
-    if 0 < n {
-        return looking(false, 0, 0, 0);
-    }
-    ended(false, 0)
-}
-
-// The field of standing i of n.
-pub fn next_field(
-    ring: bool,
-    from: Record,
-    words: &[u64],
-    n: usize,
-    i: usize,
-    buffer: &mut [u8],
-) -> Writing
-    requires { ⌜ (ring ≡ true → 40 * n ≤ length (now words)) × (n ≤ 4096) × (i < n) × (4 + fieldLength ring * n ≤ length (now buffer)) ⌝ }
-    ensures { λ x.
-        ⌜ ((r : List (List ℕ)) (b₀ : List ℕ) → from ≡ recordAt r i → FieldsLeft ring r (now (words .entry)) b₀ n i (now (buffer .entry))
-        → ProofStands ring r (now (words .entry)) b₀ n x (now (buffer .exit)) × (proofTurns n x < n - i)) ⌝ }
-{
-    let at = proved_length(ring, i);
-    put_kept(ring, from, words, i, &mut buffer[at..]);
-    if i + 1 < n {
-        return looking(false, i + 1, 0, 0);
-    }
-    ended(false, 0)
-}
+ghost use Rattle.search_listing.specs.Left.{RelationsLeft, LettersLeft, WordStands, wordTurns};
 
 // The sheet of a word whose prefix is that of a place and has n relations: all but its letters, where the buffer is long enough for the sheet.
 fn begin_letters(place: usize, last: usize, n: usize, buffer: &mut [u8]) -> Writing
@@ -109,13 +28,13 @@ fn begin_letters(place: usize, last: usize, n: usize, buffer: &mut [u8]) -> Writ
 {
     let length = 8 + 2 * n;
     if buffer.len() < length {
-        return ended(true, n);
+        return search_listing::ended(true, n);
     }
     put_frame(buffer, n, last);
     if place == 0 {
-        return ended(false, n);
+        return search_listing::ended(false, n);
     }
-    looking(false, place - 1, n, n)
+    search_listing::looking(false, place - 1, n, n)
 }
 
 // The sheet of the word of a place and a last atom: the relations of its prefix are counted first.
@@ -128,7 +47,7 @@ pub fn begin_word(place: usize, last: usize, buffer: &mut [u8]) -> Writing
     if place == 0 {
         return begin_letters(place, last, 0, buffer);
     }
-    looking(true, place - 1, 0, 0)
+    search_listing::looking(true, place - 1, 0, 0)
 }
 
 // One relation more, that of standing i, behind n that are counted.
@@ -151,7 +70,7 @@ fn next_relation(
     if before == 0 {
         return begin_letters(place, last, n + 1, buffer);
     }
-    looking(true, before - 1, n + 1, 0)
+    search_listing::looking(true, before - 1, n + 1, 0)
 }
 
 // The letter of standing i, the last of k that are left of n.
@@ -173,9 +92,9 @@ fn next_letter(
     put_letter(buffer, 7 + 2 * (k - 1), letter(ring, from, words, i));
     let here = parent(ring, from, words, i) as usize;
     if here == 0 {
-        return ended(false, n);
+        return search_listing::ended(false, n);
     }
-    looking(false, here - 1, n, k - 1)
+    search_listing::looking(false, here - 1, n, k - 1)
 }
 
 // One turn of the word of a place and a last atom.

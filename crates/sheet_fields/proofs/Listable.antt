@@ -14,7 +14,7 @@ use Rattle.claims.specs.SheetWriting.{AllBytes}
 use Rattle.fields.proofs.Cells.{cells-length, cells-small}
 use Rattle.sheet_cells.specs.Layout.{cellCount, standingCells, listedCells}
 use Rattle.sheet_cells.specs.CellSystem.{cellsFit}
-use Rattle.sheet_index.specs.Index.{lastWhere}
+use Rattle.sheet_slots.specs.Index.{lastWhere}
 use Rattle.sheet_fits.specs.Small.{SmallCells}
 use Rattle.sheet_fields.specs.inner.Steps.{sized, mayList}
 

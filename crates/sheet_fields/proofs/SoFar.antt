@@ -31,8 +31,8 @@ use Rattle.sheet_cells.specs.CellSystem.{cellsFit, cellsShow}
 use Rattle.sheet_cells.specs.Good.{GoodCells}
 use Rattle.sheet_cells.proofs.FieldCells.{FieldAt, field-at, contents-other}
 use Rattle.sheet_cells.proofs.ByKind.{contents-read, cells-good}
-use Rattle.sheet_index.specs.Index.{lastWhere}
-use Rattle.sheet_index.proofs.Kept.{listed-found}
+use Rattle.sheet_slots.specs.Index.{lastWhere}
+use Rattle.sheet_slots.proofs.Kept.{listed-found}
 use Rattle.sheet_word.proofs.Refuted.{decided-shows}
 use Rattle.query.specs.Decided.{Decided}
 use Rattle.query.specs.declared.Facts.{Facts}

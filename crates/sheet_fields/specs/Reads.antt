@@ -16,7 +16,7 @@ use Rattle.claims.specs.SheetReading.{Said, saysProved, saysRefuted, Part as Pa
 use Rattle.sheet_cells.specs.Layout.{fieldLength, listedCells}
 use Rattle.sheet_cells.specs.CellSystem.{cellsShow}
 use Rattle.sheet_cells.specs.Good.{GoodCells}
-use Rattle.sheet_index.specs.Index.{Indexed}
+use Rattle.sheet_slots.specs.Index.{Indexed}
 use Rattle.sheet_fields.specs.declared.Part.{Part}
 use Rattle.sheet_fields.specs.declared.Part.the-variants.{Proved, Refuted, Wrong}
 

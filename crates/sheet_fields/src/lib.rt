@@ -12,7 +12,7 @@ ghost use Rattle.claims.specs.Fields.{nextField};
 ghost use Rattle.claims.specs.SheetReading.{standingsIn, wordFrom, partIn};
 ghost use Rattle.words.specs.Memory.{zeros};
 ghost use Rattle.sheet_cells.specs.Layout.{fieldLength, listedCells};
-ghost use Rattle.sheet_index.specs.Index.{Indexed};
+ghost use Rattle.sheet_slots.specs.Index.{Indexed};
 ghost use Rattle.query.specs.Decided.{Decided};
 ghost use Rattle.sheet_fields.specs.Reads.{Inside, Reads};
 ghost use Rattle.sheet_fields.specs.inner.Steps.{VerdictAt, sized, mayList};
@@ -87,7 +87,7 @@ fn may_list(
         return false;
     }
     let mut cells = [0u64; 67];
-    sheet_kinds::load(sheet, at, f.ring, &mut cells);
+    sheet_load::load(sheet, at, f.ring, &mut cells);
     if !sheet_fits::fits(f.ring, f.atoms, f.left, f.right, &cells) {
         return false;
     }

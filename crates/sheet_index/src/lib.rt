@@ -8,92 +8,8 @@ ghost use Prim.Native.Nat.{suc, _+_, _*_, _≤_, _<_};
 ghost use mathlib.Core.Path.{_≡_};
 ghost use lib.ListN.{length, take};
 ghost use Rattle.claims.specs.Bytes.{same};
-ghost use Rattle.fields.specs.Places.{cellsAt};
-ghost use Rattle.sheet_cells.specs.Layout.{cellCount, fieldLength, cellStart, listedCells};
-ghost use Rattle.sheet_index.specs.Index.{mixed, slotOf, lastWhere, Indexed};
-
-// A hash with one cell more. The hash is kept below 2^32, so that the product fits.
-fn mixed(h: u64, c: u64) -> u64
-    requires { ⌜ h < 4294967296 ⌝ }
-    ensures { λ r. ⌜ (r ≡ mixed h c) × (r < 4294967296) ⌝ }
-{
-    (h + c % 4294967296) * 2146121005 / 1048576 % 4294967296
-}
-
-// The number of cells of a standing.
-fn count(ring: bool) -> usize
-    ensures { λ r. ⌜ (r ≡ cellCount ring) × (r ≤ 67) ⌝ }
-{
-    if ring {
-        return 67;
-    }
-    4
-}
-
-// The place in the sheet at which the cells of standing i begin.
-fn begin(sheet: &[u8], base: usize, ring: bool, i: usize) -> usize
-    requires { ⌜ base + fieldLength ring * suc i ≤ length (now sheet) ⌝ }
-    ensures { λ r.
-        ⌜ (r ≡ base + fieldLength ring * i + cellStart ring) × (r + 4 * cellCount ring ≤ length (now (sheet .entry))) ⌝ }
-{
-    if ring {
-        return base + 269 * i + 1;
-    }
-    base + 19 * i + 3
-}
-
-// The slot of n cells in the sheet.
-fn slot_at(sheet: &[u8], from: usize, n: usize) -> usize
-    requires { ⌜ from + 4 * n ≤ length (now sheet) ⌝ }
-    ensures { λ r. ⌜ (r ≡ slotOf (cellsAt (now (sheet .entry)) from n)) × (r < 8192) ⌝ }
-{
-    let mut h: u64 = 0;
-    let mut j: usize = 0;
-    while j < n {
-        let c = fields::cell_within(sheet, from + 4 * j);
-        h = mixed(h, c);
-        j += 1;
-    }
-    (h % 8192) as usize
-}
-
-// The slot of the first n cells of a candidate.
-fn slot_of(cells: &[u64], n: usize) -> usize
-    requires { ⌜ n ≤ length (now cells) ⌝ }
-    ensures { λ r. ⌜ (r ≡ slotOf (take n (now (cells .entry)))) × (r < 8192) ⌝ }
-{
-    let mut h: u64 = 0;
-    let mut j: usize = 0;
-    while j < n {
-        h = mixed(h, cells[j]);
-        j += 1;
-    }
-    (h % 8192) as usize
-}
-
-// Whether n cells in the sheet are the first n of a candidate; two a turn.
-fn equal_at(sheet: &[u8], from: usize, n: usize, cells: &[u64]) -> bool
-    requires { ⌜ (from + 4 * n ≤ length (now sheet)) × (n ≤ length (now cells)) ⌝ }
-    ensures { λ r. ⌜ r ≡ same (cellsAt (now (sheet .entry)) from n) (take n (now (cells .entry))) ⌝ }
-{
-    let mut j: usize = 0;
-    while j + 1 < n {
-        if fields::cell_within(sheet, from + 4 * j) != cells[j] {
-            return false;
-        }
-        if fields::cell_within(sheet, from + 4 * (j + 1)) != cells[j + 1] {
-            return false;
-        }
-        j += 2;
-    }
-    if j < n {
-        if fields::cell_within(sheet, from + 4 * j) != cells[j] {
-            return false;
-        }
-        return true;
-    }
-    true
-}
+ghost use Rattle.sheet_cells.specs.Layout.{cellCount, fieldLength, listedCells};
+ghost use Rattle.sheet_slots.specs.Index.{lastWhere, Indexed};
 
 // The place of the last standing listed that has these cells, or 0: only those in the slot of the candidate are looked at.
 pub fn find(
@@ -110,12 +26,12 @@ pub fn find(
     ensures { λ r.
         ⌜ r ≡ lastWhere (λ i. same (listedCells ring (now (sheet .entry)) base i) (take (cellCount ring) (now (cells .entry)))) n ⌝ }
 {
-    let k = count(ring);
-    let slot = slot_of(cells, k);
+    let k = sheet_slots::count(ring);
+    let slot = sheet_slots::slot_of(cells, k);
     let mut place = heads[slot] as usize;
     while 0 < place {
-        let from = begin(sheet, base, ring, place - 1);
-        if equal_at(sheet, from, k, cells) {
+        let from = sheet_slots::begin(sheet, base, ring, place - 1);
+        if sheet_equal::equal_at(sheet, from, k, cells) {
             return place;
         }
         place = chain[place - 1] as usize;
@@ -136,9 +52,9 @@ pub fn add(
         × (base + fieldLength ring * suc n ≤ length (now sheet)) ⌝ }
     ensures { λ r. ⌜ Indexed (now (heads .exit)) (now (chain .exit)) (listedCells ring (now (sheet .entry)) base) (suc n) ⌝ }
 {
-    let from = begin(sheet, base, ring, n);
-    let k = count(ring);
-    let slot = slot_at(sheet, from, k);
+    let from = sheet_slots::begin(sheet, base, ring, n);
+    let k = sheet_slots::count(ring);
+    let slot = sheet_slots::slot_at(sheet, from, k);
     chain[n] = heads[slot];
     heads[slot] = (n + 1) as u64;
 }

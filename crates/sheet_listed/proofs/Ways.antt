@@ -13,8 +13,8 @@ use Rattle.claims.specs.Standings.{Letter}
 use Rattle.query.specs.declared.Facts.{Facts}
 use Rattle.sheet_cells.specs.Layout.{listedCells}
 use Rattle.sheet_cells.specs.CellSystem.{leftSet, beginCells, onwardCells}
-use Rattle.sheet_index.specs.Index.{lastWhere}
-use Rattle.sheet_index.proofs.Kept.{listed-found}
+use Rattle.sheet_slots.specs.Index.{lastWhere}
+use Rattle.sheet_slots.proofs.Kept.{listed-found}
 use Rattle.sheet_listed.specs.Listed.{partCells, listedAmong, atomsTried, stepped, atomsListed, relationListed}
 
 module _ (ring : Bool) (bs : List ℕ) (base n : ℕ) (s : List ℕ) (x : Bool) (e : x ≡ not (eqb (leftSet ring s) 0)) where

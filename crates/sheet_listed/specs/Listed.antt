@@ -13,7 +13,7 @@ use Rattle.bits.specs.Sets.{members}
 use Rattle.query.specs.declared.Facts.{Facts}
 use Rattle.sheet_cells.specs.Layout.{fieldLength, listedCells}
 use Rattle.sheet_cells.specs.CellSystem.{leftSet, beginCells, onwardCells}
-use Rattle.sheet_index.specs.Index.{Indexed}
+use Rattle.sheet_slots.specs.Index.{Indexed}
 
 -- n standings lie in the sheet from place base on, and the index is theirs ("Sheet and graph bytes")
 abbrev pub Ready : Bool → List ℕ → ℕ → ℕ → List ℕ → List ℕ → Type 0

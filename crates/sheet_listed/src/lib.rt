@@ -4,7 +4,7 @@ use query::Facts;
 use sheet_index::find;
 use sheet_kinds::begin;
 use sheet_kinds::onward;
-use sheet_kinds::possible;
+use sheet_load::possible;
 ghost use Prim.Native.Nat.{_<_};
 ghost use mathlib.Core.Path.{_≡_};
 ghost use lib.ListN.{take};

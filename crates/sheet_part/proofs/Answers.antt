@@ -21,8 +21,8 @@ use Rattle.sheet_fields.specs.declared.Part.{Part}
 use Rattle.sheet_fields.specs.declared.Part.the-variants.{Proved as ProvedAt, Refuted as RefutedAt, Wrong as WrongAt}
 use Rattle.sheet_fields.specs.Reads.{ListedAt, Inside, Says, Reads}
 use Rattle.sheet_listed.specs.Listed.{Ready, partCells}
-use Rattle.sheet_proves.specs.Proves.{provesCells}
-use Rattle.sheet_proves.proofs.Passes.{proves-passes}
+use Rattle.sheet_passing.specs.Proves.{provesCells}
+use Rattle.sheet_passing.proofs.Passes.{proves-passes}
 use Rattle.sheet_part.specs.declared.Tested.{Tested}
 use Rattle.sheet_part.specs.declared.Tested.the-variants.{Proved, Refuted, Wrong}
 use Rattle.sheet_part.specs.Tests.{Tests, TestsPart}

@@ -3,43 +3,14 @@
 // the index, and that the standings lie in the sheet, is what the reader of the part leaves.
 use query::Facts;
 use sheet_kinds::completes;
-use sheet_kinds::load;
 use sheet_listed::letters_listed;
-use sheet_steps::null_at;
+use sheet_load::load;
 ghost use Prim.Native.Nat.{_+_, _*_, _^_, _<_};
 ghost use mathlib.Core.Path.{_≡_};
-ghost use mathlib.Core.Bool.{not, _&&_};
-ghost use Rattle.kat.specs.Lists.{isEmpty};
-ghost use Rattle.standings.specs.Steps.{nullAt, aloneWords};
 ghost use Rattle.sheet_cells.specs.Layout.{fieldLength};
 ghost use Rattle.sheet_listed.specs.Listed.{Ready, partCells};
-ghost use Rattle.sheet_proves.specs.Proves.{provesCells};
-ghost use Rattle.sheet_proves.specs.inner.Standings.{placePasses, placesPass};
-
-// Whether the single atom a is a left word and no right word.
-fn alone_refutes(left: &[u64; 4241], right: &[u64; 4241], a: usize) -> bool
-    ensures { λ b. ⌜ b ≡ (nullAt (now (left .entry)) a && not (nullAt (now (right .entry)) a)) ⌝ }
-{
-    if null_at(left, a) {
-        return !null_at(right, a);
-    }
-    false
-}
-
-// Whether no live atom refutes by itself.
-fn none_alone(left: &[u64; 4241], right: &[u64; 4241], live: u64) -> bool
-    ensures { λ b. ⌜ b ≡ isEmpty (aloneWords (now (left .entry)) (now (right .entry)) live) ⌝ }
-{
-    let mut rest = live;
-    while rest != 0 {
-        let a = u64::trailing_zeros(rest) as usize;
-        if alone_refutes(left, right, a) {
-            return false;
-        }
-        rest = rest & (rest - 1);
-    }
-    true
-}
+ghost use Rattle.sheet_passing.specs.Proves.{provesCells};
+ghost use Rattle.sheet_passing.specs.inner.Standings.{placePasses, placesPass};
 
 // Where the field of standing i begins. It lies in the sheet, so that the place is a number of the machine.
 fn place(ring: bool, base: usize, i: usize) -> usize
@@ -127,7 +98,7 @@ pub fn proves(
     requires { ⌜ Ready (f .ring) (now sheet) base n (now heads) (now chain) ⌝ }
     ensures { λ b. ⌜ b ≡ provesCells f (now (left .entry)) (now (right .entry)) (partCells (f .ring) (now (sheet .entry)) base n) ⌝ }
 {
-    let none = none_alone(left, right, f.live);
+    let none = sheet_alone::none_alone(left, right, f.live);
     if !none {
         return false;
     }

@@ -1,4 +1,2 @@
--- The rows of M.
-pub mod Rows
 -- The cells of a standing, and that they have four bytes.
 pub mod Standing

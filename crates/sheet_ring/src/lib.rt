@@ -7,7 +7,6 @@ use sheet_steps::step_from;
 use sheet_steps::step_set;
 use sheet_steps::whole;
 use words::clear;
-use words::word;
 ghost use Prim.Native.Nat.{ℕ, _/_, _^_, _≤_, _<_};
 ghost use mathlib.Core.Path.{_≡_};
 ghost use mathlib.Core.List.{_++_};
@@ -20,41 +19,6 @@ ghost use Rattle.standings.specs.Steps.{stepFrom, stepSet, joined};
 ghost use Rattle.sheet_cells.specs.Layout.{wide};
 ghost use Rattle.sheet_cells.specs.RingCells.{headCell, rowM, raised, flag, sent, ringBegin, ringOnward};
 ghost use Rattle.sheet_ring.specs.inner.Head.{headed};
-
-// A row of M one letter on, which is empty where the row is.
-fn row_on(right: &[u64; 4241], row: u64, a: usize, r: usize) -> u64
-    ensures { λ w. ⌜ w ≡ raised (stepSet (now (right .entry)) (row / 2) a r) ⌝ }
-{
-    let s = row / 2;
-    if s == 0 {
-        return 0;
-    }
-    step_set(right, s, a, r) % 2147483648 * 2
-}
-
-// The rows of M one letter on. M has 32 rows.
-fn rows_on(right: &[u64; 4241], from: &[u64], a: usize, r: usize, to: &mut [u64])
-    requires { ⌜ length (now to) ≡ 32 ⌝ }
-    ensures { λ x. ⌜ now (to .exit) ≡ words 32 (λ p. raised (stepSet (now (right .entry)) (rowM (now (from .entry)) p / 2) a r)) ⌝ }
-{
-    let mut p = 0;
-    while p < 32 {
-        to[p] = row_on(right, word(from, 3 + p), a, r);
-        p += 1;
-    }
-}
-
-// The rows of M of a prefix of one relation. M has 32 rows.
-fn first_rows(right: &[u64; 4241], a: usize, r: usize, to: &mut [u64])
-    requires { ⌜ length (now to) ≡ 32 ⌝ }
-    ensures { λ x. ⌜ now (to .exit) ≡ words 32 (λ p. raised (stepFrom (now (right .entry)) p a r)) ⌝ }
-{
-    let mut p = 0;
-    while p < 32 {
-        to[p] = step_from(right, p, a, r) % 2147483648 * 2;
-        p += 1;
-    }
-}
 
 // Z, where it was z, and whether the atom is a right word.
 fn flagged(z: u64, null: bool) -> u64
@@ -81,7 +45,7 @@ fn lay_first(right: &[u64; 4241], a: usize, r: usize, to: &mut [u64])
     requires { ⌜ length (now to) ≡ 67 ⌝ }
     ensures { λ x. ⌜ now (to .exit) ≡ take 3 (now (to .entry)) ++ (words 32 (λ p. raised (stepFrom (now (right .entry)) p a r)) ++ zeros 32) ⌝ }
 {
-    first_rows(right, a, r, &mut to[3..35]);
+    sheet_rows::first_rows(right, a, r, &mut to[3..35]);
     clear(&mut to[35..67]);
 }
 
@@ -93,7 +57,7 @@ fn lay_on(right: &[u64; 4241], from: &[u64], a: usize, r: usize, to: &mut [u64])
         ++ words 32 (λ q. cond (eqb q 0) 0
         (joined (now (right .entry)) (record { atom = a; relation = r }) (sent (now (right .entry)) (now (from .entry)) a) q (upto 0 32)))) ⌝ }
 {
-    rows_on(right, from, a, r, &mut to[3..35]);
+    sheet_rows::rows_on(right, from, a, r, &mut to[3..35]);
     pairs_on(right, from, a, r, &mut to[35..67]);
 }
 

@@ -2,8 +2,8 @@
 -- Assumes nothing.
 use mathlib.Core.Path.{refl, ap}
 use Rattle.claims.specs.Calls.{Lent}
-use Rattle.search_run.specs.Outcomes.{lentOf}
-use Rattle.fence_line.proofs.OutcomeLines.{puts-same, program-line, program-says}
+use Rattle.search_report.specs.Outcomes.{lentOf}
+use Rattle.outcome_lines.proofs.OutcomeLines.{puts-same, program-line, program-says}
 use borrow.Author.Needs.{needs}
 use Rattle.fence_line.proofs.line.Statement.{statement}
 use Rattle.fence_line.proofs.line.Tie as tie

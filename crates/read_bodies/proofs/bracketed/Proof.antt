@@ -1,7 +1,7 @@
 -- `read_bodies::bracketed` meets its contract: a bracket that is not there is a fault of the notation, and between the two stands a T.
 -- Assumes nothing.
 use Rattle.read_bodies.proofs.Parts.{failed, bracket-missing, bracket-failed, bracket-unclosed, bracket-got}
-use Rattle.read_tests.proofs.Next.{mark-stands, mark-missing}
+use Rattle.read_next.proofs.Next.{mark-stands, mark-missing}
 use native.Mathlib.Omega.{arith}
 use borrow.Author.Needs.{needs}
 use Rattle.read_bodies.proofs.bracketed.Statement.{statement}

@@ -2,7 +2,7 @@
 -- Assumes nothing.
 use Rattle.read_bodies.proofs.Bodies.{let-none, let-unequal, let-passed}
 use Rattle.read_bodies.proofs.NextWords.{no-word, token-found, declared-missing}
-use Rattle.read_tests.proofs.Next.{mark-stands, mark-missing}
+use Rattle.read_next.proofs.Next.{mark-stands, mark-missing}
 use native.Mathlib.Omega.{arith}
 use borrow.Author.Needs.{needs}
 use Rattle.read_bodies.proofs.let_body.Statement.{statement}

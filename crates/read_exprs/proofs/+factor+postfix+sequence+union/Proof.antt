@@ -5,7 +5,7 @@ use mathlib.Core.Path.{refl, sym, _∙_}
 use Prim.Native.Nat.{ℕ, _+_, _-_, _*_, _<_}
 use native.Mathlib.Omega.{arith}
 use lib.ListN.{length}
-use Rattle.read_tests.proofs.Next.{mark-stands}
+use Rattle.read_next.proofs.Next.{mark-stands}
 use Rattle.read_tests.proofs.Loops.{loop-fault, loop-room, loop-onward, loop-got, loop-turn}
 use Rattle.read_tests.proofs.Chains.{Waiting, chain-start}
 use Rattle.read_tests.proofs.Bracketed.{inner-fault, inner-open, inner-closed}
@@ -29,8 +29,8 @@ use Rattle.read_exprs.proofs.union.Kinds as union-kinds
 use Rattle.read_exprs.proofs.+factor+postfix+sequence+union.Lts-union as union-lts
 use Rattle.read_exprs.proofs.leaf.Reads as leaf-reads
 use Rattle.read_exprs.proofs.postfixes.Reads as postfixes-reads
-use Rattle.read_tests.proofs.mark_next.Reads as mark-next-reads
-use Rattle.read_tests.proofs.write.Reads as write-reads
+use Rattle.read_next.proofs.mark_next.Reads as mark-next-reads
+use Rattle.read_next.proofs.write.Reads as write-reads
 use Rattle.read_exprs.proofs.+factor+postfix+sequence+union.{statement}
 use Rattle.read_exprs.proofs.+factor+postfix+sequence+union.Tie.{close}
 

@@ -1,7 +1,7 @@
 -- `read_exprs::leaf` meets its contract: the laws of square brackets and of names.
 -- Assumes nothing.
 use native.Mathlib.Omega.{arith}
-use Rattle.read_tests.proofs.Next.{mark-stands}
+use Rattle.read_next.proofs.Next.{mark-stands}
 use Rattle.read_tests.proofs.Bracketed.{inner-fault, inner-open, inner-closed, inner-room}
 use Rattle.read_exprs.proofs.Trees.{squareBracket, factor-named}
 use borrow.Author.Needs.{needs}

@@ -6,8 +6,8 @@ use mathlib.Core.Bool.{false}
 use Rattle.read_bodies.specs.Bodies.{Declares, DeclaresLet, oneSide}
 use Rattle.read_bodies.proofs.Bodies.{test-declares, relation-declares, never-passed}
 use Rattle.read_bodies.proofs.Sides.{assumes-empty, assumes-irreflexive}
-use Rattle.read_lines.specs.inner.Kinds.{readsAt, SortOf}
-use Rattle.read_lines.proofs.Declaring.{test-names, relation-names, next-declared, next-let}
+use Rattle.read_declarations.specs.inner.Kinds.{readsAt, SortOf}
+use Rattle.read_declarations.proofs.Declaring.{test-names, relation-names, next-declared, next-let}
 use Rattle.read_lines.proofs.Sorts.{body-sorted, body-at, reads-none}
 use borrow.Author.Needs.{needs}
 use Rattle.read_lines.proofs.body.Statement.{statement}

@@ -3,7 +3,7 @@
 -- Assumes nothing.
 use mathlib.Core.Path.{subst}
 use Rattle.claims.specs.Lines.{lineKinds}
-use Rattle.read_lines.specs.inner.Kinds.{readsAt, SortOf}
+use Rattle.read_declarations.specs.inner.Kinds.{readsAt, SortOf}
 use Rattle.read_lines.proofs.FirstWords.{kind-at}
 use Rattle.read_lines.proofs.Taken.{declared-outcome, plain-outcome}
 use Rattle.read_lines.proofs.Sorts.{sort-bare}

@@ -6,7 +6,7 @@ use native.Mathlib.Omega.{arith}
 use mathlib.Core.Path.{_≡_, sym, _∙_}
 use lib.ListN.{drop}
 use Rattle.claims.specs.Lines.{lineKinds}
-use Rattle.read_lines.specs.inner.Kinds.{kindPlace}
+use Rattle.read_declarations.specs.inner.Kinds.{kindPlace}
 use Rattle.read_lines.proofs.FirstWords.{place-start, place-here, place-next, place-end}
 use borrow.Author.Needs.{needs}
 use Rattle.read_lines.proofs.line_word.Statement.{statement}

@@ -6,7 +6,7 @@ use native.Mathlib.Omega.{arith}
 use lib.ListN.{length}
 use Rattle.claims.specs.Grammar.{testWord}
 use Rattle.read_tests.specs.Places.{Is}
-use Rattle.read_tests.proofs.Next.{mark-stands}
+use Rattle.read_next.proofs.Next.{mark-stands}
 use Rattle.read_tests.proofs.Loops.{loop-fault, loop-room, loop-onward, loop-got, loop-turn}
 use Rattle.read_tests.proofs.Chains.{Waiting, chain-start}
 use Rattle.read_tests.proofs.Bracketed.{inner-fault, inner-open, inner-closed}
@@ -27,10 +27,10 @@ use Rattle.read_tests.proofs.+basic+meet+not+union.Lts-not as not-lts
 use Rattle.read_tests.proofs.union.Reads as union
 use Rattle.read_tests.proofs.union.Kinds as union-kinds
 use Rattle.read_tests.proofs.+basic+meet+not+union.Lts-union as union-lts
-use Rattle.read_tests.proofs.mark_next.Reads as mark-next-reads
-use Rattle.read_tests.proofs.marks_next.Reads as marks-next-reads
+use Rattle.read_next.proofs.mark_next.Reads as mark-next-reads
+use Rattle.read_next.proofs.marks_next.Reads as marks-next-reads
 use Rattle.read_tests.proofs.word.Reads as word-reads
-use Rattle.read_tests.proofs.write.Reads as write-reads
+use Rattle.read_next.proofs.write.Reads as write-reads
 use Rattle.read_tests.proofs.+basic+meet+not+union.{statement}
 use Rattle.read_tests.proofs.+basic+meet+not+union.Tie.{close}
 

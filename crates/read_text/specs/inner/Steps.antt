@@ -10,7 +10,7 @@ use lib.ListN.{length, drop}
 use Rattle.claims.specs.Query.{Query, tests, relations}
 use Rattle.claims.specs.Refusals.{Result, ok, refused}
 use Rattle.codes.specs.Codes.{queryCodes, claimKind}
-use Rattle.read_lines.specs.declared.State.{State}
+use Rattle.read_declarations.specs.declared.State.{State}
 use Rattle.read_text.specs.declared.Summary.{Summary}
 
 -- a byte that ends no line

@@ -5,8 +5,8 @@ use mathlib.Core.Path.{_∙_, ap}
 use lib.ListN.{getD}
 use Rattle.claims.specs.Fields.{bigEndian}
 use Rattle.claims.proofs.Bytes.{bigEndian-length}
-use Rattle.search_fields.specs.Written.{written}
-use Rattle.search_fields.proofs.Fields.{laid-header, laid-next, path-put}
+use Rattle.search_contents.specs.Written.{written}
+use Rattle.search_contents.proofs.Fields.{laid-header, laid-next, path-put}
 use borrow.Author.Needs.{needs}
 use Rattle.search_fields.proofs.put_path.Statement.{statement}
 use Rattle.search_fields.proofs.put_path.Tie as tie

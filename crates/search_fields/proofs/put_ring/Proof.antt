@@ -6,9 +6,9 @@ use mathlib.Core.Bool.{true, false}
 use lib.ListN.{getD}
 use Rattle.claims.specs.Fields.{bigEndian}
 use Rattle.claims.proofs.Bytes.{bigEndian-length}
-use Rattle.search_fields.specs.Written.{written}
-use Rattle.search_fields.specs.FieldWords.{rowsBytes}
-use Rattle.search_fields.proofs.Fields.{laid-header, laid-next, table-length, ring-put}
+use Rattle.search_contents.specs.Written.{written}
+use Rattle.search_contents.specs.FieldWords.{rowsBytes}
+use Rattle.search_contents.proofs.Fields.{laid-header, laid-next, table-length, ring-put}
 use borrow.Author.Needs.{needs}
 use Rattle.search_fields.proofs.put_ring.Statement.{statement}
 use Rattle.search_fields.proofs.put_ring.Tie as tie

@@ -2,9 +2,9 @@
 -- Assumes nothing.
 use native.Mathlib.Omega.{arith}
 use mathlib.Core.Path.{sym, _∙_, ap}
-use Rattle.search_fields.specs.Written.{written}
-use Rattle.search_fields.specs.FieldWords.{fieldWords}
-use Rattle.search_fields.proofs.Fields.{length-ring, length-path}
+use Rattle.search_contents.specs.Written.{written}
+use Rattle.search_contents.specs.FieldWords.{fieldWords}
+use Rattle.search_contents.proofs.Fields.{length-ring, length-path}
 use borrow.Author.Needs.{needs}
 use Rattle.search_fields.proofs.put_standing.Statement.{statement}
 use Rattle.search_fields.proofs.put_standing.Tie as tie

@@ -11,9 +11,9 @@ use mathlib.Core.List.{List, [], _∷_}
 use mathlib.Core.Path.{refl}
 use mir.Syntax.{w64}
 use Rattle.derivations.proofs.Plain as Plain
-use Rattle.search_levels.proofs.Answer.Laws as Answer′
+use Rattle.search_course.proofs.Answer.Laws as Answer′
 use Rattle.search_words.proofs.Shape.Laws as Shape′
-use Rattle.search_levels.proofs.Answer
+use Rattle.search_course.proofs.Answer
 use Rattle.search_records.proofs.Record
 use Rattle.search_words.proofs.Shape
 use Rattle.search_levels.proofs.levels as fn

@@ -18,22 +18,22 @@ use borrow.Fn.Plain.{Known, plainOf, t-fn-plain}
 use borrow.Fn.Run.{Over}
 use borrow.Fn.World.{World}
 use borrow.Author.Tests.{ltb-true, ltb-false}
-use Rattle.search_levels.specs.Turns.{turnWeight}
+use Rattle.search_course.specs.Turns.{turnWeight}
 use Rattle.search_levels.proofs.OverRecords.{loop-starts, loop-goes, loop-records, loop-words, loop-ends}
 use Rattle.derivations.proofs.Derive.{fix, homesOf}
 use Rattle.derivations.proofs.Plain as Plain
 use Rattle.search_levels.proofs.Contracts.Levels.{ps, r, spec}
-use Rattle.search_levels.proofs.start.Kinds as start-Kinds
-use Rattle.search_levels.proofs.start.Met as start-Met
-use Rattle.search_levels.proofs.start.Reads as start-Reads
-use Rattle.search_levels.proofs.start.Symbol as start-Symbol
+use Rattle.search_course.proofs.start.Kinds as start-Kinds
+use Rattle.search_course.proofs.start.Met as start-Met
+use Rattle.search_course.proofs.start.Reads as start-Reads
+use Rattle.search_course.proofs.start.Symbol as start-Symbol
 use Rattle.search_levels.proofs.turn.Met as turn-Met
 use Rattle.search_levels.proofs.turn.Symbol as turn-Symbol
 use Rattle.search_levels.proofs.Contracts.Turn as Turn
-use Rattle.search_levels.proofs.answer_of.Kinds as answer-of-Kinds
-use Rattle.search_levels.proofs.answer_of.Met as answer-of-Met
-use Rattle.search_levels.proofs.answer_of.Reads as answer-of-Reads
-use Rattle.search_levels.proofs.answer_of.Symbol as answer-of-Symbol
+use Rattle.search_course.proofs.answer_of.Kinds as answer-of-Kinds
+use Rattle.search_course.proofs.answer_of.Met as answer-of-Met
+use Rattle.search_course.proofs.answer_of.Reads as answer-of-Reads
+use Rattle.search_course.proofs.answer_of.Symbol as answer-of-Symbol
 use Rattle.search_levels.proofs.levels.Code as code
 use Rattle.search_levels.proofs.levels.Proof.Steps.{xs, d}
 use Rattle.search_levels.proofs.levels.Statement as stated
@@ -98,6 +98,6 @@ levels-spec {M} 𝓤 H 𝓜 𝓖 𝓡 =
     let w : World = record { M = M; 𝓤 = 𝓤; H = H; 𝓜 = 𝓜; 𝓖 = 𝓖; 𝓡 = 𝓡 } in
     Plain.close spec w code.env code.function (code.unfolded 𝓤 H 𝓜 𝓡)
     (triple 𝓤 H (𝓖 .A) (givenOf 𝓤 H 𝓜 𝓖) (Over 𝓤 H 𝓜 𝓖 𝓡 code.env)
-    (start-Reads.known w code.env start-Symbol.name start-Symbol.routine code.calls-search-levels·start (start-Met.met 𝓤 H 𝓜 𝓖 𝓡))
+    (start-Reads.known w code.env start-Symbol.name start-Symbol.routine code.calls-search-course·start (start-Met.met 𝓤 H 𝓜 𝓖 𝓡))
     (Plain.known Turn.spec w code.env turn-Symbol.name turn-Symbol.routine code.calls-search-levels·turn (turn-Met.met 𝓤 H 𝓜 𝓖 𝓡))
-    (answer-of-Reads.known w code.env answer-of-Symbol.name answer-of-Symbol.routine code.calls-search-levels·answer-of (answer-of-Met.met 𝓤 H 𝓜 𝓖 𝓡)))
+    (answer-of-Reads.known w code.env answer-of-Symbol.name answer-of-Symbol.routine code.calls-search-course·answer-of (answer-of-Met.met 𝓤 H 𝓜 𝓖 𝓡)))

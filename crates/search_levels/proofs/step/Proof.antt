@@ -1,6 +1,6 @@
 use Rattle.search_levels.proofs.OneTurn.{quieted, at-quieted, stepped-quieted, weight-quieted, small-tryable, at-before}
-use Rattle.search_levels.proofs.OneCandidate.{quiet-steps}
-use Rattle.search_levels.proofs.Phases.{masks-begin, masks-grow}
+use Rattle.search_candidates.proofs.OneCandidate.{quiet-steps}
+use Rattle.search_course.proofs.Phases.{masks-begin, masks-grow}
 use Rattle.search_records.specs.Rows.{recordAt}
 use mathlib.Core.Logic._⊎_.{inl, inr}
 use mathlib.Core.Path.{_≡_, refl, sym, _∙_, ap, subst}

@@ -31,14 +31,14 @@ use Rattle.search_levels.proofs.step.Symbol as step-Symbol
 use Rattle.search_records.proofs.find.Met as find-Met
 use Rattle.search_records.proofs.find.Symbol as find-Symbol
 use Rattle.search_records.proofs.Contracts.Find as Find
-use Rattle.search_levels.proofs.settle.Kinds as settle-Kinds
-use Rattle.search_levels.proofs.settle.Met as settle-Met
-use Rattle.search_levels.proofs.settle.Reads as settle-Reads
-use Rattle.search_levels.proofs.settle.Symbol as settle-Symbol
-use Rattle.search_levels.proofs.record_of.Kinds as record-of-Kinds
-use Rattle.search_levels.proofs.record_of.Met as record-of-Met
-use Rattle.search_levels.proofs.record_of.Reads as record-of-Reads
-use Rattle.search_levels.proofs.record_of.Symbol as record-of-Symbol
+use Rattle.search_course.proofs.settle.Kinds as settle-Kinds
+use Rattle.search_course.proofs.settle.Met as settle-Met
+use Rattle.search_course.proofs.settle.Reads as settle-Reads
+use Rattle.search_course.proofs.settle.Symbol as settle-Symbol
+use Rattle.search_course.proofs.record_of.Kinds as record-of-Kinds
+use Rattle.search_course.proofs.record_of.Met as record-of-Met
+use Rattle.search_course.proofs.record_of.Reads as record-of-Reads
+use Rattle.search_course.proofs.record_of.Symbol as record-of-Symbol
 use Rattle.search_records.proofs.keep.Met as keep-Met
 use Rattle.search_records.proofs.keep.Symbol as keep-Symbol
 use Rattle.search_records.proofs.Contracts.Keep as Keep
@@ -109,6 +109,6 @@ turn-spec {M} 𝓤 H 𝓜 𝓖 𝓡 =
     (Plain.known Load.spec w code.env load-Symbol.name load-Symbol.routine code.calls-search-records·load (load-Met.met 𝓤 H 𝓜 𝓖 𝓡))
     (step-Reads.known w code.env step-Symbol.name step-Symbol.routine code.calls-search-levels·step (step-Met.met 𝓤 H 𝓜 𝓖 𝓡))
     (Plain.known Find.spec w code.env find-Symbol.name find-Symbol.routine code.calls-search-records·find (find-Met.met 𝓤 H 𝓜 𝓖 𝓡))
-    (settle-Reads.known w code.env settle-Symbol.name settle-Symbol.routine code.calls-search-levels·settle (settle-Met.met 𝓤 H 𝓜 𝓖 𝓡))
-    (record-of-Reads.known w code.env record-of-Symbol.name record-of-Symbol.routine code.calls-search-levels·record-of (record-of-Met.met 𝓤 H 𝓜 𝓖 𝓡))
+    (settle-Reads.known w code.env settle-Symbol.name settle-Symbol.routine code.calls-search-course·settle (settle-Met.met 𝓤 H 𝓜 𝓖 𝓡))
+    (record-of-Reads.known w code.env record-of-Symbol.name record-of-Symbol.routine code.calls-search-course·record-of (record-of-Met.met 𝓤 H 𝓜 𝓖 𝓡))
     (Plain.known Keep.spec w code.env keep-Symbol.name keep-Symbol.routine code.calls-search-records·keep (keep-Met.met 𝓤 H 𝓜 𝓖 𝓡)))

@@ -1,5 +1,5 @@
 use Rattle.search_run.proofs.Tried.{path-masks, ring-masks}
-use Rattle.search_alike.specs.Masks.{masksOf}
+use Rattle.search_atoms.specs.Masks.{masksOf}
 use mathlib.Core.Path.{_∙_, ap}
 use borrow.Author.Needs.{needs}
 use Rattle.search_run.proofs.letters_tried.Statement.{statement}

@@ -11,7 +11,7 @@ use Rattle.query.specs.declared.Facts.{Facts}
 use Rattle.search_words.specs.declared.Shape.{Shape}
 use Rattle.search_words.specs.Systems.{wordSystem}
 use Rattle.search_words.specs.Over.{verdictOver}
-use Rattle.search_alike.specs.Masks.{masksOf}
+use Rattle.search_atoms.specs.Masks.{masksOf}
 use Rattle.search_grow.specs.Masks.{lettersIn}
 
 -- the shape of a decision, by its facts

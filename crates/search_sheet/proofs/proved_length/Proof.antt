@@ -2,7 +2,7 @@
 -- Assumes nothing.
 use Prim.Native.Nat.{_+_, _*_}
 use mathlib.Core.Path.{sym, ap}
-use Rattle.search_fields.proofs.Fields.{length-ring, length-path}
+use Rattle.search_contents.proofs.Fields.{length-ring, length-path}
 use borrow.Author.Needs.{needs}
 use Rattle.search_sheet.proofs.proved_length.Statement.{statement}
 use Rattle.search_sheet.proofs.proved_length.Tie as tie

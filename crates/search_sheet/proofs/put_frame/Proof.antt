@@ -5,8 +5,8 @@ use native.Mathlib.Omega.{arith}
 use mathlib.Core.Path.{_∙_, ap, ap₂}
 use mathlib.Core.List.{List, _∷_}
 use Rattle.claims.specs.Fields.{bigEndian}
-use Rattle.search_fields.specs.Written.{over}
-use Rattle.search_fields.proofs.Written.{part-written}
+use Rattle.search_contents.specs.Written.{over}
+use Rattle.search_contents.proofs.Written.{part-written}
 use Rattle.search_sheet.specs.SheetWords.{wordHead}
 use Rattle.search_sheet.proofs.Steps.{behind-verdict}
 use borrow.Author.Needs.{needs}

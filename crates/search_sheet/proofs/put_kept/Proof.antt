@@ -2,9 +2,9 @@
 -- Assumes nothing.
 use native.Mathlib.Omega.{arith}
 use mathlib.Core.Path.{sym, _∙_, ap}
-use Rattle.search_fields.specs.Written.{written}
-use Rattle.search_fields.specs.FieldWords.{fieldWords}
-use Rattle.search_fields.proofs.FirstWords.{field-first}
+use Rattle.search_contents.specs.Written.{written}
+use Rattle.search_contents.specs.FieldWords.{fieldWords}
+use Rattle.search_contents.proofs.FirstWords.{field-first}
 use borrow.Author.Needs.{needs}
 use Rattle.search_sheet.proofs.put_kept.Statement.{statement}
 use Rattle.search_sheet.proofs.put_kept.Tie as tie

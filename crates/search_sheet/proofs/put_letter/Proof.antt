@@ -4,7 +4,7 @@ use Prim.Native.Nat.{_%_}
 use native.Mathlib.Omega.{arith}
 use mathlib.Core.Path.{_∙_, ap₂}
 use Rattle.claims.specs.Fields.{bigEndian}
-use Rattle.search_fields.specs.Written.{over}
+use Rattle.search_contents.specs.Written.{over}
 use Rattle.search_sheet.proofs.Steps.{letter-put}
 use borrow.Author.Needs.{needs}
 use Rattle.search_sheet.proofs.put_letter.Statement.{statement}

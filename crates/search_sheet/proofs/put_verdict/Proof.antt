@@ -4,8 +4,8 @@ use native.Mathlib.Omega.{arith}
 use mathlib.Core.Path.{_∙_, ap}
 use Rattle.claims.specs.Fields.{bigEndian}
 use Rattle.claims.proofs.Bytes.{bigEndian-length}
-use Rattle.search_fields.specs.Written.{written}
-use Rattle.search_fields.proofs.Fields.{laid-header, laid-next, field-of}
+use Rattle.search_contents.specs.Written.{written}
+use Rattle.search_contents.proofs.Fields.{laid-header, laid-next, field-of}
 use borrow.Author.Needs.{needs}
 use Rattle.search_sheet.proofs.put_verdict.Statement.{statement}
 use Rattle.search_sheet.proofs.put_verdict.Tie as tie

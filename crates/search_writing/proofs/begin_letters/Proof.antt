@@ -1,7 +1,7 @@
 -- `search_writing::begin_letters` meets its contract: the length of the sheet is known before it is written.
 -- Assumes nothing.
 use native.Mathlib.Omega.{arith}
-use Rattle.search_writing.proofs.Turns.{word-short, letters-none, letters-begun}
+use Rattle.search_listing.proofs.Turns.{word-short, letters-none, letters-begun}
 use borrow.Author.Needs.{needs}
 use Rattle.search_writing.proofs.begin_letters.Statement.{statement}
 use Rattle.search_writing.proofs.begin_letters.Tie as tie

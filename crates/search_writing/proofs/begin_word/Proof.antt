@@ -5,7 +5,7 @@ use mathlib.Core.Path.{sym, _∙_, ap}
 use Rattle.claims.specs.Verdicts.{relationsIn}
 use Rattle.search_sheet.specs.SheetWords.{prefixIn}
 use Rattle.search_sheet.proofs.PrefixIn.{prefix-none}
-use Rattle.search_writing.proofs.Turns.{relations-begun}
+use Rattle.search_listing.proofs.Turns.{relations-begun}
 use borrow.Author.Needs.{needs}
 use Rattle.search_writing.proofs.begin_word.Statement.{statement}
 use Rattle.search_writing.proofs.begin_word.Tie as tie

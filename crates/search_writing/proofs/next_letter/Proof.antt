@@ -3,9 +3,9 @@
 use Prim.Native.Nat.{_+_, _*_, _-_}
 use native.Mathlib.Omega.{arith}
 use mathlib.Core.Path.{_∙_, ap}
-use Rattle.search_fields.specs.Written.{over}
+use Rattle.search_contents.specs.Written.{over}
 use Rattle.search_sheet.specs.SheetWords.{letterBytes}
-use Rattle.search_writing.proofs.Turns.{letters-next, letters-last}
+use Rattle.search_listing.proofs.Turns.{letters-next, letters-last}
 use borrow.Author.Needs.{needs}
 use Rattle.search_writing.proofs.next_letter.Statement.{statement}
 use Rattle.search_writing.proofs.next_letter.Tie as tie

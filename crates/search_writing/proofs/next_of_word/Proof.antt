@@ -1,7 +1,7 @@
 -- `search_writing::next_of_word` meets its contract: the relations are counted, and then the letters are put.
 -- Assumes nothing.
 use native.Mathlib.Omega.{arith}
-use Rattle.search_writing.proofs.Stages.{relations-stage, letters-stage, relation-asks, letter-asks, relations-turns, letters-turns}
+use Rattle.search_listing.proofs.Stages.{relations-stage, letters-stage, relation-asks, letter-asks, relations-turns, letters-turns}
 use borrow.Author.Needs.{needs}
 use Rattle.search_writing.proofs.next_of_word.Statement.{statement}
 use Rattle.search_writing.proofs.next_of_word.Tie as tie

@@ -2,8 +2,8 @@
 -- Assumes nothing.
 use native.Mathlib.Omega.{arith}
 use mathlib.Core.Path.{subst}
-use Rattle.search_writing.specs.Left.{WordStands}
-use Rattle.search_writing.proofs.Turns.{relations-counted, relations-next}
+use Rattle.search_listing.specs.Left.{WordStands}
+use Rattle.search_listing.proofs.Turns.{relations-counted, relations-next}
 use borrow.Author.Needs.{needs}
 use Rattle.search_writing.proofs.next_relation.Statement.{statement}
 use Rattle.search_writing.proofs.next_relation.Tie as tie

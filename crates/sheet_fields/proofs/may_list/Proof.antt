@@ -7,7 +7,7 @@ use borrow.Author.Needs.{needs}
 use Rattle.claims.specs.Bytes.{same}
 use Rattle.sheet_cells.specs.Layout.{listedCells}
 use Rattle.sheet_cells.specs.CellSystem.{cellsFit}
-use Rattle.sheet_index.specs.Index.{lastWhere}
+use Rattle.sheet_slots.specs.Index.{lastWhere}
 use Rattle.sheet_fields.proofs.Verdicts.{all-bytes}
 use Rattle.sheet_fields.proofs.Listable.{loaded-small, not-sized, not-fitting, found-decides}
 use Rattle.sheet_fields.proofs.may_list.Statement.{statement}

@@ -10,8 +10,8 @@ use borrow.Author.Tests.{not-true, not-false}
 use borrow.Author.Needs.{needs}
 use Rattle.words.specs.Memory.{zeros}
 use Rattle.sheet_cells.specs.Layout.{fieldLength, listedCells}
-use Rattle.sheet_index.specs.Index.{Indexed}
-use Rattle.sheet_index.proofs.Kept.{indexed-none}
+use Rattle.sheet_slots.specs.Index.{Indexed}
+use Rattle.sheet_slots.proofs.Kept.{indexed-none}
 use Rattle.sheet_fields.proofs.Listable.{next-place, next-inside}
 use Rattle.sheet_fields.proofs.Verdicts.{all-bytes}
 use Rattle.sheet_fields.proofs.SoFar.{listable-sized, sized-room}

@@ -13,7 +13,7 @@ use Rattle.claims.specs.SheetBytes.{contentsLength}
 use Rattle.claims.specs.SheetReading.{verdictIs}
 use Rattle.sheet_cells.specs.Layout.{standingCells, listedCells}
 use Rattle.sheet_cells.specs.CellSystem.{cellsFit}
-use Rattle.sheet_index.specs.Index.{lastWhere}
+use Rattle.sheet_slots.specs.Index.{lastWhere}
 
 -- the verdict that a field is: 1 proved, 2 refuted, 0 for another field ("Sheet and graph bytes")
 unfoldable pub verdictOf : Field → ℕ

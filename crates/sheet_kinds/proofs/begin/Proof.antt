@@ -1,6 +1,6 @@
 -- `sheet_kinds::begin` meets its contract, by the kind of the claim.
 -- Assumes nothing.
-use Rattle.sheet_kinds.proofs.ByKind.{begin-path, begin-ring, path-small, ring-small, ring-begun-length}
+use Rattle.sheet_load.proofs.ByKind.{begin-path, begin-ring, path-small, ring-small, ring-begun-length}
 use borrow.Author.Needs.{needs}
 use Rattle.sheet_kinds.proofs.begin.Statement.{statement}
 use Rattle.sheet_kinds.proofs.begin.Tie as tie

@@ -1,6 +1,6 @@
 -- `sheet_kinds::completes` meets its contract, by the kind of the claim.
 -- Assumes nothing.
-use Rattle.sheet_kinds.proofs.ByKind.{small-path, small-ring, completes-path, completes-ring}
+use Rattle.sheet_load.proofs.ByKind.{small-path, small-ring, completes-path, completes-ring}
 use Rattle.sheet_kinds.proofs.completes.Statement.{statement}
 use Rattle.sheet_kinds.proofs.completes.Tie as tie
 

@@ -1,6 +1,6 @@
 -- `sheet_kinds::completes_with` meets its contract, by the kind of the claim.
 -- Assumes nothing.
-use Rattle.sheet_kinds.proofs.ByKind.{small-path, small-ring, with-path, with-ring}
+use Rattle.sheet_load.proofs.ByKind.{small-path, small-ring, with-path, with-ring}
 use Rattle.sheet_kinds.proofs.completes_with.Statement.{statement}
 use Rattle.sheet_kinds.proofs.completes_with.Tie as tie
 

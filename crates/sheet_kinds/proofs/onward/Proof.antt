@@ -1,6 +1,6 @@
 -- `sheet_kinds::onward` meets its contract, by the kind of the claim.
 -- Assumes nothing.
-use Rattle.sheet_kinds.proofs.ByKind.{onward-path, onward-ring, small-path, small-ring, path-small, ring-small, ring-grown-length}
+use Rattle.sheet_load.proofs.ByKind.{onward-path, onward-ring, small-path, small-ring, path-small, ring-small, ring-grown-length}
 use Rattle.sheet_kinds.proofs.onward.Statement.{statement}
 use Rattle.sheet_kinds.proofs.onward.Tie as tie
 use Rattle.sheet_path.proofs.onward.Reads as onward-reads

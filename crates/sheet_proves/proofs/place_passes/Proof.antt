@@ -5,8 +5,8 @@ use mathlib.Core.Path.{_∙_, ap}
 use borrow.Author.Needs.{needs}
 use lib.ListN.{length}
 use Rattle.sheet_cells.specs.Layout.{standingCells, listedCells}
-use Rattle.sheet_proves.proofs.Places.{place-before, read-small}
-use Rattle.sheet_proves.proofs.Ways.{place-completes, place-leads}
+use Rattle.sheet_passing.proofs.Places.{place-before, read-small}
+use Rattle.sheet_passing.proofs.Ways.{place-completes, place-leads}
 use Rattle.sheet_proves.proofs.place_passes.Statement.{statement}
 use Rattle.sheet_proves.proofs.place_passes.Tie as tie
 

@@ -2,8 +2,8 @@
 -- Assumes nothing.
 use borrow.Author.Needs.{needs}
 use Rattle.sheet_cells.specs.Layout.{cellCount}
-use Rattle.sheet_proves.proofs.Places.{zeros-small}
-use Rattle.sheet_proves.proofs.Order.{alone-fails, first-fail, places-decide}
+use Rattle.sheet_passing.proofs.Places.{zeros-small}
+use Rattle.sheet_passing.proofs.Order.{alone-fails, first-fail, places-decide}
 use Rattle.sheet_proves.proofs.proves.Statement.{statement}
 use Rattle.sheet_proves.proofs.proves.Tie as tie
 

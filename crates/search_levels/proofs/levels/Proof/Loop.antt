@@ -7,8 +7,8 @@ use Rattle.search_words.specs.declared.Shape.{Shape}
 use Rattle.search_records.specs.declared.Record.{Record}
 use Rattle.search_records.specs.Rows.{rows}
 use Rattle.search_grow.specs.Kept.{state, Inside}
-use Rattle.search_levels.specs.declared.Course.{Course}
-use Rattle.search_levels.specs.Turns.{turnWeight, At}
+use Rattle.search_course.specs.declared.Course.{Course}
+use Rattle.search_course.specs.Turns.{turnWeight, At}
 
 abbrev pub Inv0 : Shape → ℕ → List ℕ → List ℕ → List ℕ → List ℕ → List Record → List ℕ → Course → List Record → List ℕ → Course → Type 0
 Inv0 k cap left right first later rs₀ w₀ t₀ rs w t =

@@ -34,17 +34,17 @@ use prog.Wp.{Env, Heap, Tables}
 use types.Kit.{Given}
 use Rattle.derivations.proofs.Plain as Plain
 use Rattle.search_levels.proofs.Contracts.Levels.{ps, r}
-use Rattle.search_levels.proofs.start.Kinds as start-Kinds
-use Rattle.search_levels.proofs.start.Reads as start-Reads
-use Rattle.search_levels.proofs.start.Symbol as start-Symbol
+use Rattle.search_course.proofs.start.Kinds as start-Kinds
+use Rattle.search_course.proofs.start.Reads as start-Reads
+use Rattle.search_course.proofs.start.Symbol as start-Symbol
 use Rattle.search_levels.proofs.Contracts.Turn as Turn
-use Rattle.search_levels.proofs.answer_of.Kinds as answer-of-Kinds
-use Rattle.search_levels.proofs.answer_of.Reads as answer-of-Reads
-use Rattle.search_levels.proofs.answer_of.Symbol as answer-of-Symbol
-use Rattle.search_levels.proofs.Answer.Laws as Answer′
-use Rattle.search_levels.proofs.Course.Laws as Course′
+use Rattle.search_course.proofs.answer_of.Kinds as answer-of-Kinds
+use Rattle.search_course.proofs.answer_of.Reads as answer-of-Reads
+use Rattle.search_course.proofs.answer_of.Symbol as answer-of-Symbol
+use Rattle.search_course.proofs.Answer.Laws as Answer′
+use Rattle.search_course.proofs.Course.Laws as Course′
 use Rattle.search_words.proofs.Shape.Laws as Shape′
-use Rattle.search_levels.proofs.Course
+use Rattle.search_course.proofs.Course
 use Rattle.search_records.proofs.Record
 use Rattle.search_words.proofs.Shape
 use Rattle.search_levels.proofs.levels.Code as code

@@ -43,17 +43,17 @@ use Rattle.search_levels.proofs.step.Kinds as step-Kinds
 use Rattle.search_levels.proofs.step.Reads as step-Reads
 use Rattle.search_levels.proofs.step.Symbol as step-Symbol
 use Rattle.search_records.proofs.Contracts.Find as Find
-use Rattle.search_levels.proofs.settle.Kinds as settle-Kinds
-use Rattle.search_levels.proofs.settle.Reads as settle-Reads
-use Rattle.search_levels.proofs.settle.Symbol as settle-Symbol
-use Rattle.search_levels.proofs.record_of.Kinds as record-of-Kinds
-use Rattle.search_levels.proofs.record_of.Reads as record-of-Reads
-use Rattle.search_levels.proofs.record_of.Symbol as record-of-Symbol
+use Rattle.search_course.proofs.settle.Kinds as settle-Kinds
+use Rattle.search_course.proofs.settle.Reads as settle-Reads
+use Rattle.search_course.proofs.settle.Symbol as settle-Symbol
+use Rattle.search_course.proofs.record_of.Kinds as record-of-Kinds
+use Rattle.search_course.proofs.record_of.Reads as record-of-Reads
+use Rattle.search_course.proofs.record_of.Symbol as record-of-Symbol
 use Rattle.search_records.proofs.Contracts.Keep as Keep
-use Rattle.search_levels.proofs.Course.Laws as Course′
+use Rattle.search_course.proofs.Course.Laws as Course′
 use Rattle.search_records.proofs.Record.Laws as Record′
 use Rattle.search_words.proofs.Shape.Laws as Shape′
-use Rattle.search_levels.proofs.Course
+use Rattle.search_course.proofs.Course
 use Rattle.search_records.proofs.Record
 use Rattle.search_words.proofs.Shape
 use Rattle.search_levels.proofs.turn.Code as code

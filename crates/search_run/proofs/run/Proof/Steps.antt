@@ -54,24 +54,24 @@ use Rattle.search_run.proofs.shape_of.Kinds as shape-of-Kinds
 use Rattle.search_run.proofs.shape_of.Reads as shape-of-Reads
 use Rattle.search_run.proofs.shape_of.Symbol as shape-of-Symbol
 use Rattle.search_levels.proofs.Contracts.Levels as Levels
-use Rattle.search_run.proofs.Contracts.Report as Report
-use Rattle.search_run.proofs.records_needed.Kinds as records-needed-Kinds
-use Rattle.search_run.proofs.records_needed.Reads as records-needed-Reads
-use Rattle.search_run.proofs.records_needed.Symbol as records-needed-Symbol
+use Rattle.search_report.proofs.Contracts.Report as Report
+use Rattle.search_memory.proofs.records_needed.Kinds as records-needed-Kinds
+use Rattle.search_memory.proofs.records_needed.Reads as records-needed-Reads
+use Rattle.search_memory.proofs.records_needed.Symbol as records-needed-Symbol
 use Rattle.search_records.proofs.Contracts.Clear as Clear
-use Rattle.search_run.proofs.words_needed.Kinds as words-needed-Kinds
-use Rattle.search_run.proofs.words_needed.Reads as words-needed-Reads
-use Rattle.search_run.proofs.words_needed.Symbol as words-needed-Symbol
-use Rattle.search_run.proofs.clear_words.Kinds as clear-words-Kinds
-use Rattle.search_run.proofs.clear_words.Reads as clear-words-Reads
-use Rattle.search_run.proofs.clear_words.Symbol as clear-words-Symbol
-use Rattle.search_levels.proofs.Answer.Laws as Answer′
+use Rattle.search_memory.proofs.words_needed.Kinds as words-needed-Kinds
+use Rattle.search_memory.proofs.words_needed.Reads as words-needed-Reads
+use Rattle.search_memory.proofs.words_needed.Symbol as words-needed-Symbol
+use Rattle.search_memory.proofs.clear_words.Kinds as clear-words-Kinds
+use Rattle.search_memory.proofs.clear_words.Reads as clear-words-Reads
+use Rattle.search_memory.proofs.clear_words.Symbol as clear-words-Symbol
+use Rattle.search_course.proofs.Answer.Laws as Answer′
 use Rattle.query.proofs.Facts.Laws as Facts′
-use Rattle.search_run.proofs.Outcome.Laws as Outcome′
+use Rattle.search_report.proofs.Outcome.Laws as Outcome′
 use Rattle.search_words.proofs.Shape.Laws as Shape′
-use Rattle.search_levels.proofs.Answer
+use Rattle.search_course.proofs.Answer
 use Rattle.query.proofs.Facts
-use Rattle.search_run.proofs.Outcome
+use Rattle.search_report.proofs.Outcome
 use Rattle.search_records.proofs.Record
 use Rattle.search_words.proofs.Shape
 use Rattle.search_run.proofs.run.Code as code

@@ -1,0 +1,2 @@
+-- The line that a judgement names.
+pub mod BrokenLine

@@ -1,0 +1,2 @@
+-- The contract of the call.
+pub mod Contracts

@@ -1,0 +1,2 @@
+-- Which edges are steps.
+pub mod Steps

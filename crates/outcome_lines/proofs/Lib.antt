@@ -1,0 +1,5 @@
+-- The word in a sheet, the result with more records, the line of an outcome, and how long it is.
+pub mod WordInSheet
+pub mod MoreRecords
+pub mod OutcomeLines
+pub mod Lengths

@@ -1,0 +1,3 @@
+-- What stands next, and codes written.
+pub mod Next
+pub mod Stores

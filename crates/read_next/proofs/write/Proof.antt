@@ -1,0 +1,62 @@
+-- `read_tests::write` meets its contract. The invariant: the code is stored i times. The measure is what is left to store.
+-- Assumes nothing.
+use Rattle.read_next.proofs.Stores.{stores-done, stores-more}
+use Prim.Native.Nat.{_≤_, _-_}
+use native.Mathlib.Omega.{arith}
+use mathlib.Core.Path.{_≡_, refl}
+use lib.ListN.{replicate}
+use lib.Seq.{sets}
+use borrow.Author.Needs.{needs}
+use Rattle.read_next.proofs.write.Statement.{statement}
+use Rattle.read_next.proofs.write.Tie as tie
+
+abbrev Inv-loop : tie.InvT-loop
+Inv-loop out₀ used count code i₀ out i = (i ≤ count) × (out ≡ sets out₀ used (replicate i code))
+
+abbrev μ-loop : tie.MeasureT-loop
+μ-loop out₀ used count code i₀ out i = count - i
+
+loop-holds : tie.Need-loop-holds Inv-loop μ-loop
+loop-holds c = (omega arith, refl)
+
+add-out : tie.Need-add-out Inv-loop μ-loop
+add-out c = search needs
+
+mul-out : tie.Need-mul-out Inv-loop μ-loop
+mul-out c = search needs
+
+element-write-out : tie.Need-element-write-out Inv-loop μ-loop
+element-write-out c = search needs
+
+add-i : tie.Need-add-i Inv-loop μ-loop
+add-i c = search needs
+
+loop-less : tie.Need-loop-less Inv-loop μ-loop
+loop-less c = search needs
+
+loop-again : tie.Need-loop-again Inv-loop μ-loop
+loop-again c = (omega arith, stores-more _ _ _ _ _ (c .before .loop .inv .1))
+
+add-result : tie.Need-add-result Inv-loop μ-loop
+add-result c = search needs
+
+returns : tie.Need-returns Inv-loop μ-loop
+returns c =
+    let l = c .before .loop in
+    (refl, stores-done _ _ _ _ _ _ (l .inv .0) (c .loop-test .left) (l .inv .1))
+
+pub write-spec : {M : Type 1} → statement M
+write-spec =
+    tie.close
+    (tie.spec
+    Inv-loop
+    μ-loop
+    loop-holds
+    add-out
+    mul-out
+    element-write-out
+    add-i
+    loop-less
+    loop-again
+    add-result
+    returns)

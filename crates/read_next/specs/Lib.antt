@@ -1,0 +1,2 @@
+-- What stands next.
+pub mod Next

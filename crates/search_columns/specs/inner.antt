@@ -1,0 +1,2 @@
+-- Words joined into columns.
+pub mod Columns

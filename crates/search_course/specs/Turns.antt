@@ -1,0 +1,173 @@
+-- The search as turns: one candidate a turn, or one standing that may complete a word. (Document 01, "Standings".) The letters behind the empty
+-- prefix come first; then, level by level, each standing of the level is looked at whether it completes a refuting word, and then the letters
+-- behind each of them. Numbers of the phases: 0 begins, 1 completes, 2 grows, 3 proved, 4 refuted, 5 spent.
+-- Assumes nothing.
+use Prim.Native.Nat.{ℕ, suc, _+_, _*_, _-_, _≤_, _<_}
+use mathlib.Core.Path.{_≡_}
+use mathlib.Core.Logic.{_⊎_}
+use mathlib.Core.Bool.{Bool, false, true, cond}
+use mathlib.Core.List.{List, [], _∷_}
+use lib.Dec.{eqb, ltb}
+use lib.ListN.{drop}
+use Rattle.claims.specs.Standings.{Letter}
+use Rattle.claims.specs.Search.{completed}
+use Rattle.search_words.specs.declared.Shape.{Shape}
+use Rattle.search_words.specs.Systems.{wordSystem}
+use Rattle.search_records.specs.declared.Record.{Record}
+use Rattle.search_grow.specs.Masks.{lettersIn, lettersLeft, letterWeight}
+use Rattle.search_grow.specs.Kept.{State, state, Inside, Ready, Seen, Keeps, wordsAt, NotedBehind, NotedFrom}
+use Rattle.search_course.specs.declared.Course.{Course}
+use Rattle.search_course.specs.declared.Answer.{Answer}
+use Rattle.search_course.specs.declared.Answer.the-variants.{Proved, Refuted, Spent}
+use Rattle.search_course.specs.Answers.{Running, Answered}
+
+-- the answer of the last turn
+unfoldable pub answerOf : Course → Answer
+answerOf t = cond (eqb (t .phase) 3) (Proved (t .count)) (cond (eqb (t .phase) 4) (Refuted (t .place) (t .last)) Spent)
+
+-- a number that falls from turn to turn: by levels, then by standings, then by letters
+unfoldable pub turnWeight : Course → ℕ
+turnWeight t =
+    cond (eqb (t .phase) 0) (300000000000 + letterWeight (t .rest) (t .relation))
+    (cond (eqb (t .phase) 1) (67108864 * (4100 - t .lo) + (16777216 + (4100 - t .at)))
+    (cond (eqb (t .phase) 2) (67108864 * (4100 - t .lo) + (2048 * (4100 - t .at) + letterWeight (t .rest) (t .relation))) 0))
+
+-- the most that it is where a level begins at standing lo
+unfoldable pub levelWeight : ℕ → ℕ
+levelWeight lo = 67108864 * (4100 - lo) + (16777216 + 4100)
+
+-- on from letter to letter behind a place: the letters that are left, how many standings were counted, and what is offered
+abbrev pub advanced : Course → ℕ → ℕ → ℕ → Bool → ℕ → ℕ → ℕ → ℕ → Course
+advanced t rest relation count put seek p s letter =
+    record {
+      phase = t .phase;
+      lo = t .lo;
+      hi = t .hi;
+      at = t .at;
+      place = t .place;
+      rest = rest;
+      relation = relation;
+      count = count;
+      put = put;
+      seek = seek;
+      p = p;
+      s = s;
+      letter = letter;
+      last = t .last;
+    }
+
+-- letters are tried in the phases 0 and 2
+abbrev pub Tries : Course → Type 0
+Tries t = (t .phase ≡ 0) ⊎ (t .phase ≡ 2)
+
+-- the numbers of a turn that tries a letter are small, and there is room for the words of a ring claim
+pub record Tryable (ring : Bool) (relations cap words : ℕ) (t : Course) : Type 0 where
+  pub relations-few : relations ≤ 16
+  pub relation : t .relation ≤ relations
+  pub allowance : cap ≤ 4096
+  pub room : ring ≡ true → 40 * cap ≤ words
+  pub counted : t .count ≤ cap + 1
+  pub place : t .place ≤ cap
+  pub at : t .at ≤ 4097
+  pub hi : t .hi ≤ 4097
+  pub quiet : (t .put ≡ false) × (t .seek ≡ 0)
+
+-- the numbers of a turn are small, and there is room for the words of a ring claim
+pub record Small (ring : Bool) (relations cap words : ℕ) (t : Course) : Type 0 where
+  pub relations-few : relations ≤ 16
+  pub allowance : cap ≤ 4096
+  pub room : ring ≡ true → 40 * cap ≤ words
+  pub counted : t .count ≤ cap + 1
+  pub begins : t .phase ≡ 0 → (t .place ≡ 0) × (t .at ≡ 0) × (t .hi ≡ 0) × (t .relation ≤ relations)
+  pub completes : t .phase ≡ 1 → (t .place ≡ t .at + 1) × (t .at < t .hi) × (t .hi ≤ cap) × (t .lo ≤ t .at)
+  pub grows : t .phase ≡ 2 → (t .place ≡ t .at + 1) × (t .at < t .hi) × (t .hi ≤ cap) × (t .relation ≤ relations)
+
+-- a candidate that is offered is decided by where it was found: kept already, new and to be put, or new past the allowance
+pub record Settles (cap found : ℕ) (t u : Course) : Type 0 where
+  pub nothing : t .put ≡ false → u ≡ t
+  pub seen : t .put ≡ true → found < t .count → u ≡ advanced t (t .rest) (t .relation) (t .count) false (t .seek) (t .p) (t .s) (t .letter)
+  pub new :
+      t .put ≡ true → t .count ≤ found
+      → u ≡ advanced t (t .rest) (t .relation) (t .count + 1) (ltb (t .count) cap) (t .seek) (t .p) (t .s) (t .letter)
+
+-- the record of the candidate
+abbrev pub recordOf : Course → Record
+recordOf t = record { p = t .p; s = t .s; parent = t .place; letter = t .letter }
+
+-- the masks of the letters that are tried: one array for level 1, another for the later levels
+unfoldable pub masksNow : List ℕ → List ℕ → Course → List ℕ
+masksNow first later t = cond (eqb (t .phase) 0) first later
+
+module _ (k : Shape) (left right first later : List ℕ) (cap : ℕ) where
+  -- the letters of level 1, and of the later levels
+  abbrev pub firstOnes : List Letter
+  firstOnes = lettersIn first (k .live) (k .relations)
+
+  abbrev pub laterOnes : List Letter
+  laterOnes = lettersIn later (k .live) (k .relations)
+
+  -- a search that runs on from here, with the entries from lo on as the last level
+  abbrev pub RunsOn : State → ℕ → Type 0
+  RunsOn s lo = Running k left right firstOnes laterOnes (suc (suc cap)) cap s lo
+
+  -- the letters behind the empty prefix: once those that are left are noted, the search runs on
+  pub record Beginning (t : Course) (s : State) : Type 0 where
+    pub place : t .place ≡ 0
+    pub at : t .at ≡ 0
+    pub hi : t .hi ≡ 0
+    pub relation : t .relation ≤ k .relations
+    pub on :
+        (u : State) → NotedBehind k left right cap s u 0 (lettersLeft first (k .relations) (t .rest) (t .relation)) → RunsOn u 0
+
+  -- the standings of a level that ends here: those before the one looked at complete nothing
+  pub record Completing (t : Course) (s : State) : Type 0 where
+    pub place : t .place ≡ t .at + 1
+    pub low : t .lo ≤ t .at
+    pub inside : t .at < t .hi
+    pub ends : t .hi ≡ s .count
+    pub within : s .count ≤ cap
+    pub running : RunsOn s (t .lo)
+    pub passed :
+        (seen : Seen k left right) → Keeps k left right s seen
+        → completed (wordSystem k left right) (drop (t .at) seen) ≡ completed (wordSystem k left right) (drop (t .lo) seen)
+
+  -- the letters behind the standings of a level: once those that are left are noted, the search runs on
+  pub record Growing (t : Course) (s : State) : Type 0 where
+    pub place : t .place ≡ t .at + 1
+    pub low : t .lo ≤ t .at
+    pub inside : t .at < t .hi
+    pub within : t .hi ≤ cap
+    pub below : t .hi ≤ s .count
+    pub relation : t .relation ≤ k .relations
+    pub on :
+        (u : State) → NotedBehind k left right cap s u (t .place) (lettersLeft later (k .relations) (t .rest) (t .relation))
+        → (v : State) → NotedFrom k left right cap u v (t .place + 1) (t .hi + 1) laterOnes → RunsOn v (t .hi)
+
+  -- what holds before each turn, of the turn and the two memories
+  pub record At (t : Course) (r : List (List ℕ)) (w : List ℕ) : Type 0 where
+    pub ready : Ready (k .ring) cap (state r w (t .count))
+    pub begins : t .phase ≡ 0 → Beginning t (state r w (t .count))
+    pub completes : t .phase ≡ 1 → Completing t (state r w (t .count))
+    pub grows : t .phase ≡ 2 → Growing t (state r w (t .count))
+    pub answered : 3 ≤ t .phase → Answered k left right firstOnes laterOnes (suc (suc cap)) cap r w (answerOf t)
+
+  -- the turn offers a candidate of a path claim, which is to be looked up
+  pub record Offers (t c : Course) (r : List (List ℕ)) (w : List ℕ) (l : Letter) : Type 0 where
+    pub path : k .ring ≡ false
+    pub tries : Tries t
+    pub same : c ≡ advanced t (c .rest) (c .relation) (t .count) true (t .count) (c .p) (c .s) (c .letter)
+    pub within : t .count ≤ cap
+    pub possible : c .p ≡ 0 → ⊥
+    pub relation-small : l .relation < 16
+    pub letter : c .letter ≡ 16 * l .atom + l .relation
+    pub words : c .p ∷ c .s ∷ [] ≡ wordsAt k left right r w (t .place) l
+    pub relation : c .relation ≤ k .relations
+    pub rest :
+        lettersLeft (masksNow first later t) (k .relations) (t .rest) (t .relation)
+        ≡ l ∷ lettersLeft (masksNow first later t) (k .relations) (c .rest) (c .relation)
+
+  -- a step changes nothing past the needed memory and keeps what holds before each turn; or it offers a candidate and changes nothing
+  abbrev pub Stepped : Course → Course → List (List ℕ) → List ℕ → List ℕ → Type 0
+  Stepped t c r w w′ =
+      ((c .put ≡ false) × (c .seek ≡ 0) × Inside (k .ring) cap (state r w (t .count)) (state r w′ (c .count)) × At c r w′)
+      ⊎ ((c .put ≡ true) × (w′ ≡ w) × ((l : Letter) × Offers t c r w l))

@@ -1,0 +1,2 @@
+-- The memory is enough.
+pub mod Rooms

@@ -1,0 +1,2 @@
+-- What the functions of the search promise each other.
+pub mod inner

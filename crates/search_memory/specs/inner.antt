@@ -1,0 +1,2 @@
+-- The lent memory is enough.
+pub mod Memory

@@ -1,0 +1,4 @@
+-- The answer of what the search finds.
+pub mod Found
+-- What holds while its sheet is written.
+pub mod Stands

@@ -1,0 +1,99 @@
+// What is reported of a search: its outcome and the sheet of what it found, from the memory that it leaves; refusals 10 and 11. (Document 01,
+// "Sheet and graph bytes" and "Refusals with an example each".)
+use refusals::Reason;
+use search_course::Answer;
+use search_listing::Writing;
+use search_records::Record;
+ghost use Prim.Native.Nat.{ℕ, _<_};
+ghost use mathlib.Core.Path.{_≡_};
+ghost use mathlib.Core.Bool.{Bool, true, false};
+ghost use mathlib.Core.List.{List};
+ghost use Rattle.search_records.specs.Rows.{rows, recordAt};
+ghost use Rattle.search_report.specs.inner.Found.{Reportable, foundIn, Reports};
+ghost use Rattle.search_report.specs.inner.Stands.{Stands, turns};
+
+// Proved with the count of standings, refuted with the length of the word, or the reason and the place of a refusal.
+pub enum Outcome {
+    Proved(usize),
+    Refuted(usize),
+    Refused(Reason, usize),
+}
+
+// The sheet of what was found begins.
+pub fn begin(ring: bool, found: Answer, buffer: &mut [u8]) -> Writing
+    requires { ⌜ ((r : List (List ℕ)) × (w : List ℕ) × Reportable ring r w found) ⌝ }
+    ensures { λ x.
+        ⌜ ((r : List (List ℕ)) (w : List ℕ) → Reportable ring r w found
+        → Stands ring r w (now (buffer .entry)) found x (now (buffer .exit))) ⌝ }
+{
+    match found {
+        Answer::Proved(n) => search_listing::begin_fields(ring, n, buffer),
+        Answer::Refuted(place, last) => search_writing::begin_word(place, last, buffer),
+        Answer::Spent => search_listing::ended(false, 0),
+    }
+}
+
+// One standing's part of the sheet, by its record or from the words.
+pub fn put(
+    ring: bool,
+    from: Record,
+    words: &[u64],
+    found: Answer,
+    x: Writing,
+    buffer: &mut [u8],
+) -> Writing
+    requires { ⌜ ((r : List (List ℕ)) × (b₀ : List ℕ) × (x .going ≡ true) × Stands ring r (now words) b₀ found x (now buffer)) ⌝ }
+    ensures { λ y.
+        ⌜ ((r : List (List ℕ)) (b₀ : List ℕ) → from ≡ recordAt r (x .at) → x .going ≡ true
+        → Stands ring r (now (words .entry)) b₀ found x (now (buffer .entry))
+        → Stands ring r (now (words .entry)) b₀ found y (now (buffer .exit)) × (turns found y < turns found x)) ⌝ }
+{
+    match found {
+        Answer::Proved(n) => search_listing::next_field(ring, from, words, n, x.at, buffer),
+        Answer::Refuted(place, last) => search_writing::next_of_word(
+            ring,
+            from,
+            words,
+            place,
+            last,
+            x,
+            buffer,
+        ),
+        Answer::Spent => x,
+    }
+}
+
+// The outcome of what was found, once the sheet is written or the buffer was too short for it.
+pub fn tell(found: Answer, x: Writing) -> Outcome
+    ensures { λ o.
+        ⌜ ((ring : Bool) (r : List (List ℕ)) (w b₀ b : List ℕ) → x .going ≡ false → Stands ring r w b₀ found x b
+        → Reports (foundIn ring r w found) b₀ o b) ⌝ }
+{
+    if x.short {
+        return Outcome::Refused(Reason::ShortBuffer, 0);
+    }
+    match found {
+        Answer::Proved(n) => Outcome::Proved(n),
+        Answer::Refuted(_, _) => Outcome::Refuted(x.count),
+        Answer::Spent => Outcome::Refused(Reason::SpentAllowance, 0),
+    }
+}
+
+// The outcome of what was found, and its sheet: one record of the memory a turn.
+pub fn report(
+    ring: bool,
+    records: &[Record],
+    words: &[u64],
+    found: Answer,
+    buffer: &mut [u8],
+) -> Outcome
+    requires { ⌜ Reportable ring (rows (now records)) (now words) found ⌝ }
+    ensures { λ r. ⌜ Reports (foundIn ring (rows (now (records .entry))) (now (words .entry)) found) (now (buffer .entry)) r (now (buffer .exit)) ⌝ }
+{
+    let mut x = begin(ring, found, buffer);
+    while x.going {
+        let from = search_records::load(records, x.at);
+        x = put(ring, from, words, found, x, buffer);
+    }
+    tell(found, x)
+}

@@ -1,0 +1,3 @@
+-- Rounds on columns, and what is sought in the closed table.
+pub mod Rounds
+pub mod Sought

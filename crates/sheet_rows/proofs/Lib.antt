@@ -1,0 +1,2 @@
+-- The rows of M.
+pub mod Rows
