@@ -3,7 +3,7 @@
 use case_checks::Asked;
 use draw::Drawing;
 use libc::STDOUT_FILENO;
-use search_report::Outcome;
+use search_outcomes::Outcome;
 use sheet::Checked;
 
 // What is asked of a case.

@@ -3,7 +3,7 @@
 use draw::Drawing;
 use graph::Judged;
 use libc::STDOUT_FILENO;
-use search_report::Outcome;
+use search_outcomes::Outcome;
 use sheet::Checked;
 
 // Where each count stands.

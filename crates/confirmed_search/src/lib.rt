@@ -1,10 +1,10 @@
 // The search, and the check of the sheet that it wrote. (Document 01, "Sheet and graph bytes".) The two calls share only the reading of the
 // query; `evidence/specs/ThirdDemand.antt` says what they owe together.
+use search_outcomes::Outcome;
 use search_records::Record;
-use search_report::Outcome;
 ghost use mathlib.Core.Path.{_≡_};
 ghost use Rattle.claims.specs.Calls.{search-call, check-call};
-ghost use Rattle.search_report.specs.Outcomes.{lentOf, Gives};
+ghost use Rattle.search_outcomes.specs.Outcomes.{lentOf, Gives};
 ghost use Rattle.evidence.specs.inner.Kept.{kept as keptBy};
 
 // The outcome, if the check says the same of the sheet.

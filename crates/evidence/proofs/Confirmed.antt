@@ -9,10 +9,10 @@ use Rattle.claims.specs.Refusals.{Result, ok, refused}
 use Rattle.claims.specs.Calls.{Answer, provedWith, refutedBy, Lent, search-call, Passed, passedProved, passedRefuted, check-call}
 use Rattle.claims.specs.Sheets.{passedAs}
 use Rattle.refusals.specs.declared.Reason.{Reason}
-use Rattle.search_report.specs.declared.Outcome.{Outcome}
-use Rattle.search_report.specs.declared.Outcome.the-variants.{Proved, Refuted, Refused}
+use Rattle.search_outcomes.specs.declared.Outcome.{Outcome}
+use Rattle.search_outcomes.specs.declared.Outcome.the-variants.{Proved, Refuted, Refused}
 use Rattle.search_records.specs.declared.Record.{Record}
-use Rattle.search_report.specs.Outcomes.{Says as SaysAnswer, Gives, lentOf}
+use Rattle.search_outcomes.specs.Outcomes.{Says as SaysAnswer, Gives, lentOf}
 use Rattle.sheet.specs.declared.Checked.{Checked}
 use Rattle.sheet.specs.declared.Checked.the-variants.{Proved as PassesProved, Refuted as PassesRefuted, Refused as Fails}
 use Rattle.sheet.specs.Checks.{Says}

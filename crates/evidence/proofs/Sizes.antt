@@ -36,9 +36,9 @@ use Rattle.claims.proofs.SearchMemory.{search-outcomes}
 use Rattle.claims.proofs.Sheets.{no-answer, live-rises, written-sheet-passes}
 use Rattle.claims.proofs.SheetLength.{answer-leaves-own-sheet}
 use Rattle.refusals.specs.declared.Reason.{Reason}
-use Rattle.search_report.specs.declared.Outcome.{Outcome}
-use Rattle.search_report.specs.declared.Outcome.the-variants.{Proved, Refuted, Refused}
-use Rattle.search_report.specs.Outcomes.{Says, Gives}
+use Rattle.search_outcomes.specs.declared.Outcome.{Outcome}
+use Rattle.search_outcomes.specs.declared.Outcome.the-variants.{Proved, Refuted, Refused}
+use Rattle.search_outcomes.specs.Outcomes.{Says, Gives}
 use Rattle.evidence.specs.Sizes.{atMost, answerSize}
 use Rattle.evidence.specs.ThirdDemand.{Answers}
 

@@ -5,9 +5,9 @@ use mathlib.Core.Path.{_≡_, sym, subst}
 use Rattle.claims.specs.Refusals.{Result, ok}
 use Rattle.claims.specs.Calls.{Answer, provedWith, refutedBy, Passed}
 use Rattle.claims.specs.Sheets.{passedAs}
-use Rattle.search_report.specs.declared.Outcome.{Outcome}
-use Rattle.search_report.specs.declared.Outcome.the-variants.{Proved, Refuted}
-use Rattle.search_report.specs.Outcomes.{Says as SaysAnswer}
+use Rattle.search_outcomes.specs.declared.Outcome.{Outcome}
+use Rattle.search_outcomes.specs.declared.Outcome.the-variants.{Proved, Refuted}
+use Rattle.search_outcomes.specs.Outcomes.{Says as SaysAnswer}
 use Rattle.sheet.specs.declared.Checked.{Checked}
 use Rattle.sheet.specs.declared.Checked.the-variants.{Proved as PassesProved, Refuted as PassesRefuted}
 use Rattle.sheet.specs.Checks.{Says}

@@ -6,8 +6,8 @@ use mathlib.Core.Bool.{cond}
 use mathlib.Core.List.{List}
 use lib.Dec.{leb}
 use lib.ListN.{getD}
-use Rattle.search_report.specs.declared.Outcome.{Outcome}
-use Rattle.search_report.specs.declared.Outcome.the-variants.{Proved, Refuted, Refused}
+use Rattle.search_outcomes.specs.declared.Outcome.{Outcome}
+use Rattle.search_outcomes.specs.declared.Outcome.the-variants.{Proved, Refuted, Refused}
 
 -- a sheet has at most 4,096 standings, and a word at most so many relations; more are none ("Sheet and graph bytes")
 unfoldable pub atMost : ℕ → ℕ → ℕ

@@ -8,9 +8,9 @@ use mathlib.Core.Path.{_≡_}
 use mathlib.Core.List.{List, _++_}
 use lib.ListN.{length, take, drop}
 use Rattle.claims.specs.Calls.{Lent, search-call, check-call}
-use Rattle.search_report.specs.declared.Outcome.{Outcome}
-use Rattle.search_report.specs.declared.Outcome.the-variants.{Proved as ProvedBySearch, Refuted as RefutedBySearch, Refused as RefusedBySearch}
-use Rattle.search_report.specs.Outcomes.{Gives}
+use Rattle.search_outcomes.specs.declared.Outcome.{Outcome}
+use Rattle.search_outcomes.specs.declared.Outcome.the-variants.{Proved as ProvedBySearch, Refuted as RefutedBySearch, Refused as RefusedBySearch}
+use Rattle.search_outcomes.specs.Outcomes.{Gives}
 use Rattle.sheet.specs.declared.Checked.{Checked}
 use Rattle.sheet.specs.declared.Checked.the-variants.{Proved, Refuted, Refused}
 use Rattle.sheet.specs.Checks.{Says}

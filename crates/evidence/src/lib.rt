@@ -1,7 +1,7 @@
 // Evidence for every answer: the sheet that an answer left in the buffer, and the outcome that a check of it keeps. (Document 01, "Sheet and
 // graph bytes".) The search and the check share only the reading of the query; `specs/ThirdDemand.antt` says what they owe together.
 use refusals::Reason;
-use search_report::Outcome;
+use search_outcomes::Outcome;
 use sheet::Checked;
 use words::least;
 ghost use Prim.Native.Nat.{_+_, _*_, _<_};

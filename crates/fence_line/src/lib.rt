@@ -1,8 +1,8 @@
 // The line of the query program, from the bytes of a query. (Document 01, "The desk's cases".) The memory is the call's own, enough for any
 // answer at the program's allowance.
-use search_report::Outcome;
+use search_outcomes::Outcome;
 ghost use Rattle.claims.specs.Printed.{programAllowance, programResult, printed};
-ghost use Rattle.search_report.specs.Outcomes.{Says};
+ghost use Rattle.search_outcomes.specs.Outcomes.{Says};
 ghost use Rattle.print_line.specs.Puts.{Puts};
 
 // A line in memory: how many bytes it has, and the outcome that it shows.

@@ -4,7 +4,7 @@ use draw::Drawing;
 use libc::STDERR_FILENO;
 use libc::STDOUT_FILENO;
 use refusals::Reason;
-use search_report::Outcome;
+use search_outcomes::Outcome;
 use sheet::Checked;
 
 // Writes the first n bytes of the memory.

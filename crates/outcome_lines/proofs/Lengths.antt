@@ -9,8 +9,8 @@ use lib.Dec.{eqb, ltb}
 use lib.ListN.{length, getD}
 use lib.ListN.{List·getD-eq-default}
 use borrow.Author.Tests.{lt-ltb, le-ltb, eq-eqb, ne-eqb}
-use Rattle.search_report.specs.declared.Outcome.{Outcome}
-use Rattle.search_report.specs.declared.Outcome.the-variants.{Proved, Refuted, Refused}
+use Rattle.search_outcomes.specs.declared.Outcome.{Outcome}
+use Rattle.search_outcomes.specs.declared.Outcome.the-variants.{Proved, Refuted, Refused}
 use Rattle.outcome_lines.specs.Shown.{provedLength, lengthShown}
 
 module _ (n : ℕ) (buffer : List ℕ) where

@@ -15,9 +15,9 @@ use Rattle.claims.specs.Calls.{Answer, provedWith, refutedBy, Slot, Lent, searc
 use Rattle.claims.specs.Printed.{spaced, answerLine, refusalLine, lineOf, programAllowance, memoryFor, asksRing, programResult, printed}
 use Rattle.print_line.specs.Puts.{Puts}
 use Rattle.search_records.specs.Records.{blank}
-use Rattle.search_report.specs.declared.Outcome.{Outcome}
-use Rattle.search_report.specs.declared.Outcome.the-variants.{Proved, Refuted, Refused}
-use Rattle.search_report.specs.Outcomes.{Says, slotOf, lentOf}
+use Rattle.search_outcomes.specs.declared.Outcome.{Outcome}
+use Rattle.search_outcomes.specs.declared.Outcome.the-variants.{Proved, Refuted, Refused}
+use Rattle.search_outcomes.specs.Outcomes.{Says, slotOf, lentOf}
 use Rattle.outcome_lines.specs.Shown.{outcomeLine}
 use Rattle.outcome_lines.proofs.WordInSheet.{word-stands}
 use Rattle.outcome_lines.proofs.MoreRecords.{lend, same-result}

@@ -10,8 +10,8 @@ use Rattle.claims.specs.Bytes.{text}
 use Rattle.claims.specs.Refusals.{number}
 use Rattle.claims.specs.Printed.{spaced}
 use Rattle.refusals.specs.Causes.{causeOf}
-use Rattle.search_report.specs.declared.Outcome.{Outcome}
-use Rattle.search_report.specs.declared.Outcome.the-variants.{Proved, Refuted, Refused}
+use Rattle.search_outcomes.specs.declared.Outcome.{Outcome}
+use Rattle.search_outcomes.specs.declared.Outcome.the-variants.{Proved, Refuted, Refused}
 
 -- `proved` and the count, `refuted` and the word, which stands in the sheet behind seven bytes, or `refusal`, number, `line`, place
 abbrev pub outcomeLine : Outcome → List ℕ → List ℕ

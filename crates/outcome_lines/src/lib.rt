@@ -1,6 +1,6 @@
 // The line of an outcome, as bytes in lent memory, and how long the sheet of an outcome is. (Document 01, "The desk's cases" and "Sheet and
 // graph bytes".) The word of a refuted claim is read off the sheet.
-use search_report::Outcome;
+use search_outcomes::Outcome;
 ghost use Prim.Native.Nat.{_+_, _*_};
 ghost use mathlib.Core.Path.{_≡_};
 ghost use lib.ListN.{take, drop};

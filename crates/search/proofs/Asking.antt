@@ -13,9 +13,9 @@ use Rattle.query.specs.declared.Facts.{Facts}
 use Rattle.query.specs.declared.Answer.{Answer}
 use Rattle.query.specs.declared.Answer.the-variants.{Accepted as AcceptedFacts, Refused as RefusedQuery}
 use Rattle.query.specs.Answer.{Says, leftAfter, rightAfter}
-use Rattle.search_report.specs.declared.Outcome.{Outcome}
-use Rattle.search_report.specs.declared.Outcome.the-variants.{Refused}
-use Rattle.search_report.specs.Outcomes.{Gives}
+use Rattle.search_outcomes.specs.declared.Outcome.{Outcome}
+use Rattle.search_outcomes.specs.declared.Outcome.the-variants.{Refused}
+use Rattle.search_outcomes.specs.Outcomes.{Gives}
 use Rattle.query.specs.Decided.{Decided}
 use Rattle.query.proofs.Asked.{asked-with}
 

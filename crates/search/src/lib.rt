@@ -2,14 +2,14 @@
 // graph bytes" and "Refusals with an example each".) The query is read first, refusals 1 to 8; then come 9, 10 and 11. For every input the
 // outcome is said, and every record, word and byte that was lent.
 use query::Answer;
+use search_outcomes::Outcome;
 use search_records::Record;
-use search_report::Outcome;
 ghost use mathlib.Core.List.{List};
 ghost use lib.ListN.{replicate};
 ghost use Rattle.claims.specs.Calls.{search-call};
 ghost use Rattle.search_records.specs.declared.Record.{Record};
 ghost use Rattle.search_records.specs.Records.{blank};
-ghost use Rattle.search_report.specs.Outcomes.{lentOf, Gives};
+ghost use Rattle.search_outcomes.specs.Outcomes.{lentOf, Gives};
 
 // Searches for the verdict of the query that the text is, within an allowance of standings. A path claim needs a record for each standing
 // of the allowance, a ring claim 40 words; the other kind of memory is not looked at. After an answer the sheet stands at the start of the

@@ -14,7 +14,7 @@ use Rattle.claims.specs.Standings.{Letter}
 use Rattle.search_words.specs.declared.Shape.{Shape}
 use Rattle.words.specs.Memory.{words}
 use Rattle.search_words.specs.Systems.{width}
-use Rattle.search_store.specs.Store.{standingIn}
+use Rattle.search_places.specs.Store.{standingIn}
 use Rattle.search_grow.specs.Masks.{TriedAt, lettersLeft, letterWeight}
 use Rattle.search_grow.specs.Kept.{State, state, Inside, Ready, wordsAt, Noted, NotedBehind}
 use Rattle.search_grow.proofs.Adding.{inside-none, still-ready}

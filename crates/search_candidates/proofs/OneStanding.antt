@@ -11,7 +11,7 @@ use Rattle.claims.specs.Search.{completed}
 use Rattle.search_words.specs.declared.Shape.{Shape}
 use Rattle.search_words.specs.Systems.{finalsWords, wordSystem}
 use Rattle.search_words.specs.First.{firstOr}
-use Rattle.search_store.specs.Store.{standingAt}
+use Rattle.search_places.specs.Store.{standingAt}
 use Rattle.search_grow.specs.Kept.{State, state, Seen, Keeps, NotedBehind, NotedFrom}
 use Rattle.search_grow.proofs.Letters.{letters-start, weight-small}
 use Rattle.search_grow.proofs.Turns.{places-turn}

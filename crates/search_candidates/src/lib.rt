@@ -32,7 +32,7 @@ pub fn complete(
         → At k (now (left .entry)) (now (right .entry)) first later cap u r (now (words .entry)) × (turnWeight u < turnWeight t)) ⌝ }
 {
     let mut s = [0u64; 40];
-    search_store::stand(k.ring, from, words, t.at, &mut s);
+    search_places::stand(k.ring, from, words, t.at, &mut s);
     let a = search_kinds::first_final(k, left, right, &s);
     let mut u = t;
     if a < 64 {

@@ -4,7 +4,7 @@
 use case_lines::Case;
 use case_lines::Cases;
 use libc::STDOUT_FILENO;
-use search_report::Outcome;
+use search_outcomes::Outcome;
 
 // Whether the line is the one behind which sheets are asked for.
 fn asks_sheets(text: &[u8], n: usize) -> bool {

@@ -25,7 +25,7 @@ use Rattle.search_words.specs.Over.{nextLevelOver, levelsOver, verdictOver}
 use Rattle.search_words.specs.First.{firstAlone}
 use Rattle.search_words.proofs.Over.{over-spent, over-refuted, over-proved, over-more}
 use Rattle.search_words.proofs.First.{first-some, first-none, picked-below, first-alone}
-use Rattle.search_store.specs.Store.{prefixAt}
+use Rattle.search_places.specs.Store.{prefixAt}
 use Rattle.search_store.proofs.Held.{holds-none}
 use Rattle.search_course.specs.declared.Answer.the-variants.{Proved, Refuted}
 use Rattle.search_grow.specs.Kept.{State, state, Seen, standings, Keeps, Kept, grow, candidatesOf, NotedBehind, NotedFrom}

@@ -24,7 +24,7 @@ use Rattle.search_words.specs.RingWords.{ringFinals, ringCovered}
 use Rattle.standings.specs.Steps.{endsSet}
 use Rattle.search_words.specs.First.{firstOr}
 use Rattle.search_words.proofs.First.{first-some, first-none, picked-below}
-use Rattle.search_store.specs.Store.{standingAt, prefixAt}
+use Rattle.search_places.specs.Store.{standingAt, prefixAt}
 use Rattle.search_grow.specs.Kept.{State, Seen, prefixes, Keeps}
 use Rattle.search_course.specs.Answers.{wordAt}
 

@@ -11,7 +11,7 @@ use Rattle.claims.specs.Search.{proved, refuted, spent}
 use Rattle.search_words.specs.declared.Shape.{Shape}
 use Rattle.search_words.specs.Systems.{wordSystem}
 use Rattle.search_words.specs.Over.{levelsOver, verdictOver}
-use Rattle.search_store.specs.Store.{prefixAt}
+use Rattle.search_places.specs.Store.{prefixAt}
 use Rattle.search_course.specs.declared.Answer.{Answer}
 use Rattle.search_course.specs.declared.Answer.the-variants.{Proved, Refuted, Spent}
 use Rattle.search_grow.specs.Kept.{State, state, Seen, standings, prefixes, Keeps, Kept}

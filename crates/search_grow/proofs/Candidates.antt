@@ -20,7 +20,7 @@ use Rattle.bits.proofs.Lowest.{Lowest}
 use Rattle.search_words.specs.declared.Shape.{Shape}
 use Rattle.search_words.specs.Systems.{onwardWords, wordSystem}
 use Rattle.search_words.specs.Over.{nextLevelOver}
-use Rattle.search_store.specs.Store.{prefixAt}
+use Rattle.search_places.specs.Store.{prefixAt}
 use Rattle.search_grow.specs.Masks.{tried}
 use Rattle.search_grow.specs.Kept.{Seen, standings, prefixes, wordsBehind, candidate, candidates, candidatesOf}
 

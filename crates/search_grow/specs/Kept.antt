@@ -14,7 +14,7 @@ use Rattle.claims.specs.Standings.{Letter}
 use Rattle.claims.specs.Search.{Entry, fresh}
 use Rattle.search_words.specs.declared.Shape.{Shape}
 use Rattle.search_words.specs.Systems.{beginWords, onwardWords, wordSystem}
-use Rattle.search_store.specs.Store.{standingAt, Room, prefixAt, Holds}
+use Rattle.search_places.specs.Store.{standingAt, Room, prefixAt, Holds}
 
 -- the two memories, and how many standings were counted
 pub record State : Type 0 where

@@ -12,7 +12,7 @@ ghost use lib.Count.{trailingZeros};
 ghost use Rattle.search_words.specs.declared.Shape.{Shape};
 ghost use Rattle.search_words.specs.Systems.{width};
 ghost use Rattle.search_records.specs.Rows.{recordAt};
-ghost use Rattle.search_store.specs.Store.{standingIn};
+ghost use Rattle.search_places.specs.Store.{standingIn};
 ghost use Rattle.search_grow.specs.Masks.{lettersLeft, relationsLeft, TriedAt, letterWeight};
 ghost use Rattle.search_grow.specs.Kept.{state, Inside, wordsAt, Noted};
 
@@ -91,7 +91,7 @@ pub fn behind(
         return;
     }
     let mut s = [0u64; 40];
-    search_store::stand(k.ring, from, words, place - 1, &mut s);
+    search_places::stand(k.ring, from, words, place - 1, &mut s);
     search_kinds::onward(k, left, right, &s, a, r, to);
 }
 

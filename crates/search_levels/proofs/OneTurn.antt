@@ -16,8 +16,8 @@ use Rattle.claims.specs.Standings.{Letter}
 use Rattle.search_words.specs.declared.Shape.{Shape}
 use Rattle.search_words.specs.Systems.{width}
 use Rattle.search_records.specs.Rows.{rowOf, recordAt, FoundIn}
-use Rattle.search_store.specs.Store.{standingAt, standingIn, Place, recordsAfter, wordsAfter}
-use Rattle.search_store.proofs.Standing.{path-equal, path-first, path-second, records-path, words-path}
+use Rattle.search_places.specs.Store.{standingAt, standingIn, Place, recordsAfter, wordsAfter}
+use Rattle.search_places.proofs.Standing.{path-equal, path-first, path-second, records-path, words-path}
 use Rattle.search_grow.specs.Kept.{State, state, Inside, Ready, wordsAt, Noted, NotedBehind}
 use Rattle.search_grow.proofs.Adding.{inside-none, inside-count, still-ready, room-less}
 use Rattle.search_grow.proofs.Noting.{inside-appended, note-found, note-over, note-kept}

@@ -11,7 +11,7 @@ use Rattle.kat.specs.Lists.{upto}
 use Rattle.claims.specs.Fields.{bigEndian, field}
 use Rattle.claims.specs.Verdicts.{relationsIn}
 use Rattle.claims.proofs.Bytes.{bigEndian-length}
-use Rattle.search_store.specs.Store.{standingAt, parentAt, letterAt, Room}
+use Rattle.search_places.specs.Store.{standingAt, parentAt, letterAt, Room}
 use Rattle.search_contents.specs.Written.{written, over}
 use Rattle.search_contents.specs.FieldWords.{fieldWords, fieldLength}
 use Rattle.search_contents.proofs.Written.{length-over, length-written}

@@ -9,7 +9,7 @@ use mathlib.Core.List.{List}
 use lib.ListN.{length}
 use Rattle.kat.specs.Lists.{upto}
 use Rattle.claims.specs.Verdicts.{relationsIn}
-use Rattle.search_store.specs.Store.{Room}
+use Rattle.search_places.specs.Store.{Room}
 use Rattle.search_contents.specs.Written.{written, over}
 use Rattle.search_contents.specs.FieldWords.{fieldLength}
 use Rattle.search_sheet.specs.SheetWords.{Falling, prefixIn, prefixBytes, fieldsFrom, provedSheet, refutedSheet}

@@ -9,7 +9,7 @@ ghost use mathlib.Core.Bool.{true};
 ghost use mathlib.Core.List.{List};
 ghost use lib.ListN.{length};
 ghost use Rattle.search_records.specs.Rows.{recordAt};
-ghost use Rattle.search_store.specs.Store.{Room};
+ghost use Rattle.search_places.specs.Store.{Room};
 ghost use Rattle.search_contents.specs.FieldWords.{fieldLength};
 ghost use Rattle.search_listing.specs.Left.{looksAt, atEnd, FieldsLeft, ProofStands, proofTurns};
 

@@ -10,7 +10,7 @@ use borrow.Author.Tests.{leb-true}
 use Rattle.claims.specs.Sides.{Decision}
 use Rattle.claims.specs.Calls.{neededRecords, neededWords, enoughMemory}
 use Rattle.claims.specs.Width.{width, besideColumns, ringWords}
-use Rattle.search_store.specs.Store.{Room}
+use Rattle.search_places.specs.Store.{Room}
 use Rattle.search_memory.specs.inner.Memory.{roomFor, rowSlot, lentRows}
 
 module _ (ring : Bool) (n : ℕ) (r : List (List ℕ)) (w : List ℕ) where

@@ -5,14 +5,14 @@ use native.Mathlib.Omega.{arith}
 use mathlib.Core.Path.{_≡_, refl, sym, _∙_, ap, subst, subst⁻¹}
 use mathlib.Core.Bool.{Bool, true, false}
 use mathlib.Core.List.{List}
-use Rattle.search_store.specs.Store.{Room}
+use Rattle.search_places.specs.Store.{Room}
 use Rattle.search_sheet.specs.SheetWords.{Falling}
 use Rattle.search_listing.specs.declared.Writing.{Writing}
 use Rattle.search_listing.specs.Left.{atEnd, ProofStands, WordStands, proofTurns, wordTurns}
 use Rattle.search_course.specs.declared.Answer.{Answer as Found}
 use Rattle.search_course.specs.declared.Answer.the-variants.{Proved, Refuted, Spent}
-use Rattle.search_report.specs.inner.Found.{Reportable}
-use Rattle.search_report.specs.inner.Stands.{Stands, turns}
+use Rattle.search_outcomes.specs.inner.Found.{Reportable}
+use Rattle.search_outcomes.specs.inner.Stands.{Stands, turns}
 
 module _ (ring : Bool) (r : List (List ℕ)) (w : List ℕ) (y : Found) where
   -- what the memory has

@@ -1,5 +1,4 @@
--- What holds while a sheet is written, and what is reported then.
+-- What holds while a sheet is written.
 pub mod Found
-pub mod Reported
 -- The contract of the function over lent records, for callers.
 pub mod Contracts

@@ -1,23 +1,16 @@
 // What is reported of a search: its outcome and the sheet of what it found, from the memory that it leaves; refusals 10 and 11. (Document 01,
 // "Sheet and graph bytes" and "Refusals with an example each".)
-use refusals::Reason;
 use search_course::Answer;
 use search_listing::Writing;
+use search_outcomes::Outcome;
 use search_records::Record;
 ghost use Prim.Native.Nat.{ℕ, _<_};
 ghost use mathlib.Core.Path.{_≡_};
-ghost use mathlib.Core.Bool.{Bool, true, false};
+ghost use mathlib.Core.Bool.{true, false};
 ghost use mathlib.Core.List.{List};
 ghost use Rattle.search_records.specs.Rows.{rows, recordAt};
-ghost use Rattle.search_report.specs.inner.Found.{Reportable, foundIn, Reports};
-ghost use Rattle.search_report.specs.inner.Stands.{Stands, turns};
-
-// Proved with the count of standings, refuted with the length of the word, or the reason and the place of a refusal.
-pub enum Outcome {
-    Proved(usize),
-    Refuted(usize),
-    Refused(Reason, usize),
-}
+ghost use Rattle.search_outcomes.specs.inner.Found.{Reportable, foundIn, Reports};
+ghost use Rattle.search_outcomes.specs.inner.Stands.{Stands, turns};
 
 // The sheet of what was found begins.
 pub fn begin(ring: bool, found: Answer, buffer: &mut [u8]) -> Writing
@@ -63,22 +56,6 @@ pub fn put(
     }
 }
 
-// The outcome of what was found, once the sheet is written or the buffer was too short for it.
-pub fn tell(found: Answer, x: Writing) -> Outcome
-    ensures { λ o.
-        ⌜ ((ring : Bool) (r : List (List ℕ)) (w b₀ b : List ℕ) → x .going ≡ false → Stands ring r w b₀ found x b
-        → Reports (foundIn ring r w found) b₀ o b) ⌝ }
-{
-    if x.short {
-        return Outcome::Refused(Reason::ShortBuffer, 0);
-    }
-    match found {
-        Answer::Proved(n) => Outcome::Proved(n),
-        Answer::Refuted(_, _) => Outcome::Refuted(x.count),
-        Answer::Spent => Outcome::Refused(Reason::SpentAllowance, 0),
-    }
-}
-
 // The outcome of what was found, and its sheet: one record of the memory a turn.
 pub fn report(
     ring: bool,
@@ -95,5 +72,5 @@ pub fn report(
         let from = search_records::load(records, x.at);
         x = put(ring, from, words, found, x, buffer);
     }
-    tell(found, x)
+    search_outcomes::tell(found, x)
 }

@@ -31,7 +31,7 @@ use Rattle.search_words.proofs.RingShown.{ringShown}
 use Rattle.search_contents.specs.FieldWords.{contentsWords}
 use Rattle.search_sheet.proofs.SheetShown.{path-sheet, ring-sheet}
 use Rattle.query.specs.Decided.{Decided}
-use Rattle.search_run.specs.inner.Tried.{shapeOf, wordsVerdict}
+use Rattle.search_tried.specs.inner.Tried.{shapeOf, wordsVerdict}
 use Rattle.search_run.proofs.ByWords.{within-below, within-wider, within-rising, path-by-words, path-words-good, ring-by-words, ring-words-good}
 
 -- where the sheets are the same, the answers are

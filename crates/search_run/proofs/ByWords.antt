@@ -31,8 +31,8 @@ use Rattle.search_words.proofs.RingVerdict.{ring-shows}
 use Rattle.search_grow.specs.Masks.{tried, lettersIn}
 use Rattle.search_atoms.proofs.Letters.{letters-by-live, letters-by-path-masks, letters-by-ring-masks}
 use Rattle.search_atoms.proofs.Verdicts.{path-verdict-over-kept, ring-verdict-over-kept}
-use Rattle.search_run.specs.inner.Tried.{shapeOf, firstLetters, laterLetters, wordsVerdict}
-use Rattle.search_run.proofs.Tried.{path-first, ring-first}
+use Rattle.search_tried.specs.inner.Tried.{shapeOf, firstLetters, laterLetters, wordsVerdict}
+use Rattle.search_tried.proofs.Tried.{path-first, ring-first}
 
 -- lists that rise within a range
 within-above : (lo hi : ℕ) (l : List ℕ) → RisingWithin lo hi l → (b : ℕ) → In b l → lo ≤ b

@@ -19,7 +19,7 @@ use Rattle.query.specs.declared.Facts.{Facts}
 use Rattle.query.specs.Answer.{factsOf}
 use Rattle.search_words.specs.Systems.{wordSystem}
 use Rattle.search_contents.specs.FieldWords.{contentsWords}
-use Rattle.search_store.specs.Store.{Room}
+use Rattle.search_places.specs.Store.{Room}
 use Rattle.search_sheet.proofs.Steps.{room-below}
 use Rattle.search_sheet.proofs.PrefixIn.{holds-falls, prefix-kept}
 use Rattle.search_sheet.proofs.SheetKept.{proved-sheet, refuted-sheet}
@@ -27,12 +27,12 @@ use Rattle.search_grow.specs.Kept.{state, Inside, Ready, standings, prefixes}
 use Rattle.search_course.specs.declared.Answer.{Answer as Found}
 use Rattle.search_course.specs.declared.Answer.the-variants.{Proved as FoundProof, Refuted as FoundWord, Spent}
 use Rattle.search_course.specs.Answers.{Answered}
-use Rattle.search_report.specs.declared.Outcome.{Outcome}
-use Rattle.search_report.specs.Outcomes.{Gives}
+use Rattle.search_outcomes.specs.declared.Outcome.{Outcome}
+use Rattle.search_outcomes.specs.Outcomes.{Gives}
 use Rattle.search_memory.specs.inner.Memory.{rowSlot, lentRows}
 use Rattle.query.specs.Decided.{Decided}
-use Rattle.search_run.specs.inner.Tried.{shapeOf, firstLetters, laterLetters, wordsVerdict}
-use Rattle.search_report.specs.inner.Found.{Reportable, provedIn, refutedIn, foundIn, told, put, Reports}
+use Rattle.search_tried.specs.inner.Tried.{shapeOf, firstLetters, laterLetters, wordsVerdict}
+use Rattle.search_outcomes.specs.inner.Found.{Reportable, provedIn, refutedIn, foundIn, told, put, Reports}
 use Rattle.search_run.proofs.Answers.{OnWords, decided-on-words}
 use Rattle.search_records.proofs.Cleared.{cleared-same, map-cleared}
 use Rattle.search_run.proofs.Cleared.{ClearedBy}

@@ -9,7 +9,7 @@ use Rattle.search_atoms.specs.Masks.{masksOf}
 use Rattle.search_grow.specs.Masks.{lettersIn}
 use Rattle.search_course.specs.declared.Answer.{Answer as Found}
 use Rattle.search_course.specs.Answers.{Answered}
-use Rattle.search_run.specs.inner.Tried.{shapeOf, firstMasks, firstLetters, laterLetters}
+use Rattle.search_tried.specs.inner.Tried.{shapeOf, firstMasks, firstLetters, laterLetters}
 
 module _ (f : Facts) (left right first later : List ℕ) (cap : ℕ) (r : List (List ℕ)) (w : List ℕ) (x : Found)
     (is-first : first ≡ firstMasks f left right) (is-later : later ≡ masksOf (shapeOf f) (f .left) left right) where

@@ -1,5 +1,4 @@
--- The letters that are tried. The verdict of a decision is that on words, and so is its answer.
-pub mod Tried
+-- The verdict of a decision is that on words, and so is its answer.
 pub mod ByWords
 pub mod Answers
 -- The memory that is cleared.

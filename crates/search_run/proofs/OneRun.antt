@@ -16,11 +16,11 @@ use Rattle.search_grow.specs.Masks.{lettersIn}
 use Rattle.search_grow.specs.Kept.{state, Inside, Ready}
 use Rattle.search_course.specs.declared.Answer.{Answer as Found}
 use Rattle.search_course.specs.Answers.{Answered}
-use Rattle.search_report.specs.declared.Outcome.{Outcome}
-use Rattle.search_report.specs.Outcomes.{Gives}
+use Rattle.search_outcomes.specs.declared.Outcome.{Outcome}
+use Rattle.search_outcomes.specs.Outcomes.{Gives}
 use Rattle.search_memory.specs.inner.Memory.{lentRows}
-use Rattle.search_run.specs.inner.Tried.{shapeOf, firstMasks, firstLetters, laterLetters}
-use Rattle.search_report.specs.inner.Found.{Reportable, foundIn, Reports}
+use Rattle.search_tried.specs.inner.Tried.{shapeOf, firstMasks, firstLetters, laterLetters}
+use Rattle.search_outcomes.specs.inner.Found.{Reportable, foundIn, Reports}
 use Rattle.search_run.proofs.Levels.{finds}
 use Rattle.search_run.proofs.Finished.{room-kept, reportable, run-gives, cleared-by, records-there, words-there}
 

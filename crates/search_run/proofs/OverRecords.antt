@@ -19,12 +19,12 @@ use Rattle.search_records.specs.Records.{blank}
 use Rattle.search_records.specs.Rows.{rowOf, rows}
 use Rattle.search_records.proofs.Rows.{rows-length, rows-cleared}
 use Rattle.search_course.specs.declared.Answer.{Answer as Found}
-use Rattle.search_report.specs.declared.Outcome.{Outcome}
-use Rattle.search_report.specs.declared.Outcome.the-variants.{Refused}
-use Rattle.search_report.specs.Outcomes.{slotOf, lentOf, Gives}
+use Rattle.search_outcomes.specs.declared.Outcome.{Outcome}
+use Rattle.search_outcomes.specs.declared.Outcome.the-variants.{Refused}
+use Rattle.search_outcomes.specs.Outcomes.{slotOf, lentOf, Gives}
 use Rattle.search_memory.specs.inner.Memory.{rowSlot, lentRows, roomFor}
-use Rattle.search_run.specs.inner.Tried.{shapeOf, firstMasks}
-use Rattle.search_report.specs.inner.Found.{foundIn, Reports}
+use Rattle.search_tried.specs.inner.Tried.{shapeOf, firstMasks}
+use Rattle.search_outcomes.specs.inner.Found.{foundIn, Reports}
 use Rattle.search_run.proofs.OneRun.{Found-by, run-records, run-done}
 use Rattle.search_run.proofs.Ways.{short-gives, enough-ready, searched-gives}
 

@@ -16,9 +16,9 @@ use Rattle.refusals.specs.declared.Reason.the-variants.{BadAllowance, ShortMemo
 use Rattle.query.specs.declared.Facts.{Facts}
 use Rattle.query.specs.Answer.{factsOf}
 use Rattle.search_grow.specs.Kept.{state, Ready}
-use Rattle.search_report.specs.declared.Outcome.{Outcome}
-use Rattle.search_report.specs.declared.Outcome.the-variants.{Refused}
-use Rattle.search_report.specs.Outcomes.{Gives}
+use Rattle.search_outcomes.specs.declared.Outcome.{Outcome}
+use Rattle.search_outcomes.specs.declared.Outcome.the-variants.{Refused}
+use Rattle.search_outcomes.specs.Outcomes.{Gives}
 use Rattle.query.specs.Decided.{Decided}
 use Rattle.search_memory.specs.inner.Memory.{roomFor, lentRows}
 use Rattle.search_memory.proofs.Rooms.{room-by-test, enough-is}

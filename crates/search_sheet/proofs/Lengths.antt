@@ -11,7 +11,7 @@ use Rattle.kat.specs.Lists.{counted, upto}
 use Rattle.claims.specs.Verdicts.{relationsIn}
 use Rattle.claims.specs.Fields.{field}
 use Rattle.claims.proofs.Bytes.{field-length}
-use Rattle.search_store.specs.Store.{standingAt}
+use Rattle.search_places.specs.Store.{standingAt}
 use Rattle.search_contents.specs.FieldWords.{fieldWords, fieldLength}
 use Rattle.search_contents.proofs.Fields.{field-count}
 use Rattle.search_sheet.specs.SheetWords.{prefixIn, wordBytes, fieldsFrom, provedSheet, refutedSheet}

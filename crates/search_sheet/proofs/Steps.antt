@@ -13,7 +13,7 @@ use Rattle.claims.specs.Fields.{bigEndian, field}
 use Rattle.claims.specs.Verdicts.{relationsIn}
 use Rattle.claims.proofs.Bytes.{bigEndian-length}
 use Rattle.standings.proofs.Upto.{upto-more}
-use Rattle.search_store.specs.Store.{standingAt, parentAt, letterAt, Room}
+use Rattle.search_places.specs.Store.{standingAt, parentAt, letterAt, Room}
 use Rattle.search_contents.specs.Written.{written, over}
 use Rattle.search_contents.specs.FieldWords.{fieldWords, fieldLength}
 use Rattle.search_contents.proofs.Written.{written-next, over-none, over-next, over-before, length-written}

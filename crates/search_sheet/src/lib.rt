@@ -15,7 +15,7 @@ ghost use lib.ListN.{length, take};
 ghost use Rattle.claims.specs.Fields.{bigEndian, field};
 ghost use Rattle.search_words.specs.Systems.{width};
 ghost use Rattle.search_records.specs.Rows.{recordAt};
-ghost use Rattle.search_store.specs.Store.{standingAt, parentAt, letterAt};
+ghost use Rattle.search_places.specs.Store.{standingAt, parentAt, letterAt};
 ghost use Rattle.search_contents.specs.Written.{written, over};
 ghost use Rattle.search_contents.specs.FieldWords.{fieldWords, fieldLength};
 ghost use Rattle.search_sheet.specs.SheetWords.{letterBytes, wordHead};
@@ -49,7 +49,7 @@ pub fn put_kept(ring: bool, from: Record, words: &[u64], i: usize, out: &mut [u8
         → now (out .exit) ≡ written (fieldWords ring (standingAt ring r (now (words .entry)) i)) (now (out .entry))) ⌝ }
 {
     let mut s = [0u64; 40];
-    search_store::stand(ring, from, words, i, &mut s);
+    search_places::stand(ring, from, words, i, &mut s);
     put_standing(ring, &s, out)
 }
 

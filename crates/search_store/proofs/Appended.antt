@@ -12,8 +12,8 @@ use Rattle.kat.proofs.Bools.{lt-or-le}
 use Rattle.words.specs.Memory.{words}
 use Rattle.words.proofs.Words.{words-same, changed-out, below, above}
 use Rattle.search_words.specs.Systems.{width}
-use Rattle.search_store.specs.Store.{fieldAt, standingAt, parentAt, letterAt, standingIn, Room, copied, recordsAfter, wordsAfter}
-use Rattle.search_store.proofs.Standing.{copy-at, copied-length}
+use Rattle.search_places.specs.Store.{fieldAt, standingAt, parentAt, letterAt, standingIn, Room, copied, recordsAfter, wordsAfter}
+use Rattle.search_places.proofs.Standing.{copy-at, copied-length}
 
 -- 34 words put at a place change nothing else
 module _ (to : List ℕ) (at : ℕ) (from : List ℕ) (base : ℕ) where

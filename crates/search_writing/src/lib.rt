@@ -3,11 +3,11 @@
 // is known once the relations of its prefix are counted. The letters are put from the last to the first, since a standing has its parent.
 // What is required of the sheet is how the turn before has left it, and of the standings what the allowance lets through.
 use search_listing::Writing;
+use search_places::letter;
+use search_places::parent;
 use search_records::Record;
 use search_sheet::put_frame;
 use search_sheet::put_letter;
-use search_store::letter;
-use search_store::parent;
 ghost use Prim.Native.Nat.{ℕ, _+_, _*_, _-_, _≤_, _<_};
 ghost use mathlib.Core.Path.{_≡_};
 ghost use mathlib.Core.Bool.{Bool, true};
@@ -15,7 +15,7 @@ ghost use mathlib.Core.List.{List};
 ghost use lib.ListN.{length};
 ghost use Rattle.claims.specs.Verdicts.{relationsIn};
 ghost use Rattle.search_records.specs.Rows.{recordAt};
-ghost use Rattle.search_store.specs.Store.{Room};
+ghost use Rattle.search_places.specs.Store.{Room};
 ghost use Rattle.search_sheet.specs.SheetWords.{Falling, prefixIn};
 ghost use Rattle.search_listing.specs.Left.{RelationsLeft, LettersLeft, WordStands, wordTurns};
 

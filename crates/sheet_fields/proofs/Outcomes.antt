@@ -20,13 +20,13 @@ use Rattle.sheet_cells.specs.CellSystem.{cellsShow}
 use Rattle.query.specs.Answer.{factsOf}
 use Rattle.query.specs.Decided.{Decided}
 use Rattle.query.specs.declared.Facts.{Facts}
-use Rattle.sheet_word.specs.ByteWords.{wordFits, wordRead}
-use Rattle.sheet_word.proofs.WordsRead.{word-of}
+use Rattle.sheet_letters.specs.ByteWords.{wordFits, wordRead}
+use Rattle.sheet_letters.proofs.WordsRead.{word-of}
 use Rattle.sheet_fields.specs.declared.Part.{Part}
 use Rattle.sheet_fields.specs.declared.Part.the-variants.{Proved, Refuted, Wrong}
 use Rattle.sheet_fields.specs.Reads.{cellsListed, ProvedAt, Reads}
-use Rattle.sheet_fields.specs.inner.Steps.{verdictOf, VerdictAt, mayList}
-use Rattle.sheet_fields.proofs.Verdicts.{WholeAt}
+use Rattle.sheet_verdicts.specs.inner.Steps.{verdictOf, VerdictAt, mayList}
+use Rattle.sheet_verdicts.proofs.Verdicts.{WholeAt}
 use Rattle.sheet_fields.proofs.SoFar.{SoFar, so-far-none, so-far-end, so-far-full, so-far-wrong, so-far-more}
 
 -- a field is wrong

@@ -37,7 +37,7 @@ use Rattle.sheet_word.proofs.Refuted.{decided-shows}
 use Rattle.query.specs.Decided.{Decided}
 use Rattle.query.specs.declared.Facts.{Facts}
 use Rattle.sheet_fields.specs.Reads.{cellsListed}
-use Rattle.sheet_fields.specs.inner.Steps.{sized, mayList}
+use Rattle.sheet_verdicts.specs.inner.Steps.{sized, mayList}
 
 -- one standing more
 upto-last : (i n : ℕ) → counted i (suc n) ≡ counted i n ++ ((i + n) ∷ [])

@@ -3,7 +3,7 @@
 // index, which is left behind for the check.
 use fields::Field;
 use query::Facts;
-ghost use Prim.Native.Nat.{ℕ, suc, _+_, _*_, _≤_};
+ghost use Prim.Native.Nat.{ℕ, suc, _+_, _≤_};
 ghost use mathlib.Core.Path.{_≡_};
 ghost use mathlib.Core.List.{List, []};
 ghost use lib.ListN.{length, drop};
@@ -11,11 +11,9 @@ ghost use Rattle.claims.specs.Sides.{Decision};
 ghost use Rattle.claims.specs.Fields.{nextField};
 ghost use Rattle.claims.specs.SheetReading.{standingsIn, wordFrom, partIn};
 ghost use Rattle.words.specs.Memory.{zeros};
-ghost use Rattle.sheet_cells.specs.Layout.{fieldLength, listedCells};
-ghost use Rattle.sheet_slots.specs.Index.{Indexed};
+ghost use Rattle.sheet_cells.specs.Layout.{fieldLength};
 ghost use Rattle.query.specs.Decided.{Decided};
 ghost use Rattle.sheet_fields.specs.Reads.{Inside, Reads};
-ghost use Rattle.sheet_fields.specs.inner.Steps.{VerdictAt, sized, mayList};
 
 // Proved, with the place where the fields of the standings begin, their number, and the place where the next field would start; refuted, with
 // the places where the word's bytes begin and end; or the number of good fields before the wrong one.
@@ -23,75 +21,6 @@ pub enum Part {
     Proved(usize, usize, usize),
     Refuted(usize, usize),
     Wrong(usize),
-}
-
-// A byte as a word.
-fn wide(b: u8) -> u64
-    ensures { λ r. ⌜ r ≡ b ⌝ }
-{
-    b as u64
-}
-
-// The verdict of the field at a place: 1 proved, 2 refuted, 0 for a field that is no verdict.
-fn verdict(sheet: &[u8], at: usize) -> u64
-    ensures { λ v. ⌜ VerdictAt (now (sheet .entry)) at v ⌝ }
-{
-    let Field::Whole(tag, from, to) = sheet_reader::field_at(sheet, at) else {
-        return 0;
-    };
-    if tag != 1 {
-        return 0;
-    }
-    if to - from != 1 {
-        return 0;
-    }
-    let v = wide(sheet[from]);
-    if v == 1 {
-        return 1;
-    }
-    if v == 2 {
-        return 2;
-    }
-    0
-}
-
-// Whether the field at a place is whole and as long as a standing's.
-fn is_sized(sheet: &[u8], at: usize, ring: bool) -> bool
-    ensures { λ b. ⌜ b ≡ sized ring (nextField (drop at (now (sheet .entry)))) ⌝ }
-{
-    let Field::Whole(_, from, to) = sheet_reader::field_at(sheet, at) else {
-        return false;
-    };
-    if ring {
-        return to - from == 266;
-    }
-    to - from == 16
-}
-
-// Whether the field at a place is that of a standing which may be listed as number n: of its length, with nothing too large, and none of
-// those before it. The index is that of the standings before it, which lie in the sheet.
-fn may_list(
-    f: Facts,
-    sheet: &[u8],
-    base: usize,
-    heads: &[u64; 8192],
-    chain: &[u64; 4096],
-    n: usize,
-    at: usize,
-) -> bool
-    requires { ⌜ Indexed (now heads) (now chain) (listedCells (f .ring) (now sheet) base) n × (n ≤ 4096)
-        × (base + fieldLength (f .ring) * n ≤ length (now sheet)) ⌝ }
-    ensures { λ b. ⌜ b ≡ mayList (f .ring) (f .atoms) (f .left) (f .right) (now (sheet .entry)) base n at ⌝ }
-{
-    if !is_sized(sheet, at, f.ring) {
-        return false;
-    }
-    let mut cells = [0u64; 67];
-    sheet_load::load(sheet, at, f.ring, &mut cells);
-    if !sheet_fits::fits(f.ring, f.atoms, f.left, f.right, &cells) {
-        return false;
-    }
-    sheet_index::find(sheet, base, f.ring, heads, chain, n, &cells) == 0
 }
 
 // How many bytes the field of a standing is.
@@ -122,7 +51,7 @@ fn standings(
         if n == 4096 {
             return Part::Wrong(4097);
         }
-        if !may_list(f, sheet, base, heads, chain, n, at) {
+        if !sheet_verdicts::may_list(f, sheet, base, heads, chain, n, at) {
             return Part::Wrong(n + 1);
         }
         sheet_index::add(sheet, base, f.ring, heads, chain, n);
@@ -146,7 +75,7 @@ fn word(f: Facts, sheet: &[u8], at: usize) -> Part
         return Part::Wrong(1);
     }
     let bytes = &sheet[from..to];
-    if sheet_word::fits(bytes, f.atoms, f.relations) {
+    if sheet_letters::fits(bytes, f.atoms, f.relations) {
         return Part::Refuted(from, to);
     }
     Part::Wrong(1)
@@ -167,7 +96,7 @@ pub fn part_at(
         ⌜ ((left right : List ℕ) (D : Decision) → Decided f left right D → (k : ℕ)
         → Reads (f .ring) D (now (sheet .entry)) k (partIn D k (drop at (now (sheet .entry)))) r) ⌝ }
 {
-    let said = verdict(sheet, at);
+    let said = sheet_verdicts::verdict(sheet, at);
     if said == 1 {
         return standings(f, sheet, at + 4, heads, chain);
     }

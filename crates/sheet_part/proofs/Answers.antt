@@ -15,7 +15,7 @@ use Rattle.claims.specs.Passing.{passes, refuting}
 use Rattle.query.specs.declared.Facts.{Facts}
 use Rattle.query.specs.Decided.{Decided}
 use Rattle.sheet_cells.specs.CellSystem.{cellSystem}
-use Rattle.sheet_word.specs.ByteWords.{wordRead}
+use Rattle.sheet_letters.specs.ByteWords.{wordRead}
 use Rattle.sheet_word.proofs.Refuted.{refutes-passes}
 use Rattle.sheet_fields.specs.declared.Part.{Part}
 use Rattle.sheet_fields.specs.declared.Part.the-variants.{Proved as ProvedAt, Refuted as RefutedAt, Wrong as WrongAt}

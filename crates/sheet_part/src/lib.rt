@@ -10,7 +10,7 @@ ghost use Rattle.claims.specs.SheetReading.{partIn};
 ghost use Rattle.claims.specs.Passing.{refuting};
 ghost use Rattle.query.specs.Decided.{Decided};
 ghost use Rattle.sheet_cells.specs.CellSystem.{cellSystem};
-ghost use Rattle.sheet_word.specs.ByteWords.{wordRead};
+ghost use Rattle.sheet_letters.specs.ByteWords.{wordRead};
 ghost use Rattle.sheet_part.specs.Tests.{Tests, FewFields};
 
 // Says proved or refuted; whether it passes, how many fields it has, and where the next one would start. Or how many good fields stand before

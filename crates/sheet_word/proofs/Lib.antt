@@ -1,5 +1,4 @@
--- Bytes are read as words as document 01 reads them, and pass where they refute on cells.
-pub mod WordsRead
+-- Bytes that are a word pass where they refute on cells.
 pub mod Refuted
 -- A word two bytes at a time.
 mod Steps

@@ -27,8 +27,8 @@ use Rattle.sheet_cells.proofs.PassingShown.{refuting-shown}
 use Rattle.query.specs.Answer.{factsOf}
 use Rattle.query.specs.Decided.{Decided}
 use Rattle.query.specs.declared.Facts.{Facts}
-use Rattle.sheet_word.specs.ByteWords.{wordFits, wordRead}
-use Rattle.sheet_word.proofs.WordsRead.{word-of}
+use Rattle.sheet_letters.specs.ByteWords.{wordFits, wordRead}
+use Rattle.sheet_letters.proofs.WordsRead.{word-of}
 
 -- numbers below m are below any larger number
 rising-wider : (lo m n : ℕ) (ks : List ℕ) → m ≤ n → RisingWithin lo m ks → RisingWithin lo n ks

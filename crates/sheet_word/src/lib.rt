@@ -10,44 +10,7 @@ ghost use Rattle.claims.specs.Passing.{completes, refuting};
 ghost use Rattle.standings.specs.Steps.{aloneWords};
 ghost use Rattle.sheet_cells.specs.Layout.{cellCount};
 ghost use Rattle.sheet_cells.specs.CellSystem.{beginCells, onwardCells, cellSystem};
-ghost use Rattle.sheet_word.specs.ByteWords.{wordFits, wordRead};
-
-// A byte as a number.
-fn wide(b: u8) -> usize
-    ensures { λ r. ⌜ (r ≡ b) × (r < 256) ⌝ }
-{
-    b as usize
-}
-
-// Whether the bytes are a word: an odd number of them, each atom and each relation below its bound.
-pub fn fits(word: &[u8], atoms: usize, relations: usize) -> bool
-    ensures { λ r. ⌜ r ≡ wordFits atoms relations (now (word .entry)) ⌝ }
-{
-    let mut i = 0;
-    while 1 < word.len() - i {
-        if atoms <= wide(word[i]) {
-            return false;
-        }
-        if relations <= wide(word[i + 1]) {
-            return false;
-        }
-        i += 2;
-    }
-    if i < word.len() {
-        return wide(word[i]) < atoms;
-    }
-    false
-}
-
-// The number at a place of the word; past its end it is 0.
-fn number_at(word: &[u8], i: usize) -> usize
-    ensures { λ r. ⌜ (r ≡ getD (now (word .entry)) i 0) × (r < 256) ⌝ }
-{
-    if i < word.len() {
-        return wide(word[i]);
-    }
-    0
-}
+ghost use Rattle.sheet_letters.specs.ByteWords.{wordRead};
 
 // Whether the atom is a refuting word of length 0.
 fn is_alone(live: u64, left: &[u64; 4241], right: &[u64; 4241], a: usize) -> bool
@@ -112,15 +75,15 @@ fn completing(
     let mut t = s;
     let mut i = from;
     while 1 < word.len() - i {
-        let a = number_at(word, i);
+        let a = sheet_letters::number_at(word, i);
         if !bits::member(f.live, a) {
             return false;
         }
-        let r = number_at(word, i + 1);
+        let r = sheet_letters::number_at(word, i + 1);
         t = stepped(f.ring, left, right, t, a, r);
         i += 2;
     }
-    let last = number_at(word, i);
+    let last = sheet_letters::number_at(word, i);
     sheet_kinds::completes_with(f.ring, f.right, f.live, left, right, &t, last)
 }
 
@@ -130,14 +93,14 @@ pub fn refutes(f: Facts, left: &[u64; 4241], right: &[u64; 4241], word: &[u8]) -
         ⌜ b ≡ refuting (cellSystem (f .ring) (f .right) (f .live) (f .relations) (now (left .entry)) (now (right .entry)))
         (wordRead (now (word .entry))) ⌝ }
 {
-    let a = number_at(word, 0);
+    let a = sheet_letters::number_at(word, 0);
     if word.len() < 2 {
         return is_alone(f.live, left, right, a);
     }
     if !bits::member(f.live, a) {
         return false;
     }
-    let r = number_at(word, 1);
+    let r = sheet_letters::number_at(word, 1);
     let s = begun(f.ring, left, right, a, r);
     completing(f, left, right, word, 2, s)
 }

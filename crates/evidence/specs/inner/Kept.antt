@@ -5,8 +5,8 @@ use Prim.Native.Nat.{ℕ}
 use Rattle.claims.specs.Refusals.{Result, ok, refused}
 use Rattle.claims.specs.Calls.{Passed, passedProved, passedRefuted}
 use Rattle.refusals.specs.declared.Reason.the-variants.{DoesNotPass}
-use Rattle.search_report.specs.declared.Outcome.{Outcome}
-use Rattle.search_report.specs.declared.Outcome.the-variants.{Proved, Refuted, Refused}
+use Rattle.search_outcomes.specs.declared.Outcome.{Outcome}
+use Rattle.search_outcomes.specs.declared.Outcome.the-variants.{Proved, Refuted, Refused}
 use Rattle.sheet.specs.declared.Checked.{Checked}
 use Rattle.sheet.specs.declared.Checked.the-variants.{Proved as PassesProved, Refuted as PassesRefuted, Refused as Fails}
 

@@ -2,7 +2,7 @@
 -- Assumes nothing.
 use mathlib.Core.Path.{refl, ap}
 use Rattle.claims.specs.Calls.{Lent}
-use Rattle.search_report.specs.Outcomes.{lentOf}
+use Rattle.search_outcomes.specs.Outcomes.{lentOf}
 use Rattle.outcome_lines.proofs.OutcomeLines.{puts-same, program-line, program-says}
 use borrow.Author.Needs.{needs}
 use Rattle.fence_line.proofs.line.Statement.{statement}

@@ -2,7 +2,7 @@
 -- Assumes nothing.
 use mathlib.Core.Path.{_∙_, sym, ap}
 use Rattle.outcome_lines.specs.Shown.{lengthShown}
-use Rattle.search_report.specs.declared.Outcome.{Outcome}
+use Rattle.search_outcomes.specs.declared.Outcome.{Outcome}
 use Rattle.outcome_lines.proofs.Lengths.{shown-proved, shown-long, shown-refuted}
 use borrow.Author.Needs.{needs}
 use Rattle.outcome_lines.proofs.sheet_length.Statement.{statement}

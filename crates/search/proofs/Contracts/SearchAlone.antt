@@ -11,8 +11,8 @@ use mathlib.Core.List.{List, [], _∷_}
 use mathlib.Core.Path.{refl}
 use mir.Syntax.{w64, w8}
 use Rattle.derivations.proofs.Plain as Plain
-use Rattle.search_report.proofs.Outcome.Laws as Outcome′
-use Rattle.search_report.proofs.Outcome
+use Rattle.search_outcomes.proofs.Outcome.Laws as Outcome′
+use Rattle.search_outcomes.proofs.Outcome
 use Rattle.search.proofs.search_alone as fn
 use Rattle.search.proofs.search_alone.Symbol as symbol
 

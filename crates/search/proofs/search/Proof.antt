@@ -20,7 +20,7 @@ use denote.Enum.Declared.{tagOf}
 use borrow.Enum.Match.{each-below, tag-small}
 use Rattle.query.proofs.Answer
 use Rattle.query.proofs.Asked.{few-relations}
-use Rattle.search_report.specs.Outcomes.{lentOf}
+use Rattle.search_outcomes.specs.Outcomes.{lentOf}
 use Rattle.search.proofs.Asking.{refused-gives, accepted-gives}
 use Rattle.derivations.proofs.Derive.{fix, homesOf}
 use Rattle.derivations.proofs.Plain as Plain

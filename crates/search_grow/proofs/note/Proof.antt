@@ -1,7 +1,7 @@
 use Rattle.search_grow.proofs.Noting.{first-word, by-ring, ring-place, ring-records, ring-room, inside-appended, note-impossible, note-spent, note-found, note-over, note-kept}
 use Rattle.search_grow.proofs.Adding.{inside-none, inside-count}
 use Rattle.search_grow.specs.Kept.{state, Noted}
-use Rattle.search_store.specs.Store.{standingIn}
+use Rattle.search_places.specs.Store.{standingIn}
 use Rattle.search_words.specs.declared.Shape.{Shape}
 use mathlib.Core.List.{List}
 use mathlib.Core.Bool.{true}

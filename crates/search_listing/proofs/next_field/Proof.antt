@@ -4,7 +4,7 @@ use Prim.Native.Nat.{_-_}
 use native.Mathlib.Omega.{arith}
 use mathlib.Core.Path.{_∙_, ap}
 use lib.ListN.{length, drop, length-take, length-drop}
-use Rattle.search_store.specs.Store.{standingAt}
+use Rattle.search_places.specs.Store.{standingAt}
 use Rattle.search_contents.specs.Written.{over}
 use Rattle.search_contents.specs.FieldWords.{fieldWords, fieldLength}
 use Rattle.search_contents.proofs.Written.{part-written}

@@ -12,9 +12,9 @@ use mathlib.Core.Path.{refl}
 use mir.Syntax.{w64, w8}
 use Rattle.derivations.proofs.Plain as Plain
 use Rattle.search_course.proofs.Answer.Laws as Answer′
-use Rattle.search_report.proofs.Outcome.Laws as Outcome′
+use Rattle.search_outcomes.proofs.Outcome.Laws as Outcome′
 use Rattle.search_course.proofs.Answer
-use Rattle.search_report.proofs.Outcome
+use Rattle.search_outcomes.proofs.Outcome
 use Rattle.search_records.proofs.Record
 use Rattle.search_report.proofs.report as fn
 use Rattle.search_report.proofs.report.Symbol as symbol

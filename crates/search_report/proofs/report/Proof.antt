@@ -19,7 +19,7 @@ use borrow.Fn.Run.{Over}
 use borrow.Fn.World.{World}
 use Rattle.search_records.specs.Rows.{rows}
 use Rattle.search_records.proofs.Rows.{rows-at}
-use Rattle.search_report.specs.inner.Stands.{turns}
+use Rattle.search_outcomes.specs.inner.Stands.{turns}
 use Rattle.derivations.proofs.Derive.{fix, homesOf}
 use Rattle.derivations.proofs.Plain as Plain
 use Rattle.search_report.proofs.Contracts.Report.{ps, r, spec}
@@ -34,10 +34,10 @@ use Rattle.search_report.proofs.put.Kinds as put-Kinds
 use Rattle.search_report.proofs.put.Met as put-Met
 use Rattle.search_report.proofs.put.Reads as put-Reads
 use Rattle.search_report.proofs.put.Symbol as put-Symbol
-use Rattle.search_report.proofs.tell.Kinds as tell-Kinds
-use Rattle.search_report.proofs.tell.Met as tell-Met
-use Rattle.search_report.proofs.tell.Reads as tell-Reads
-use Rattle.search_report.proofs.tell.Symbol as tell-Symbol
+use Rattle.search_outcomes.proofs.tell.Kinds as tell-Kinds
+use Rattle.search_outcomes.proofs.tell.Met as tell-Met
+use Rattle.search_outcomes.proofs.tell.Reads as tell-Reads
+use Rattle.search_outcomes.proofs.tell.Symbol as tell-Symbol
 use Rattle.search_report.proofs.report.Code as code
 use Rattle.search_report.proofs.report.Proof.Steps.{xs, d}
 use Rattle.search_report.proofs.report.Statement as stated
@@ -107,4 +107,4 @@ report-spec {M} 𝓤 H 𝓜 𝓖 𝓡 =
     (begin-Reads.known w code.env begin-Symbol.name begin-Symbol.routine code.calls-search-report·begin (begin-Met.met 𝓤 H 𝓜 𝓖 𝓡))
     (Plain.known Load.spec w code.env load-Symbol.name load-Symbol.routine code.calls-search-records·load (load-Met.met 𝓤 H 𝓜 𝓖 𝓡))
     (put-Reads.known w code.env put-Symbol.name put-Symbol.routine code.calls-search-report·put (put-Met.met 𝓤 H 𝓜 𝓖 𝓡))
-    (tell-Reads.known w code.env tell-Symbol.name tell-Symbol.routine code.calls-search-report·tell (tell-Met.met 𝓤 H 𝓜 𝓖 𝓡)))
+    (tell-Reads.known w code.env tell-Symbol.name tell-Symbol.routine code.calls-search-outcomes·tell (tell-Met.met 𝓤 H 𝓜 𝓖 𝓡)))

@@ -12,9 +12,9 @@ use mathlib.Core.Path.{refl}
 use mir.Syntax.{w64, w8}
 use Rattle.derivations.proofs.Plain as Plain
 use Rattle.query.proofs.Facts.Laws as Facts′
-use Rattle.search_report.proofs.Outcome.Laws as Outcome′
+use Rattle.search_outcomes.proofs.Outcome.Laws as Outcome′
 use Rattle.query.proofs.Facts
-use Rattle.search_report.proofs.Outcome
+use Rattle.search_outcomes.proofs.Outcome
 use Rattle.search_records.proofs.Record
 use Rattle.search_run.proofs.run as fn
 use Rattle.search_run.proofs.run.Symbol as symbol

@@ -17,7 +17,7 @@ use borrow.Fn.Plain.{Known, plainOf, t-fn-plain}
 use borrow.Fn.Run.{Over}
 use borrow.Fn.World.{World}
 use borrow.Author.Tests.{eqb-true, eqb-false, ltb-true, ltb-false}
-use Rattle.search_report.specs.Outcomes.{lentOf}
+use Rattle.search_outcomes.specs.Outcomes.{lentOf}
 use Rattle.search_run.proofs.Ways.{none-gives, far-gives}
 use Rattle.search_run.proofs.OverRecords.{short-way, run-asks, searched-way}
 use Rattle.derivations.proofs.Derive.{fix, homesOf}

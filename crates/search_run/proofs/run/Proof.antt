@@ -23,14 +23,14 @@ use Rattle.search_run.proofs.OverRecords.{clear-asks, ran}
 use Rattle.derivations.proofs.Derive.{fix, homesOf}
 use Rattle.derivations.proofs.Plain as Plain
 use Rattle.search_run.proofs.Contracts.Run.{ps, r, spec}
-use Rattle.search_run.proofs.letters_tried.Kinds as letters-tried-Kinds
-use Rattle.search_run.proofs.letters_tried.Met as letters-tried-Met
-use Rattle.search_run.proofs.letters_tried.Reads as letters-tried-Reads
-use Rattle.search_run.proofs.letters_tried.Symbol as letters-tried-Symbol
-use Rattle.search_run.proofs.shape_of.Kinds as shape-of-Kinds
-use Rattle.search_run.proofs.shape_of.Met as shape-of-Met
-use Rattle.search_run.proofs.shape_of.Reads as shape-of-Reads
-use Rattle.search_run.proofs.shape_of.Symbol as shape-of-Symbol
+use Rattle.search_tried.proofs.letters_tried.Kinds as letters-tried-Kinds
+use Rattle.search_tried.proofs.letters_tried.Met as letters-tried-Met
+use Rattle.search_tried.proofs.letters_tried.Reads as letters-tried-Reads
+use Rattle.search_tried.proofs.letters_tried.Symbol as letters-tried-Symbol
+use Rattle.search_tried.proofs.shape_of.Kinds as shape-of-Kinds
+use Rattle.search_tried.proofs.shape_of.Met as shape-of-Met
+use Rattle.search_tried.proofs.shape_of.Reads as shape-of-Reads
+use Rattle.search_tried.proofs.shape_of.Symbol as shape-of-Symbol
 use Rattle.search_levels.proofs.levels.Met as levels-Met
 use Rattle.search_levels.proofs.levels.Symbol as levels-Symbol
 use Rattle.search_levels.proofs.Contracts.Levels as Levels
@@ -149,8 +149,8 @@ run-spec {M} 𝓤 H 𝓜 𝓖 𝓡 =
     let w : World = record { M = M; 𝓤 = 𝓤; H = H; 𝓜 = 𝓜; 𝓖 = 𝓖; 𝓡 = 𝓡 } in
     Plain.close spec w code.env code.function (code.unfolded 𝓤 H 𝓜 𝓡)
     (triple 𝓤 H (𝓖 .A) (givenOf 𝓤 H 𝓜 𝓖) (Over 𝓤 H 𝓜 𝓖 𝓡 code.env)
-    (letters-tried-Reads.known w code.env letters-tried-Symbol.name letters-tried-Symbol.routine code.calls-search-run·letters-tried (letters-tried-Met.met 𝓤 H 𝓜 𝓖 𝓡))
-    (shape-of-Reads.known w code.env shape-of-Symbol.name shape-of-Symbol.routine code.calls-search-run·shape-of (shape-of-Met.met 𝓤 H 𝓜 𝓖 𝓡))
+    (letters-tried-Reads.known w code.env letters-tried-Symbol.name letters-tried-Symbol.routine code.calls-search-tried·letters-tried (letters-tried-Met.met 𝓤 H 𝓜 𝓖 𝓡))
+    (shape-of-Reads.known w code.env shape-of-Symbol.name shape-of-Symbol.routine code.calls-search-tried·shape-of (shape-of-Met.met 𝓤 H 𝓜 𝓖 𝓡))
     (Plain.known Levels.spec w code.env levels-Symbol.name levels-Symbol.routine code.calls-search-levels·levels (levels-Met.met 𝓤 H 𝓜 𝓖 𝓡))
     (Plain.known Report.spec w code.env report-Symbol.name report-Symbol.routine code.calls-search-report·report (report-Met.met 𝓤 H 𝓜 𝓖 𝓡))
     (records-needed-Reads.known w code.env records-needed-Symbol.name records-needed-Symbol.routine code.calls-search-memory·records-needed (records-needed-Met.met 𝓤 H 𝓜 𝓖 𝓡))

@@ -12,8 +12,8 @@ use Rattle.words.specs.Memory.{zeros}
 use Rattle.sheet_cells.specs.Layout.{fieldLength, listedCells}
 use Rattle.sheet_slots.specs.Index.{Indexed}
 use Rattle.sheet_slots.proofs.Kept.{indexed-none}
-use Rattle.sheet_fields.proofs.Listable.{next-place, next-inside}
-use Rattle.sheet_fields.proofs.Verdicts.{all-bytes}
+use Rattle.sheet_verdicts.proofs.Listable.{next-place, next-inside}
+use Rattle.sheet_verdicts.proofs.Verdicts.{all-bytes}
 use Rattle.sheet_fields.proofs.SoFar.{listable-sized, sized-room}
 use Rattle.sheet_fields.proofs.Outcomes.{Reading, reading-none, reading-more, reading-wrong, reading-full, reading-end}
 use Rattle.sheet_fields.proofs.standings.Statement.{statement}

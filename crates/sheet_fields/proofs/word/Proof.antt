@@ -3,7 +3,7 @@
 use native.Mathlib.Omega.{arith}
 use mathlib.Core.Path.{sym, _∙_}
 use borrow.Author.Needs.{needs}
-use Rattle.sheet_fields.proofs.Verdicts.{whole-here, cut-here}
+use Rattle.sheet_verdicts.proofs.Verdicts.{whole-here, cut-here}
 use Rattle.sheet_fields.proofs.Outcomes.{word-cut, word-tag, word-wrong, word-right}
 use Rattle.sheet_fields.proofs.word.Statement.{statement}
 use Rattle.sheet_fields.proofs.word.Tie as tie

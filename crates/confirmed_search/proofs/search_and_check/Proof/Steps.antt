@@ -40,8 +40,8 @@ use Rattle.evidence.proofs.sheet_of.Symbol as sheet-of-Symbol
 use Rattle.confirmed_search.proofs.kept.Kinds as kept-Kinds
 use Rattle.confirmed_search.proofs.kept.Reads as kept-Reads
 use Rattle.confirmed_search.proofs.kept.Symbol as kept-Symbol
-use Rattle.search_report.proofs.Outcome.Laws as Outcome′
-use Rattle.search_report.proofs.Outcome
+use Rattle.search_outcomes.proofs.Outcome.Laws as Outcome′
+use Rattle.search_outcomes.proofs.Outcome
 use Rattle.search_records.proofs.Record
 use Rattle.confirmed_search.proofs.search_and_check.Code as code
 

@@ -65,11 +65,11 @@ use Rattle.query.proofs.read.Symbol as read-Symbol
 use Rattle.search_run.proofs.Contracts.Decide as Decide
 use Rattle.query.proofs.Answer.Laws as Answer′
 use Rattle.query.proofs.Facts.Laws as Facts′
-use Rattle.search_report.proofs.Outcome.Laws as Outcome′
+use Rattle.search_outcomes.proofs.Outcome.Laws as Outcome′
 use Rattle.refusals.proofs.Reason.Laws as Reason′
 use Rattle.query.proofs.Answer
 use Rattle.query.proofs.Facts
-use Rattle.search_report.proofs.Outcome
+use Rattle.search_outcomes.proofs.Outcome
 use Rattle.refusals.proofs.Reason
 use Rattle.search_records.proofs.Record
 use Rattle.search.proofs.search.Code as code

@@ -45,7 +45,7 @@ use types.Kit.{Given}
 use Rattle.derivations.proofs.Plain as Plain
 use Rattle.search.proofs.Contracts.SearchAlone.{ps, r}
 use Rattle.search.proofs.Contracts.Search as Search
-use Rattle.search_report.proofs.Outcome.Laws as Outcome′
+use Rattle.search_outcomes.proofs.Outcome.Laws as Outcome′
 use Rattle.search_records.proofs.Record.Laws as Record′
 use Rattle.search_records.proofs.Record
 use Rattle.search.proofs.search_alone.Code as code

@@ -10,7 +10,7 @@ use Rattle.search_records.specs.declared.Record.{Record}
 use Rattle.search_records.specs.Rows.{rows}
 use Rattle.search_course.specs.declared.Answer.{Answer}
 use Rattle.search_listing.specs.declared.Writing.{Writing}
-use Rattle.search_report.specs.inner.Stands.{Stands, turns}
+use Rattle.search_outcomes.specs.inner.Stands.{Stands, turns}
 
 abbrev pub Inv0 : Bool → List Record → List ℕ → Answer → List ℕ → Writing → List ℕ → Writing → Type 0
 Inv0 ring rs w found b₁ x₁ b x =

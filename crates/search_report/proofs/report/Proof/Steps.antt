@@ -41,11 +41,11 @@ use Rattle.search_records.proofs.Contracts.Load as Load
 use Rattle.search_report.proofs.put.Kinds as put-Kinds
 use Rattle.search_report.proofs.put.Reads as put-Reads
 use Rattle.search_report.proofs.put.Symbol as put-Symbol
-use Rattle.search_report.proofs.tell.Kinds as tell-Kinds
-use Rattle.search_report.proofs.tell.Reads as tell-Reads
-use Rattle.search_report.proofs.tell.Symbol as tell-Symbol
+use Rattle.search_outcomes.proofs.tell.Kinds as tell-Kinds
+use Rattle.search_outcomes.proofs.tell.Reads as tell-Reads
+use Rattle.search_outcomes.proofs.tell.Symbol as tell-Symbol
 use Rattle.search_course.proofs.Answer.Laws as Answer′
-use Rattle.search_report.proofs.Outcome.Laws as Outcome′
+use Rattle.search_outcomes.proofs.Outcome.Laws as Outcome′
 use Rattle.search_records.proofs.Record.Laws as Record′
 use Rattle.search_listing.proofs.Writing.Laws as Writing′
 use Rattle.search_course.proofs.Answer

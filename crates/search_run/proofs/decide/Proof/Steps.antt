@@ -50,10 +50,10 @@ use Rattle.search_memory.proofs.enough.Reads as enough-Reads
 use Rattle.search_memory.proofs.enough.Symbol as enough-Symbol
 use Rattle.search_run.proofs.Contracts.Run as Run
 use Rattle.query.proofs.Facts.Laws as Facts′
-use Rattle.search_report.proofs.Outcome.Laws as Outcome′
+use Rattle.search_outcomes.proofs.Outcome.Laws as Outcome′
 use Rattle.refusals.proofs.Reason.Laws as Reason′
 use Rattle.query.proofs.Facts
-use Rattle.search_report.proofs.Outcome
+use Rattle.search_outcomes.proofs.Outcome
 use Rattle.refusals.proofs.Reason
 use Rattle.search_records.proofs.Record
 use Rattle.search_run.proofs.decide.Code as code

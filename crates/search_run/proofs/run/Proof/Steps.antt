@@ -47,12 +47,12 @@ use prog.Wp.{Env, Heap, Tables}
 use types.Kit.{Given}
 use Rattle.derivations.proofs.Plain as Plain
 use Rattle.search_run.proofs.Contracts.Run.{ps, r}
-use Rattle.search_run.proofs.letters_tried.Kinds as letters-tried-Kinds
-use Rattle.search_run.proofs.letters_tried.Reads as letters-tried-Reads
-use Rattle.search_run.proofs.letters_tried.Symbol as letters-tried-Symbol
-use Rattle.search_run.proofs.shape_of.Kinds as shape-of-Kinds
-use Rattle.search_run.proofs.shape_of.Reads as shape-of-Reads
-use Rattle.search_run.proofs.shape_of.Symbol as shape-of-Symbol
+use Rattle.search_tried.proofs.letters_tried.Kinds as letters-tried-Kinds
+use Rattle.search_tried.proofs.letters_tried.Reads as letters-tried-Reads
+use Rattle.search_tried.proofs.letters_tried.Symbol as letters-tried-Symbol
+use Rattle.search_tried.proofs.shape_of.Kinds as shape-of-Kinds
+use Rattle.search_tried.proofs.shape_of.Reads as shape-of-Reads
+use Rattle.search_tried.proofs.shape_of.Symbol as shape-of-Symbol
 use Rattle.search_levels.proofs.Contracts.Levels as Levels
 use Rattle.search_report.proofs.Contracts.Report as Report
 use Rattle.search_memory.proofs.records_needed.Kinds as records-needed-Kinds
@@ -67,11 +67,11 @@ use Rattle.search_memory.proofs.clear_words.Reads as clear-words-Reads
 use Rattle.search_memory.proofs.clear_words.Symbol as clear-words-Symbol
 use Rattle.search_course.proofs.Answer.Laws as Answer′
 use Rattle.query.proofs.Facts.Laws as Facts′
-use Rattle.search_report.proofs.Outcome.Laws as Outcome′
+use Rattle.search_outcomes.proofs.Outcome.Laws as Outcome′
 use Rattle.search_words.proofs.Shape.Laws as Shape′
 use Rattle.search_course.proofs.Answer
 use Rattle.query.proofs.Facts
-use Rattle.search_report.proofs.Outcome
+use Rattle.search_outcomes.proofs.Outcome
 use Rattle.search_records.proofs.Record
 use Rattle.search_words.proofs.Shape
 use Rattle.search_run.proofs.run.Code as code

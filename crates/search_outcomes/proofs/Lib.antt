@@ -1,0 +1,2 @@
+-- What is reported.
+pub mod Reported

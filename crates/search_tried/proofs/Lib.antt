@@ -1,0 +1,2 @@
+-- The masks and the letters of level 1.
+pub mod Tried

@@ -1,0 +1,2 @@
+-- Promises between the functions of the sheet check.
+pub mod inner
