@@ -5,8 +5,8 @@ use Prim.Native.Nat.{ℕ}
 use mathlib.Core.List.{List, [], _∷_}
 use lib.ListN.{length-replicate}
 use borrow.Author.Needs.{needs}
-use Rattle.fence.proofs.with_sheet.Statement.{statement}
-use Rattle.fence.proofs.with_sheet.Tie as tie
+use Rattle.fence_sheet.proofs.with_sheet.Statement.{statement}
+use Rattle.fence_sheet.proofs.with_sheet.Tie as tie
 
 slice-aggregate-sheet-into : tie.Need-slice-aggregate-sheet-into
 slice-aggregate-sheet-into c = sym (length-replicate {A = ℕ} 4097 0)

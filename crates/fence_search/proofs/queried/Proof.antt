@@ -1,20 +1,20 @@
--- `fence::searched` is safe and ends: each array that it lends has the length that its type says.
+-- `fence::queried` is safe and ends: each array that it lends has the length that its type says.
 -- Assumes nothing.
 use mathlib.Core.Path.{sym}
 use Prim.Native.Nat.{ℕ}
 use lib.ListN.{length-replicate}
 use borrow.Author.Needs.{needs}
-use Rattle.fence.proofs.searched.Statement.{statement}
-use Rattle.fence.proofs.searched.Tie as tie
+use Rattle.fence_search.proofs.queried.Statement.{statement}
+use Rattle.fence_search.proofs.queried.Tie as tie
 
 slice-aggregate-search-into : tie.Need-slice-aggregate-search-into
 slice-aggregate-search-into c = sym (length-replicate {A = ℕ} 4097 0)
 
 slice-aggregate-search-into-2 : tie.Need-slice-aggregate-search-into-2
-slice-aggregate-search-into-2 c = sym (length-replicate {A = ℕ} 163840 0)
+slice-aggregate-search-into-2 c = sym (length-replicate {A = ℕ} 0 0)
 
 slice-aggregate-search-into-3 : tie.Need-slice-aggregate-search-into-3
-slice-aggregate-search-into-3 c = sym (length-replicate {A = ℕ} 1102097 0)
+slice-aggregate-search-into-3 c = sym (length-replicate {A = ℕ} 0 0)
 
 slice-aggregate-search-into-4 : tie.Need-slice-aggregate-search-into-4
 slice-aggregate-search-into-4 c = sym (length-replicate {A = ℕ} 32768 0)
@@ -25,8 +25,8 @@ search-into-requires c κs = search needs
 returns : tie.Need-returns
 returns c = search needs
 
-pub searched-spec : {M : Type 1} → statement M
-searched-spec =
+pub queried-spec : {M : Type 1} → statement M
+queried-spec =
     tie.close
     (tie.spec
     slice-aggregate-search-into
