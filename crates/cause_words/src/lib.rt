@@ -1,14 +1,10 @@
 // The words of a cause of a refusal. (Document 01, "Refusals with an example each", has the causes; the words are ours.) Every cause has its own.
-// They are put at a place within the memory, which is required: the place after the piece before them.
 use refusals::Reason;
-ghost use Prim.Native.Nat.{_≤_};
-ghost use lib.ListN.{length};
 ghost use Rattle.print_line.specs.Puts.{Puts};
 ghost use Rattle.cause_words.specs.CauseText.{causeText};
 
 // The words of a cause.
 pub fn put_cause(out: &mut [u8], at: usize, why: Reason) -> usize
-    requires { ⌜ at ≤ length (now out) ⌝ }
     ensures { λ r. ⌜ Puts (now (out .entry)) at (causeText why) r (now (out .exit)) ⌝ }
 {
     match why {

@@ -36,11 +36,11 @@ fn draw_word(word: &[u8], ring: bool, closed: u64, relations: usize, out: &mut [
     if 64 < n {
         return Drawing::TooLarge(n);
     }
-    let size = draw_bytes::graph_length(word, n, closed, relations);
+    let size = draw_bytes::graph_length(word, n as u8, closed, relations as u8);
     if out.len() < size {
         return Drawing::Short;
     }
-    draw_bytes::put_graph(out, word, n, closed, relations);
+    draw_bytes::put_graph(out, word, n as u8, closed, relations as u8);
     Drawing::Graph(size)
 }
 

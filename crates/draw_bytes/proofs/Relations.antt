@@ -1,6 +1,6 @@
 -- The edges of one relation after another, and the events before them: put, and counted.
 -- Assumes nothing.
-use Prim.Native.Nat.{ℕ, _+_, _*_, _≤_}
+use Prim.Native.Nat.{ℕ, _+_, _*_, min}
 use native.Mathlib.Omega.{arith}
 use mathlib.Core.Path.{_≡_, sym, _∙_, ap, subst}
 use mathlib.Core.Bool.{Bool}
@@ -18,10 +18,10 @@ use Rattle.draw_fields.proofs.Pieces.{Left, left-begin, pieces-length, anEvent,
 use Rattle.draw_bytes.specs.Bytes.{relationBytes, edgesBytes, bytesOf}
 
 -- relations, one after another
-pub edges-begin : (l : List ℕ) (at : ℕ) (bs : List ℕ) (n closed rs : ℕ) → at ≤ length l
-    → Left l at (edgesBytes bs n closed rs) l at (joined (relationBytes bs n closed) (upto 0 rs))
+pub edges-begin : (l : List ℕ) (at to : ℕ) (bs : List ℕ) (n closed rs : ℕ) → to ≡ min at (length l)
+    → Left l at (edgesBytes bs n closed rs) l to (joined (relationBytes bs n closed) (upto 0 rs))
 unfolding edgesBytes
-edges-begin l at bs n closed rs h = left-begin l at (joined (relationBytes bs n closed) (upto 0 rs)) h
+edges-begin l at to bs n closed rs e = left-begin l at to (joined (relationBytes bs n closed) (upto 0 rs)) e
 
 -- one relation
 pub puts-relation : {l m : List ℕ} {at to : ℕ} (bs : List ℕ) (n closed r : ℕ) (b : Bool) (rows : List ℕ) → b ≡ bit r closed

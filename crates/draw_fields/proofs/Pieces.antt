@@ -1,7 +1,7 @@
 -- Pieces of bytes put into memory one after another, by a loop: what is left of the pieces, put into the memory as it is, is all of them put into
 -- the memory at the start. And their length: what was counted and the length of what is left is the length of all.
 -- Assumes nothing.
-use Prim.Native.Nat.{ℕ, _+_, _-_, _*_, _^_, _≤_, _<_}
+use Prim.Native.Nat.{ℕ, _+_, _-_, _*_, _^_, _≤_, _<_, min}
 use native.Mathlib.Omega.{arith}
 use mathlib.Core.Path.{_≡_, refl, sym, _∙_, ap, subst}
 use mathlib.Core.List.{List, [], _∷_, _++_}
@@ -12,7 +12,7 @@ use Rattle.kat.specs.Lists.{upto}
 use Rattle.claims.specs.Fields.{bigEndian, field}
 use Rattle.claims.specs.GraphWriting.{joined, eventField, edgeField, edgeOf}
 use Rattle.print_line.specs.Puts.{Puts}
-use Rattle.print_line.proofs.Putting.{puts-nothing, puts-append, puts-within, puts-length}
+use Rattle.print_line.proofs.Putting.{puts-start, puts-nothing, puts-append, puts-within, puts-length}
 use Rattle.standings.proofs.Upto.{upto-more, upto-none}
 use Rattle.bits.specs.Sets.{members}
 use Rattle.bits.proofs.Members.{number-none, number-length}
@@ -25,8 +25,8 @@ pub record Left (start : List ℕ) (at : ℕ) (all now : List ℕ) (to : ℕ) (r
   pub within : to ≤ length now
   pub onward : (next : ℕ) (after : List ℕ) → Puts now to rest next after → Puts start at all next after
 
-pub left-begin : (l : List ℕ) (at : ℕ) (bs : List ℕ) → at ≤ length l → Left l at bs l at bs
-left-begin l at bs h = record { same-length = refl; within = h; onward = λ next after p. p }
+pub left-begin : (l : List ℕ) (at to : ℕ) (bs : List ℕ) → to ≡ min at (length l) → Left l at bs l to bs
+left-begin l at to bs e = record { same-length = refl; within = omega arith; onward = λ next after p. puts-append (puts-start l at to e) p }
 
 -- one piece is put
 pub left-more : {l m n : List ℕ} {at to next : ℕ} {all : List ℕ} (f rest : List ℕ) → Left l at all m to (f ++ rest)
@@ -94,17 +94,19 @@ anEdge r x y = edgeField (edgeOf r x y)
 abbrev pub aRow : ℕ → List ℕ → ℕ → List ℕ
 aRow r rows x = rowBytes r x (getD rows x 0)
 
-pub events-begin : (l : List ℕ) (at : ℕ) (bs : List ℕ) (n : ℕ) → at ≤ length l → Left l at (eventsBytes bs n) l at (joined (anEvent bs) (upto 0 n))
+pub events-begin : (l : List ℕ) (at to : ℕ) (bs : List ℕ) (n : ℕ) → to ≡ min at (length l)
+    → Left l at (eventsBytes bs n) l to (joined (anEvent bs) (upto 0 n))
 unfolding eventsBytes
-events-begin l at bs n h = left-begin l at (joined (anEvent bs) (upto 0 n)) h
+events-begin l at to bs n e = left-begin l at to (joined (anEvent bs) (upto 0 n)) e
 
-pub row-begin : (l : List ℕ) (at r x s : ℕ) → at ≤ length l → Left l at (rowBytes r x s) l at (joined (anEdge r x) (members s))
+pub row-begin : (l : List ℕ) (at to r x s : ℕ) → to ≡ min at (length l) → Left l at (rowBytes r x s) l to (joined (anEdge r x) (members s))
 unfolding rowBytes
-row-begin l at r x s h = left-begin l at (joined (anEdge r x) (members s)) h
+row-begin l at to r x s e = left-begin l at to (joined (anEdge r x) (members s)) e
 
-pub rows-begin : (l : List ℕ) (at r n : ℕ) (rows : List ℕ) → at ≤ length l → Left l at (rowsBytes r n rows) l at (joined (aRow r rows) (upto 0 n))
+pub rows-begin : (l : List ℕ) (at to r n : ℕ) (rows : List ℕ) → to ≡ min at (length l)
+    → Left l at (rowsBytes r n rows) l to (joined (aRow r rows) (upto 0 n))
 unfolding rowsBytes
-rows-begin l at r n rows h = left-begin l at (joined (aRow r rows) (upto 0 n)) h
+rows-begin l at to r n rows e = left-begin l at to (joined (aRow r rows) (upto 0 n)) e
 
 -- the fields as bytes
 pub event-field : (a : ℕ) → 1 ∷ 0 ∷ 1 ∷ a ∷ [] ≡ eventField a

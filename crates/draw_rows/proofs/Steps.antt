@@ -79,16 +79,16 @@ module _ (bs : List ℕ) (n r x : ℕ) where
       ∙ sym (inside h ∙ ap (λ b. cond b (including 64 0 (nextEvent n x)) 0) (eq-eqb (getD bs (2 * x + 1) 0) r (sym e ∙ k)))
 
 -- a relation that is closed, or not
-pub rows-closed : (bs : List ℕ) (n r : ℕ) (closed : Bool) (t u : List ℕ) (size : ℕ) → size ≡ 64 → closed ≡ true → t ≡ words size (stepRow bs n r)
+pub rows-closed : (bs : List ℕ) (n r : ℕ) (closed : Bool) (t u : List ℕ) → closed ≡ true → t ≡ words 64 (stepRow bs n r)
     → u ≡ rounds t n n → u ≡ relationRows bs n r closed
 unfolding relationRows stepRows
-rows-closed bs n r closed t u size z b e h =
-    h ∙ ap (λ s. rounds s n n) (e ∙ ap (λ k. words k (stepRow bs n r)) z)
+rows-closed bs n r closed t u b e h =
+    h ∙ ap (λ s. rounds s n n) e
     ∙ sym (ap (λ x. cond x (rounds (words 64 (stepRow bs n r)) n n) (words 64 (stepRow bs n r))) b)
 
-pub rows-open : (bs : List ℕ) (n r : ℕ) (closed : Bool) (t : List ℕ) (size : ℕ) → size ≡ 64 → closed ≡ false → t ≡ words size (stepRow bs n r)
+pub rows-open : (bs : List ℕ) (n r : ℕ) (closed : Bool) (t : List ℕ) → closed ≡ false → t ≡ words 64 (stepRow bs n r)
     → t ≡ relationRows bs n r closed
 unfolding relationRows stepRows
-rows-open bs n r closed t size z b e =
-    e ∙ ap (λ k. words k (stepRow bs n r)) z
+rows-open bs n r closed t b e =
+    e
     ∙ sym (ap (λ x. cond x (rounds (words 64 (stepRow bs n r)) n n) (words 64 (stepRow bs n r))) b)

@@ -93,13 +93,14 @@ fn step_rows(word: &[u8], n: usize, r: usize, rows: &mut [u64])
     }
 }
 
-// The edges of relation r among n events, which is closed or not. The table has a row for each event there may be.
-pub fn relation_rows(word: &[u8], n: usize, r: usize, closed: bool, rows: &mut [u64])
-    requires { ⌜ (length (now rows) ≡ 64) × (n ≤ 64) ⌝ }
-    ensures { λ u. ⌜ now (rows .exit) ≡ relationRows (now (word .entry)) n r closed ⌝ }
+// The edges of relation r among n events, which is closed or not.
+pub fn relation_rows(word: &[u8], n: usize, r: usize, closed: bool) -> [u64; 64]
+    ensures { λ t. ⌜ t ≡ relationRows (now (word .entry)) n r closed ⌝ }
 {
-    step_rows(word, n, r, rows);
+    let mut steps = [0u64; 64];
+    step_rows(word, n, r, &mut steps);
     if closed {
-        rows::close(rows, n);
+        return rows::plus(steps, n);
     }
+    steps
 }

@@ -8,7 +8,7 @@ use mathlib.Core.Bool.{Bool, true, false, cond}
 use mathlib.Core.List.{List, _++_}
 use mathlib.Core.Option.{some}
 use lib.ListN.{length, take, length-append}
-use lib.Seq.{take-append-seam, take-all}
+use lib.Seq.{take-append-seam, take-all, take-at}
 use borrow.Author.Tests.{lt-ltb, le-ltb}
 use Rattle.kat.proofs.Bools.{lt-or-le}
 use Rattle.claims.specs.Bytes.{rawLines}
@@ -77,18 +77,21 @@ unfolding resultOf pairOutcome
 says-from ring l m h e =
     ap (λ c. says l (cond c (breaksFrom (m / 64) (m % 64)) holdsIn)) (sym (lt-ltb m 4096 h)) ∙ ap (λ b. says l (outcomeOf b m)) (sym e)
 
--- the codes with what they need, in memory
-pub items-read : (L ks args : List ℕ) (n m : ℕ) (r : State) → args ≡ argsOf ks → m ≡ min n 64 → r ≡ performedAll L (beginning m) (paired ks args) .state
-    → r ≡ performedAll L (beginning (min n 64)) (itemsOf ks) .state
-unfolding itemsOf
-items-read L ks args n m r e f g = g ∙ ap₂ (λ k a. performedAll L (beginning k) (paired ks a) .state) f e
+-- the first codes, of as many as there are
+first-codes : (codes : List ℕ) (i j : ℕ) → j ≡ min i (length codes) → take j codes ≡ take i codes
+first-codes codes i j e =
+    ⊎-elim (λ h. let z : j ≡ i = omega arith in ap (λ k. take k codes) z)
+    (λ h. take-all j codes (omega arith) ∙ sym (take-all i codes (omega arith)))
+    (lt-or-le i (length codes))
 
--- the first codes of so many
-pub first-codes : (codes : List ℕ) (k m : ℕ) → length codes ≡ 4096 → m ≡ min k 4096 → take m codes ≡ take k codes
-first-codes codes k m l e =
-    ⊎-elim (λ h. let z : m ≡ k = omega arith in ap (λ i. take i codes) z)
-    (λ h. take-all m codes (omega arith) ∙ sym (take-all k codes (omega arith)))
-    (lt-or-le k 4096)
+-- the first codes with what they need, in memory; i of them count, and j of these there are
+pub items-read : (L codes args rest : List ℕ) (n i j : ℕ) (r : State) → args ≡ argsOf (take j codes) → length args ≡ j → j ≡ min i (length codes)
+    → r ≡ performedAll L (beginning n) (paired (take j codes) (take j (args ++ rest))) .state
+    → r ≡ performedAll L (beginning n) (itemsOf (take i codes)) .state
+unfolding itemsOf
+items-read L codes args rest n i j r e size cut g =
+    g ∙ ap (λ a. performedAll L (beginning n) (paired (take j codes) a) .state) (take-at args rest j size ∙ e)
+    ∙ ap (λ ks. performedAll L (beginning n) (paired ks (argsOf ks)) .state) (first-codes codes i j cut)
 
 -- the ring claims
 claim-ring : (q : Query) (c : Claim) → decision q c .ring ≡ ringClaim c
@@ -174,7 +177,7 @@ module _ (text : List ℕ) (f : Facts) (said : Says (read text) (AcceptedFacts f
 
     -- a graph: its judgement
     pub events-judged : (n : ℕ) → x ≡ Events n → (L : List ℕ) → L ≡ leftWords (graphIn (record { atoms = f .atoms; relations = m }) gs) → length codes ≡ 4096
-        → (s : State) → s ≡ performedAll L (beginning (min n 64)) (itemsOf (take (f .codes) codes)) .state
+        → (s : State) → s ≡ performedAll L (beginning n) (itemsOf (take (min (f .codes) 4096) codes)) .state
         → (r : Judged) → resultOf r ≡ says (s .broken) (outcomeOf (f .ring) (s .found)) → resultOf r ≡ judge-call text gs
     unfolding leftWords factsOf judgement
     events-judged n e L is-words size s is-state r is-result =
@@ -191,13 +194,13 @@ module _ (text : List ℕ) (f : Facts) (said : Says (read text) (AcceptedFacts f
             let facts-codes : f .codes ≡ length ks = ap (λ (x : Facts). x .codes) (z .facts) in
             let facts-atoms : f .atoms ≡ decision q c .atoms = ap (λ (x : Facts). x .atoms) (z .facts) in
             let fits : length ks ≤ 4096 = omega (arith, ap length (z .first), length-append ks (zeros (4096 - length ks))) in
-            let part : take (f .codes) codes ≡ ks = ap₂ take facts-codes (z .first) ∙ take-append-seam ks (zeros (4096 - length ks)) in
+            let counted : min (f .codes) 4096 ≡ length ks = omega arith in
+            let part : take (min (f .codes) 4096) codes ≡ ks = ap₂ take counted (z .first) ∙ take-append-seam ks (zeros (4096 - length ks)) in
             let shown = read-graphed R gs G (omega (arith, z .few-atoms)) g in
-            let all : min n 64 ≡ length (G .atoms) = omega (arith, shown .few) in
             let J = query-judged (finite G) q c (listedWords G) (length (G .atoms)) shown (z .taken) (low-lines text q (z .reads)) fits in
             let k = performedAll (listedWords G) (beginning (length (G .atoms))) (itemsOf ks) in
             let same : s ≡ k .state =
-            is-state ∙ ap₂ (λ M (i : ℕ). performedAll M (beginning i) (itemsOf (take (f .codes) codes)) .state) words all
+            is-state ∙ ap₂ (λ M (i : ℕ). performedAll M (beginning i) (itemsOf (take (min (f .codes) 4096) codes)) .state) words count
             ∙ ap (λ l. performedAll (listedWords G) (beginning (length (G .atoms))) (itemsOf l) .state) part
             in
             let ring : f .ring ≡ ringClaim c = ap (λ (x : Facts). x .ring) (z .facts) ∙ claim-ring q c in

@@ -7,7 +7,7 @@ use query::Answer;
 use query::Facts;
 use refusals::Reason;
 use words::least;
-ghost use Prim.Native.Nat.{ℕ, _≤_, min};
+ghost use Prim.Native.Nat.{ℕ, min};
 ghost use mathlib.Core.Path.{_≡_};
 ghost use mathlib.Core.List.{List};
 ghost use lib.ListN.{length, take};
@@ -52,55 +52,23 @@ fn close_relations(listed: &mut [u64; 1088], n: usize)
     ensures { λ r. ⌜ now (listed .exit) ≡ judgedWords n (now (listed .entry)) ⌝ }
 {}
 
-// The judge over the codes, on a graph of n events, of which 64 count. The lent words are for what each code needs: as many as codes.
-fn judge_part(listed: &[u64; 1088], n: usize, codes: &[u64], args: &mut [u64]) -> State
-    requires { ⌜ (length (now args) ≡ length (now codes)) × (length (now codes) ≤ 4096) ⌝ }
-    ensures { λ r. ⌜ r ≡ performedAll (now (listed .entry)) (beginning (min n 64)) (itemsOf (now (codes .entry))) .state ⌝ }
+// The judge over the first k codes, of which 4,096 count, on a graph of n events. What each code needs is this call's own memory.
+fn judge_first(listed: &[u64; 1088], n: usize, codes: &[u64], k: usize) -> State
+    ensures { λ r. ⌜ r ≡ performedAll (now (listed .entry)) (beginning n) (itemsOf (take (min k 4096) (now (codes .entry)))) .state ⌝ }
 {
+    let m = least(least(k, 4096), codes.len());
+    let mut args = [0u64; 4096];
     let mut starts = [0u64; 32];
-    side_items::find_args(codes, args, &mut starts);
-    graph_judge::judge(listed, least(n, 64), codes, args)
-}
-
-// The same of the first k codes. There are 4,096 codes and as many words.
-fn judge_within(listed: &[u64; 1088], n: usize, codes: &[u64], args: &mut [u64], k: usize) -> State
-    requires { ⌜ (length (now codes) ≡ 4096) × (length (now args) ≡ 4096) × (k ≤ 4096) ⌝ }
-    ensures sized { λ r. ⌜ length (now (codes .entry)) ≡ 4096 ⌝ }
-    ensures judged { λ r. ⌜ r ≡ performedAll (now (listed .entry)) (beginning (min n 64)) (itemsOf (take k (now (codes .entry)))) .state ⌝ }
-{
-    judge_part(listed, n, &codes[..k], &mut args[..k])
+    side_items::find_args(&codes[..m], &mut args[..m], &mut starts);
+    graph_judge::judge(listed, n, &codes[..m], &args[..m])
 }
 
 // The same of the array that the reading of a query leaves.
 fn judge_codes(listed: &[u64; 1088], n: usize, codes: &[u64; 4096], k: usize) -> State
     ensures sized { λ r. ⌜ length (now (codes .entry)) ≡ 4096 ⌝ }
-    ensures judged { λ r. ⌜ r ≡ performedAll (now (listed .entry)) (beginning (min n 64)) (itemsOf (take k (now (codes .entry)))) .state ⌝ }
+    ensures judged { λ r. ⌜ r ≡ performedAll (now (listed .entry)) (beginning n) (itemsOf (take (min k 4096) (now (codes .entry)))) .state ⌝ }
 {
-    let mut args = [0u64; 4096];
-    judge_within(listed, n, codes, &mut args, least(k, 4096))
-}
-
-// The judgement of a graph for a query that was read, by its facts and its codes.
-fn judge_read(f: Facts, codes: &[u64; 4096], graph: &[u8]) -> Judged
-    ensures { λ r.
-        ⌜ ((text : List ℕ) → Says (reading text) (Accepted f) → now (codes .entry) ≡ leftCodes (reading text)
-        → resultOf r ≡ judge-call text (now (graph .entry))) ⌝ }
-{
-    let mut listed = [0u64; 1088];
-    let r = graph_read::read(
-        graph,
-        f.atoms,
-        least(f.relations, codes::MOST_RELATIONS),
-        &mut listed,
-    );
-    match r {
-        Reading::Wrong(field) => Judged::Refused(Reason::GraphField, field),
-        Reading::Events(n) => {
-            close_relations(&mut listed, n);
-            let s = judge_codes(&listed, n, codes, f.codes);
-            answer(f.ring, s.broken, s.found)
-        }
-    }
+    judge_first(listed, n, codes, k)
 }
 
 // Judges the graph for the query that the text is. An answer is the relational meaning of the graph that the bytes are.
@@ -111,9 +79,20 @@ pub fn judge(text: &[u8], graph: &[u8]) -> Judged
     let mut codes = [0u64; 4096];
     let mut left = [0u64; 4241];
     let mut right = [0u64; 4241];
+    let mut listed = [0u64; 1088];
     let asked = query::read(text, &mut codes, &mut left, &mut right);
     match asked {
         Answer::Refused(why, place) => Judged::Refused(why, place),
-        Answer::Accepted(f) => judge_read(f, &codes, graph),
+        Answer::Accepted(f) => {
+            let r = graph_read::read(graph, f.atoms, f.relations, &mut listed);
+            match r {
+                Reading::Wrong(field) => Judged::Refused(Reason::GraphField, field),
+                Reading::Events(n) => {
+                    close_relations(&mut listed, n);
+                    let s = judge_codes(&listed, n, &codes, f.codes);
+                    answer(f.ring, s.broken, s.found)
+                }
+            }
+        }
     }
 }

@@ -1,16 +1,18 @@
 -- The loop over the codes: each code keeps the bounds of the state, and what is left of the codes, performed on the judge now, is all of them
 -- performed on the judge at the start.
 -- Assumes nothing.
-use Prim.Native.Nat.{ℕ, _+_, _-_, _≤_, _<_}
+use Prim.Native.Nat.{ℕ, _+_, _-_, _≤_, _<_, min}
 use native.Mathlib.Numerals.{add-one}
 use native.Mathlib.Omega.{arith}
 use mathlib.Core.Path.{_≡_, refl, sym, _∙_, ap, ap₂, subst}
 use mathlib.Core.Bool.{Bool, true, false, cond, not, _&&_}
-use mathlib.Core.List.{List}
+use mathlib.Core.Logic.{⊎-elim}
+use mathlib.Core.List.{List, [], _∷_}
 use lib.Dec.{eqb, ltb, leb}
 use lib.ListN.{length, getD, set, drop, drop-of-length-le}
 use lib.Seq.{drop-cons}
 use borrow.Author.Tests.{ltb-true}
+use Rattle.kat.proofs.Bools.{le-or-lt}
 use Rattle.rows.specs.Rows.{joined, composed, reflexive, rounds, diagonal, lowestPair}
 use Rattle.side_items.specs.Items.{Item, paired}
 use Rattle.graph_tables.specs.declared.State.{State}
@@ -21,7 +23,6 @@ use Rattle.graph_judge.specs.Machine.{brokenIf, foundNow, keptLet, outsi
 -- the bounds of a state, in line b at the most
 pub record Steady (b : ℕ) (s : State) : Type 0 where
   pub few-waiting : s .waiting ≤ 68
-  pub few-events : s .events ≤ 64
   pub few-lines : s .line ≤ b
 
 either-steady : (b : ℕ) (c : Bool) (s t : State) → Steady b s → Steady b t → Steady b (cond c s t)
@@ -34,7 +35,7 @@ either-judging b false j k h i = i
 
 module _ (L : List ℕ) (b : ℕ) (j : Judging) (h : Steady b (j .state)) where
   on : Steady (b + 1) (j .state)
-  on = record { few-waiting = h .few-waiting; few-events = h .few-events; few-lines = omega (arith, h .few-lines) }
+  on = record { few-waiting = h .few-waiting; few-lines = omega (arith, h .few-lines) }
 
   pushed-steady : (t : List ℕ) → Steady (b + 1) (pushed j t .state)
   unfolding pushed
@@ -45,7 +46,6 @@ module _ (L : List ℕ) (b : ℕ) (j : Judging) (h : Steady b (j .state)) where
       go true e =
           record {
             few-waiting = omega (arith, ltb-true (j .state .waiting) 68 e);
-            few-events = h .few-events;
             few-lines = omega (arith, h .few-lines);
           }
       go false e = on
@@ -56,7 +56,7 @@ module _ (L : List ℕ) (b : ℕ) (j : Judging) (h : Steady b (j .state)) where
 
   merged-steady : (f : List ℕ → List ℕ → List ℕ) → Steady (b + 1) (merged f j .state)
   unfolding merged
-  merged-steady f = record { few-waiting = omega (arith, h .few-waiting); few-events = h .few-events; few-lines = omega (arith, h .few-lines) }
+  merged-steady f = record { few-waiting = omega (arith, h .few-waiting); few-lines = omega (arith, h .few-lines) }
 
   operated-steady : (k x : ℕ) → Steady (b + 1) (operated L j k x .state)
   unfolding operated
@@ -73,7 +73,7 @@ module _ (L : List ℕ) (b : ℕ) (j : Judging) (h : Steady b (j .state)) where
 
   -- the next line
   next : (l m f : ℕ) → Steady (b + 1) (record { events = j .state .events; waiting = 0; lets = l; line = j .state .line + 1; broken = m; found = f })
-  next l m f = record { few-waiting = omega arith; few-events = h .few-events; few-lines = omega (arith, h .few-lines) }
+  next l m f = record { few-waiting = omega arith; few-lines = omega (arith, h .few-lines) }
 
   broken-steady : (c : Bool) → Steady (b + 1) (brokenIf c (j .state))
   unfolding brokenIf
@@ -114,15 +114,15 @@ module _ (L : List ℕ) (b : ℕ) (j : Judging) (h : Steady b (j .state)) where
 
 -- what holds in the loop at place i, from s on
 pub record Goes (L ks xs : List ℕ) (m : List (List ℕ)) (s : State) (m′ : List (List ℕ)) (t : State) (i : ℕ) : Type 0 where
-  pub place : i ≤ length ks
+  pub place : i ≤ min (length ks) (length xs)
   pub size : length m′ ≡ length m
   pub bounds : Steady (4096 + i) t
   pub left : performedAll L (judging m′ t) (paired (drop i ks) (drop i xs)) ≡ performedAll L (judging m s) (paired ks xs)
 
 module _ (L ks xs : List ℕ) (m : List (List ℕ)) (s : State) where
-  pub goes-begin : s .waiting ≤ 68 → s .events ≤ 64 → s .line ≤ 4096 → Goes L ks xs m s m s 0
-  goes-begin a b c =
-      record { place = omega arith; size = refl; bounds = record { few-waiting = a; few-events = b; few-lines = omega arith }; left = refl }
+  pub goes-begin : s .waiting ≤ 68 → s .line ≤ 4096 → Goes L ks xs m s m s 0
+  goes-begin a b =
+      record { place = omega arith; size = refl; bounds = record { few-waiting = a; few-lines = omega arith }; left = refl }
 
   pub goes-more : (m′ : List (List ℕ)) (t : State) (i : ℕ) (m″ : List (List ℕ)) (u : State) → Goes L ks xs m s m′ t i → length m″ ≡ length m′ → i < length ks → i < length xs
       → judging m″ u ≡ performed L (judging m′ t) (record { code = getD ks i 0; arg = getD xs i 0 }) → Goes L ks xs m s m″ u (i + 1)
@@ -142,8 +142,20 @@ module _ (L ks xs : List ℕ) (m : List (List ℕ)) (s : State) where
           subst (λ j. Steady (4096 + i + 1) (j .state)) (sym e)
           (performed-steady L (4096 + i) (judging m′ t) (g .bounds) (record { code = getD ks i 0; arg = getD xs i 0 }))
           in
-          record { few-waiting = x .few-waiting; few-events = x .few-events; few-lines = omega (arith, x .few-lines) }
+          record { few-waiting = x .few-waiting; few-lines = omega (arith, x .few-lines) }
 
-  pub goes-end : (m′ : List (List ℕ)) (t : State) (i : ℕ) → Goes L ks xs m s m′ t i → length ks ≤ i → judging m′ t ≡ performedAll L (judging m s) (paired ks xs)
+  -- past the codes, or past what they need, nothing is left
+  pub goes-end : (m′ : List (List ℕ)) (t : State) (i : ℕ) → Goes L ks xs m s m′ t i → min (length ks) (length xs) ≤ i
+      → judging m′ t ≡ performedAll L (judging m s) (paired ks xs)
   unfolding performedAll paired
-  goes-end m′ t i g h = sym (ap (λ a. performedAll L (judging m′ t) (paired a (drop i xs))) (drop-of-length-le ks {i = i} h)) ∙ g .left
+  goes-end m′ t i g h = sym (ap (λ is. performedAll L (judging m′ t) is) none-left) ∙ g .left
+    where
+      unneeded : (a : List ℕ) → paired a [] ≡ []
+      unneeded [] = refl
+      unneeded (k ∷ a) = refl
+
+      none-left : paired (drop i ks) (drop i xs) ≡ []
+      none-left =
+          ⊎-elim (λ l. ap (λ a. paired a (drop i xs)) (drop-of-length-le ks {i = i} l))
+          (λ l. ap (paired (drop i ks)) (drop-of-length-le xs {i = i} (omega arith)) ∙ unneeded (drop i ks))
+          (le-or-lt (length ks) i)

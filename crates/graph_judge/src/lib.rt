@@ -8,11 +8,10 @@ use graph_tables::operate;
 use graph_tables::put;
 use graph_tables::relation;
 use rows::NOWHERE;
-ghost use Prim.Native.Nat.{_+_, _≤_, _<_};
+ghost use Prim.Native.Nat.{_+_, _^_, _≤_, _<_};
 ghost use mathlib.Core.Path.{_≡_};
 ghost use mathlib.Core.Bool.{false, cond, not, _&&_};
 ghost use lib.Dec.{eqb, ltb};
-ghost use lib.ListN.{length};
 ghost use Rattle.rows.specs.Rows.{lowestPair};
 ghost use Rattle.side_items.specs.Items.{paired};
 ghost use Rattle.graph_tables.specs.Listed.{eventsWith};
@@ -33,7 +32,7 @@ fn first_broken(b: bool, broken: usize, line: usize) -> usize
 
 // A line ends that is broken or not.
 fn broken_if(s: State, b: bool) -> State
-    requires { ⌜ s .line < 8192 ⌝ }
+    requires { ⌜ s .line < 2 ^ 62 ⌝ }
     ensures { λ r. ⌜ r ≡ brokenIf b s ⌝ }
 {
     State {
@@ -48,7 +47,7 @@ fn broken_if(s: State, b: bool) -> State
 
 // The claim ends, and this is found of it.
 fn found_now(s: State, m: usize) -> State
-    requires { ⌜ s .line < 8192 ⌝ }
+    requires { ⌜ s .line < 2 ^ 62 ⌝ }
     ensures { λ r. ⌜ r ≡ foundNow m s ⌝ }
 {
     State {
@@ -63,7 +62,7 @@ fn found_now(s: State, m: usize) -> State
 
 // The line of a let ends: its table is kept for it.
 fn keep(mem: &mut [[u64; 64]], s: State) -> State
-    requires { ⌜ (s .waiting ≤ 68) × (s .line < 8192) ⌝ }
+    requires { ⌜ (s .waiting ≤ 68) × (s .line < 2 ^ 62) ⌝ }
     ensures { λ r. ⌜ judging (now (mem .exit)) r ≡ keptLet (judging (now (mem .entry)) s) ⌝ }
 {
     let n = s.lets;
@@ -142,7 +141,7 @@ fn some_event(listed: &[u64; 1088], s: State, x: u64) -> bool
 
 // The state behind a line on a relation, or one with nothing to judge.
 fn relation_line(listed: &[u64; 1088], mem: &[[u64; 64]], s: State, k: u64) -> State
-    requires { ⌜ (s .waiting ≤ 68) × (s .line < 8192) ⌝ }
+    requires { ⌜ (s .waiting ≤ 68) × (s .line < 2 ^ 62) ⌝ }
     ensures { λ r. ⌜ r ≡ relationLine (now (listed .entry)) (judging (now (mem .entry)) s) k ⌝ }
 {
     if k < codes::WITHIN_LINE {
@@ -156,7 +155,7 @@ fn relation_line(listed: &[u64; 1088], mem: &[[u64; 64]], s: State, k: u64) -> S
 
 // The state behind the end of a line that is no let, or behind the left side of an inclusion.
 fn judged_line(listed: &[u64; 1088], mem: &[[u64; 64]], s: State, k: u64, x: u64) -> State
-    requires { ⌜ (s .waiting ≤ 68) × (s .line < 8192) ⌝ }
+    requires { ⌜ (s .waiting ≤ 68) × (s .line < 2 ^ 62) ⌝ }
     ensures { λ r. ⌜ r ≡ judgedLine (now (listed .entry)) (judging (now (mem .entry)) s) k x ⌝ }
 {
     match k {
@@ -173,7 +172,7 @@ fn judged_line(listed: &[u64; 1088], mem: &[[u64; 64]], s: State, k: u64, x: u64
 
 // One code with what it needs.
 fn perform(listed: &[u64; 1088], mem: &mut [[u64; 64]], s: State, k: u64, x: u64) -> State
-    requires { ⌜ (s .waiting ≤ 68) × (s .events ≤ 64) × (s .line < 8192) ⌝ }
+    requires { ⌜ (s .waiting ≤ 68) × (s .line < 2 ^ 62) ⌝ }
     ensures { λ r. ⌜ judging (now (mem .exit)) r ≡ performed (now (listed .entry)) (judging (now (mem .entry)) s) (record { code = k; arg = x }) ⌝ }
 {
     if k < codes::LINE {
@@ -193,12 +192,13 @@ pub fn run(
     codes: &[u64],
     args: &[u64],
 ) -> State
-    requires { ⌜ (s .waiting ≤ 68) × (s .events ≤ 64) × (s .line ≤ 4096) × (length (now args) ≡ length (now codes)) × (length (now codes) ≤ 4096) ⌝ }
+    requires { ⌜ (s .waiting ≤ 68) × (s .line ≤ 4096) ⌝ }
     ensures { λ r. ⌜ judging (now (mem .exit)) r ≡ performedAll (now (listed .entry)) (judging (now (mem .entry)) s) (paired (now (codes .entry)) (now (args .entry))) ⌝ }
 {
     let mut t = s;
+    let n = words::least(codes.len(), args.len());
     let mut i = 0;
-    while i < codes.len() {
+    while i < n {
         t = perform(listed, mem, t, codes[i], args[i]);
         i += 1;
     }
@@ -207,7 +207,6 @@ pub fn run(
 
 // The codes of a query on a graph of n events: the first broken line, and what is found of the claim. The tables are this call's own memory.
 pub fn judge(listed: &[u64; 1088], n: usize, codes: &[u64], args: &[u64]) -> State
-    requires { ⌜ (n ≤ 64) × (length (now args) ≡ length (now codes)) × (length (now codes) ≤ 4096) ⌝ }
     ensures { λ r. ⌜ r ≡ performedAll (now (listed .entry)) (beginning n) (paired (now (codes .entry)) (now (args .entry))) .state ⌝ }
 {
     let mut mem = [[0u64; 64]; 100];

@@ -129,3 +129,10 @@ pub read-wrong : (r : Result Listed) (ws : List ℕ) {a : Reading} {k : ℕ} →
 unfolding leftWords
 read-wrong (ok G) ws {a} {k} e s z = absurd (subst (Says (ok G)) e s)
 read-wrong (refused x) ws {a} {k} e s z = (subst (Says (refused x)) e s, z)
+
+-- the number of relations by another name
+pub as-many : (bs : List ℕ) (a m k : ℕ) (x : Reading) (ws : List ℕ) → m ≡ k
+    → Says (graphIn (record { atoms = a; relations = m }) bs) x × (ws ≡ leftWords (graphIn (record { atoms = a; relations = m }) bs))
+    → Says (graphIn (record { atoms = a; relations = k }) bs) x × (ws ≡ leftWords (graphIn (record { atoms = a; relations = k }) bs))
+as-many bs a m k x ws e h =
+    subst (λ (n : ℕ). Says (graphIn (record { atoms = a; relations = n }) bs) x × (ws ≡ leftWords (graphIn (record { atoms = a; relations = n }) bs))) e h

@@ -1,7 +1,7 @@
 // A graph read field by field: its events' atoms and its relations as rows of sets, or the first wrong field. (Document 01, "Sheet and graph
 // bytes" and refusal 12.) An edge repeated is found by its bit.
 use fields::Field;
-ghost use Prim.Native.Nat.{ℕ, _+_, _≤_, _<_};
+ghost use Prim.Native.Nat.{ℕ, _+_, _≤_, _<_, min};
 ghost use mathlib.Core.Path.{_≡_};
 ghost use mathlib.Core.Bool.{Bool, true};
 ghost use lib.ListN.{drop};
@@ -144,17 +144,15 @@ fn add_fields(bytes: &[u8], atoms: usize, relations: usize, listed: &mut [u64; 1
     Reading::Events(n)
 }
 
-// Reads the graph that the bytes are, of a query with so many atoms and relations. After the number of events `listed` has for each of 16
+// Reads the graph that the bytes are, of a query with so many atoms and relations, of which 16 count. After the number of events `listed` has for each of 16
 // relations the row of each of 64 events, bit y of row x being the edge from x to y, and then the events' atoms; after a wrong field all is zero.
-// No query that the reader accepts has more than 16 relations, which is what is required.
 pub fn read(bytes: &[u8], atoms: usize, relations: usize, listed: &mut [u64; 1088]) -> Reading
-    requires { ⌜ relations ≤ 16 ⌝ }
-    ensures says { λ r. ⌜ Says (graphIn (record { atoms = atoms; relations = relations }) (now (bytes .entry))) r ⌝ }
+    ensures says { λ r. ⌜ Says (graphIn (record { atoms = atoms; relations = min relations 16 }) (now (bytes .entry))) r ⌝ }
     ensures leaves { λ r.
-        ⌜ now (listed .exit) ≡ leftWords (graphIn (record { atoms = atoms; relations = relations }) (now (bytes .entry))) ⌝ }
+        ⌜ now (listed .exit) ≡ leftWords (graphIn (record { atoms = atoms; relations = min relations 16 }) (now (bytes .entry))) ⌝ }
 {
     words::clear(listed);
-    let r = add_fields(bytes, atoms, relations, listed);
+    let r = add_fields(bytes, atoms, words::least(relations, 16), listed);
     match r {
         Reading::Events(n) => Reading::Events(n),
         Reading::Wrong(k) => {

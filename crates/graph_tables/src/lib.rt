@@ -1,6 +1,7 @@
 // The tables of expressions: each code of an expression changes the tables that wait. (Document 01, "Sheet and graph bytes", last paragraph.) The
 // memory has 100 tables of 64 rows: one for each of 32 lets, and behind them those that wait, the last on top. A graph is 1,088 words: for each
-// of 16 relations a row for each of 64 events, and then the events' atoms. What is required of a state is what the judge's loop keeps.
+// of 16 relations a row for each of 64 events, and then the events' atoms. That at most 68 tables wait is what
+// the judge's loop keeps.
 use words::word;
 ghost use Prim.Native.Nat.{_+_, _≤_, _<_};
 ghost use mathlib.Core.Path.{_≡_};
@@ -123,7 +124,7 @@ fn chain(mem: &mut [[u64; 64]], s: State) -> State
 
 // `+`: the table on top changed.
 fn repeat(mem: &mut [[u64; 64]], s: State) -> State
-    requires { ⌜ (s .waiting ≤ 68) × (s .events ≤ 64) ⌝ }
+    requires { ⌜ s .waiting ≤ 68 ⌝ }
     ensures { λ r. ⌜ judging (now (mem .exit)) r ≡ changedTop (λ t. rounds t (s .events) (s .events)) (judging (now (mem .entry)) s) ⌝ }
 {
     let w = s.waiting;
@@ -145,7 +146,7 @@ fn allow_none(mem: &mut [[u64; 64]], s: State) -> State
 
 // `*`: `+`, then `?`.
 fn repeat_or_none(mem: &mut [[u64; 64]], s: State) -> State
-    requires { ⌜ (s .waiting ≤ 68) × (s .events ≤ 64) ⌝ }
+    requires { ⌜ s .waiting ≤ 68 ⌝ }
     ensures { λ r. ⌜ judging (now (mem .exit)) r ≡ changedTop (λ t. reflexive (rounds t (s .events) (s .events)) (s .events)) (judging (now (mem .entry)) s) ⌝ }
 {
     let w = s.waiting;
@@ -155,9 +156,10 @@ fn repeat_or_none(mem: &mut [[u64; 64]], s: State) -> State
     s
 }
 
-// A code of an expression, with what it needs.
+// A code of an expression, with what it needs. The place of a table on top is a sum: that at most 68 wait, which is required, is what the judge's
+// loop over the codes keeps.
 pub fn operate(listed: &[u64; 1088], mem: &mut [[u64; 64]], s: State, k: u64, x: u64) -> State
-    requires { ⌜ (s .waiting ≤ 68) × (s .events ≤ 64) ⌝ }
+    requires { ⌜ s .waiting ≤ 68 ⌝ }
     ensures { λ r. ⌜ judging (now (mem .exit)) r ≡ operated (now (listed .entry)) (judging (now (mem .entry)) s) k x ⌝ }
 {
     match k {

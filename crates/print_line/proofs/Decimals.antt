@@ -1,7 +1,7 @@
 -- Decimal digits, least first, put in front of those that stand already at the end of an array: what is left to do is what `decimal` does.
 -- Numbers one after the other, each behind a space.
 -- Assumes nothing.
-use Prim.Native.Nat.{ℕ, zero, suc, _+_, _-_, _*_, _/_, _%_, _^_, _≤_, _<_}
+use Prim.Native.Nat.{ℕ, zero, suc, _+_, _-_, _*_, _/_, _%_, _^_, _≤_, _<_, min}
 use native.Mathlib.Omega.{arith}
 use native.Mathlib.Numerals.{add-one}
 use native.Mathlib.Nat.{pow-suc, div-lt-iff-lt-mul}
@@ -14,7 +14,7 @@ use lib.Seq.{take-suc, take-all}
 use borrow.Author.Tests.{lt-ltb, le-ltb}
 use Rattle.claims.specs.Printed.{digitsBefore, decimal, spaced}
 use Rattle.print_line.specs.Puts.{Puts}
-use Rattle.print_line.proofs.Putting.{puts-nothing, puts-append}
+use Rattle.print_line.proofs.Putting.{puts-start, puts-append}
 
 drop-here : (l : List ℕ) (i v : ℕ) → i < length l → drop i (set l i v) ≡ v ∷ drop (suc i) l
 drop-here [] i v h = absurd (omega arith)
@@ -75,9 +75,9 @@ pub puts-numbers-whole : {l m : List ℕ} {at to : ℕ} (ns : List ℕ) (i : ℕ
     → Puts l at (spaced ns) to m
 puts-numbers-whole {l} {m} {at} {to} ns i k p = subst (λ (cs : List ℕ). Puts l at (spaced cs) to m) (take-all i ns k) p
 
-pub puts-numbers-none : (l : List ℕ) (at : ℕ) → at ≤ length l → Puts l at (spaced []) at l
+pub puts-numbers-none : (l : List ℕ) (at to : ℕ) → to ≡ min at (length l) → Puts l at (spaced []) to l
 unfolding spaced
-puts-numbers-none l at h = puts-nothing l at h
+puts-numbers-none l at to e = puts-start l at to e
 
 -- the number that is put is the one that is meant
 pub puts-as : {l o : List ℕ} {at to m n : ℕ} → m ≡ n → Puts l at (spaced (m ∷ [])) to o → Puts l at (spaced (n ∷ [])) to o

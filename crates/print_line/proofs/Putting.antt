@@ -29,15 +29,19 @@ sets-cut cs l i =
     ⊎-elim (λ h. ap (λ (k : ℕ). sets l k cs) (min-eq-left h))
     (λ h. sets-out cs l (min i (length l)) (omega arith) ∙ sym (sets-out cs l i (omega arith))) (le-or-lt i (length l))
 
+-- nothing, from a place that is cut to the length
+pub puts-start : (l : List ℕ) (at to : ℕ) → to ≡ min at (length l) → Puts l at [] to l
+puts-start l at to e = record { memory = refl; next = omega arith }
+
 pub puts-nothing : (l : List ℕ) (at : ℕ) → at ≤ length l → Puts l at [] at l
-puts-nothing l at h = record { memory = refl; next = omega arith }
+puts-nothing l at h = puts-start l at at (omega arith)
 
 -- one byte, where there is room and where there is none
 pub puts-one : (l : List ℕ) (at b : ℕ) → at < length l → Puts l at (b ∷ []) (at + 1) (set l at b)
 puts-one l at b h = record { memory = refl; next = omega arith }
 
-pub puts-none : (l : List ℕ) (at b : ℕ) → at ≤ length l → length l ≤ at → Puts l at (b ∷ []) at l
-puts-none l at b h i = record { memory = sym (set-out l at b i); next = omega arith }
+pub puts-none : (l : List ℕ) (at b : ℕ) → length l ≤ at → Puts l at (b ∷ []) (length l) l
+puts-none l at b h = record { memory = sym (set-out l at b h); next = omega arith }
 
 -- one piece, and then another
 pub puts-append : {l m n : List ℕ} {at to next : ℕ} {bs cs : List ℕ} → Puts l at bs to m → Puts m to cs next n → Puts l at (bs ++ cs) next n

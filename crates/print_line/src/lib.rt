@@ -1,6 +1,5 @@
 // The line that the query program prints, as bytes in lent memory. (Document 01, "The desk's cases".) Whatever does not fit is not written,
 // and the place after a piece of text is at most the length of the memory; for memory that is long enough the whole line stands there.
-// A piece is put at a place within the memory, which is required: it is the place after the piece before it, or 0.
 use refusals::Reason;
 ghost use Prim.Native.Nat.{_-_, _≤_};
 ghost use mathlib.Core.List.{[], _∷_, _++_};
@@ -14,23 +13,20 @@ ghost use Rattle.print_line.specs.Puts.{Puts};
 
 // One byte.
 pub fn put_byte(out: &mut [u8], at: usize, b: u8) -> usize
-    requires { ⌜ at ≤ length (now out) ⌝ }
     ensures { λ r. ⌜ Puts (now (out .entry)) at (b ∷ []) r (now (out .exit)) ⌝ }
 {
     if at < out.len() {
         out[at] = b;
-        at + 1
-    } else {
-        at
+        return at + 1;
     }
+    out.len()
 }
 
 // A text.
 pub fn put_text(out: &mut [u8], at: usize, bytes: &[u8]) -> usize
-    requires { ⌜ at ≤ length (now out) ⌝ }
     ensures { λ r. ⌜ Puts (now (out .entry)) at (now (bytes .entry)) r (now (out .exit)) ⌝ }
 {
-    let mut to = at;
+    let mut to = words::least(at, out.len());
     let mut i = 0;
     while i < bytes.len() {
         to = put_byte(out, to, bytes[i]);
@@ -39,7 +35,7 @@ pub fn put_text(out: &mut [u8], at: usize, bytes: &[u8]) -> usize
     to
 }
 
-// The digits of n at the end of the array; where they begin.
+// The digits of n at the end of the array, which is as long as the largest number; where they begin.
 fn digits(n: u64, to: &mut [u8]) -> usize
     requires { ⌜ length (now to) ≡ 20 ⌝ }
     ensures { λ r. ⌜ (r ≤ 20) × (take (20 - r) (drop r (now (to .exit))) ≡ decimal n) ⌝ }
@@ -58,7 +54,6 @@ fn digits(n: u64, to: &mut [u8]) -> usize
 
 // A number in decimal digits.
 pub fn put_decimal(out: &mut [u8], at: usize, n: u64) -> usize
-    requires { ⌜ at ≤ length (now out) ⌝ }
     ensures { λ r. ⌜ Puts (now (out .entry)) at (decimal n) r (now (out .exit)) ⌝ }
 {
     let mut ds = [0u8; 20];
@@ -67,8 +62,7 @@ pub fn put_decimal(out: &mut [u8], at: usize, n: u64) -> usize
 }
 
 // A space and a number in decimal digits.
-fn put_number(out: &mut [u8], at: usize, n: u64) -> usize
-    requires { ⌜ at ≤ length (now out) ⌝ }
+pub fn put_number(out: &mut [u8], at: usize, n: u64) -> usize
     ensures { λ r. ⌜ Puts (now (out .entry)) at (spaced (n ∷ [])) r (now (out .exit)) ⌝ }
 {
     let mut ds = [0u8; 20];
@@ -85,11 +79,10 @@ fn wide(b: u8) -> u64
 }
 
 // Numbers, each after a space.
-fn put_numbers(out: &mut [u8], at: usize, ns: &[u8]) -> usize
-    requires { ⌜ at ≤ length (now out) ⌝ }
+pub fn put_numbers(out: &mut [u8], at: usize, ns: &[u8]) -> usize
     ensures { λ r. ⌜ Puts (now (out .entry)) at (spaced (now (ns .entry))) r (now (out .exit)) ⌝ }
 {
-    let mut to = at;
+    let mut to = words::least(at, out.len());
     let mut i = 0;
     while i < ns.len() {
         to = put_number(out, to, wide(ns[i]));

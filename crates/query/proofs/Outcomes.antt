@@ -3,11 +3,10 @@
 -- Assumes nothing.
 use Prim.Native.Nat.{ℕ, _^_, _≤_, min}
 use native.Mathlib.Omega.{arith}
-use mathlib.Core.Path.{_≡_, refl, sym, _∙_, ap, subst, subst⁻¹}
-use mathlib.Core.Bool.{Bool, true, false}
+use mathlib.Core.Path.{_≡_, refl, sym, _∙_, ap, ap₂, subst, subst⁻¹}
+use mathlib.Core.Bool.{Bool, true, false, not}
 use mathlib.Core.List.{List, []}
 use lib.ListN.{length, take}
-use lib.Seq.{take-all}
 use Rattle.claims.specs.Tree.{Claim, includes, empty, irreflexive}
 use Rattle.claims.specs.Query.{Query, tests, relations, atoms, live}
 use Rattle.claims.specs.Sides.{decision}
@@ -24,14 +23,17 @@ use Rattle.read_text.specs.declared.Reading.{Reading}
 use Rattle.read_text.specs.declared.Reading.the-variants.{Accepted as Accepted-codes, Refused as Refused-codes}
 use Rattle.codes.proofs.Orderly.{settled-none, settled-on}
 use Rattle.codes.proofs.Claimed.{Claimed}
-use Rattle.side_turned.specs.SideTable.{sideTable}
-use Rattle.side_build.specs.Built.{leftTable, rightTable}
+use Rattle.side_tables.specs.SideTable.{sideTable}
+use Rattle.side_build.specs.Built.{leftTable, rightTable, builtFrom}
+use Rattle.side_build.specs.declared.Built.{Built}
 use Rattle.side_build.proofs.Decided.{Decided, decided}
 use Rattle.side_relations.proofs.Removed.{below-sixty-four}
+use Rattle.query.specs.declared.Facts.{Facts}
 use Rattle.query.specs.declared.Answer.{Answer}
 use Rattle.query.specs.declared.Answer.the-variants.{Accepted, Refused}
 use Rattle.query.specs.Answer.{factsOf, Says, claimTable, tableAfter, leftAfter, rightAfter}
-use Rattle.query.specs.inner.Counted.{isRing, factsFrom, LeavesTables, LimitsSay, inLimits, Limited}
+use Rattle.query.specs.inner.Counted.{isRing, factsBy, inLimits}
+use Rattle.query.proofs.Limits.{is-false, is-true}
 use Rattle.query.proofs.Readings.{Accepts, accepts, taken-claimed, ring-told, read-within, read-over, read-refused}
 
 -- the answer and every lent word are what the reading says
@@ -62,27 +64,21 @@ decision-parts q (empty e) = (refl, refl, refl)
 decision-parts q (irreflexive e) = (refl, refl, refl)
 
 -- a query within the limits
-module _ (q : Query) (c : Claim) (h : Claimed q c) (D : Decided q c) (few : length (queryCodes q) ≤ 4096) where
-  whole : take 4096 (queryCodes q) ≡ queryCodes q
-  whole = take-all 4096 (queryCodes q) few
-
+module _ (q : Query) (c : Claim) (h : Claimed q c) (D : Decided q c) where
   atoms-counted : min (2 ^ length (tests q)) 64 ≡ atoms q
   unfolding atoms
   atoms-counted =
       let few-tests = below-sixty-four (length (tests q)) (settled-on [] q (h .lines) settled-none .room .tests) in
       omega arith
 
-  facts-right : (b : Bool) → b ≡ decision q c .ring → factsFrom (summaryOf q) b (queryCodes q) ≡ factsOf (length (queryCodes q)) (decision q c)
-  unfolding factsFrom factsOf summaryOf
-  facts-right b e =
+  facts-right : isRing (summaryOf q) ≡ decision q c .ring
+      → factsBy (summaryOf q) (builtFrom (length (tests q)) (queryCodes q)) ≡ factsOf (length (queryCodes q)) (decision q c)
+  unfolding factsBy factsOf summaryOf
+  facts-right e =
       let (x, y, z) = decision-parts q c in
-      rw (factsFrom, factsOf, whole, D .left-count, D .right-count, D .live-set, atoms-counted, e, x, y, z) refl
+      rw (factsBy, factsOf, D .left-count, D .right-count, D .live-set, atoms-counted, e, x, y, z) refl
 
-  tables-right : (l r : List ℕ) → LeavesTables (queryCodes q) l r
-      → (l ≡ sideTable (decision q c .left)) × (r ≡ sideTable (decision q c .right))
-  tables-right l r (x, y) = (x ∙ ap leftTable whole ∙ D .left-table, y ∙ ap rightTable whole ∙ D .right-table)
-
--- what the limits say of the codes that were read
+-- what is left of the codes that were read
 module _ (bs : List ℕ) (s : Summary) (out : List ℕ) (a : Accepts bs s out) (w : out ≡ leftCodes (readable bs)) where
   abbrev q : Query
   q = a .query
@@ -94,46 +90,54 @@ module _ (bs : List ℕ) (s : Summary) (out : List ℕ) (a : Accepts bs s out) (
   unfolding summaryOf
   few = omega (arith, ap (λ (k : Summary). k .codes) (a .known), a .room)
 
+  tests-told : s .tests ≡ length (tests q)
+  unfolding summaryOf
+  tests-told = ap (λ (k : Summary). k .tests) (a .known)
+
   last-line : s .lines ≡ length q
   unfolding summaryOf
   last-line = ap (λ (k : Summary). k .lines) (a .known)
 
-  within-right : (x : Answer) (l r : List ℕ) → inLimits s out ≡ true → x ≡ Accepted (factsFrom s (isRing s) (take (s .codes) out))
-      → LeavesTables (take (s .codes) out) l r → Right (read bs) x out l r
+  -- what was built of so many codes
+  abbrev BuiltOf : List ℕ → Built → List ℕ → List ℕ → Type 0
+  BuiltOf ks b l r = (b ≡ builtFrom (s .tests) ks) × (l ≡ leftTable ks) × (r ≡ rightTable ks)
+
+  built-codes : take (min (s .codes) 4096) out ≡ queryCodes q
+  built-codes = let z : min (s .codes) 4096 ≡ s .codes = omega (arith, a .room) in ap (λ n. take n out) z ∙ a .codes
+
+  within-right : inLimits s out ≡ true → (b : Built) (f : Facts) (l r : List ℕ) → BuiltOf (take (min (s .codes) 4096) out) b l r
+      → f ≡ factsBy s b → Right (read bs) (Accepted f) out l r
   unfolding tableAfter claimTable
-  within-right x l r t e f =
+  within-right t b f l r (x, y, z) e =
       let (isOk, inside) = read-within bs s out a t in
       let h = taken-claimed bs q (a .taken) in
       let D = decided q c h inside few in
-      let (lt, rt) = tables-right q c h D few l r (subst (λ ks. LeavesTables ks l r) (a .codes) f) in
-      subst⁻¹ (λ v. Right v x out l r) isOk
+      let same = built-codes in
+      let made : b ≡ builtFrom (length (tests q)) (queryCodes q) = x ∙ ap₂ builtFrom tests-told same in
+      subst⁻¹ (λ v. Right v (Accepted f) out l r) isOk
       (record {
-        answer = subst⁻¹ (Says (ok q)) (e ∙ ap Accepted (ap (factsFrom s (isRing s)) (a .codes)
-            ∙ ap (λ k. factsFrom k (isRing s) (queryCodes q)) (a .known) ∙ facts-right q c h D few (isRing s) (ring-told bs s out a)))
-            (c, a .taken .found, refl);
+        answer = (
+          c,
+          a .taken .found,
+          e ∙ ap₂ factsBy (a .known) made
+              ∙ facts-right q c h D (ap isRing (sym (a .known)) ∙ ring-told bs s out a),
+        );
         codes-left = w ∙ ap leftCodes (a .is-it);
-        left-table = lt ∙ sym (ap (claimTable (λ d. d .left) q) (a .taken .found));
-        right-table = rt ∙ sym (ap (claimTable (λ d. d .right) q) (a .taken .found));
+        left-table = y ∙ ap leftTable same ∙ D .left-table ∙ sym (ap (claimTable (λ d. d .left) q) (a .taken .found));
+        right-table = z ∙ ap rightTable same ∙ D .right-table ∙ sym (ap (claimTable (λ d. d .right) q) (a .taken .found));
       })
 
-  over-right : (x : Answer) (out′ l r : List ℕ) → inLimits s out ≡ false → x ≡ Refused OverLimit (s .lines) → out′ ≡ zeros 4096 → l ≡ zeros 4241 → r ≡ zeros 4241 → Right (read bs) x out′ l r
+  over-right : inLimits s out ≡ false → (out′ l r : List ℕ) → out′ ≡ zeros 4096 → l ≡ zeros 4241 → r ≡ zeros 4241
+      → Right (read bs) (Refused OverLimit (s .lines)) out′ l r
   unfolding tableAfter leftCodes causeOf
-  over-right x out′ l r t e z y v =
-      subst⁻¹ (λ v. Right v x out′ l r) (read-over bs s out a t)
+  over-right t out′ l r z y v =
+      subst⁻¹ (λ x. Right x (Refused OverLimit (s .lines)) out′ l r) (read-over bs s out a t)
       (record {
-        answer = subst⁻¹ (Says (refuse overLimit (length q))) (e ∙ ap (Refused OverLimit) last-line) (refl, refl);
+        answer = subst⁻¹ (Says (refuse overLimit (length q))) (ap (Refused OverLimit) last-line) (refl, refl);
         codes-left = z;
         left-table = y;
         right-table = v;
       })
-
-  limits-right : (l r : List ℕ) → l ≡ zeros 4241 → r ≡ zeros 4241 → (x : Answer) (out′ l′ r′ : List ℕ)
-      → Limited s out l r x out′ l′ r′ → Right (read bs) x out′ l′ r′
-  limits-right l r y v x out′ l′ r′ j = go (inLimits s out) refl j
-    where
-      go : (b : Bool) → inLimits s out ≡ b → LimitsSay s out l r b x out′ l′ r′ → Right (read bs) x out′ l′ r′
-      go true t (e, k, f) = subst⁻¹ (λ o. Right (read bs) x o l′ r′) k (within-right x l′ r′ t e f)
-      go false t (e, z, f, g) = over-right x out′ l′ r′ t e z (f ∙ y) (g ∙ v)
 
 -- what the contract of `read` says
 abbrev pub ReadOutcome : Result Query → Answer → List ℕ → List ℕ → List ℕ → Type 0
@@ -143,23 +147,27 @@ outcome : (x : Result Query) (a : Answer) (out l r : List ℕ) → Right x a out
 outcome x a out l r y = (y .answer, y .codes-left, y .left-table, y .right-table)
 
 module _ (bs : List ℕ) (res : Reading) (out : List ℕ) (said : SaysSummary (readable bs) res) (left-codes : out ≡ leftCodes (readable bs)) where
-  -- the first way out
-  pub refused-way : (why : Reason) (p : ℕ) → res ≡ Refused-codes why p → (j k : ℕ) (l r : List ℕ) → j ≡ 4241 → l ≡ zeros j → k ≡ 4241 → r ≡ zeros k
+  -- a refusal of the reader
+  pub refused-way : (why : Reason) (p : ℕ) → res ≡ Refused-codes why p → (l r : List ℕ) → l ≡ zeros 4241 → r ≡ zeros 4241
       → ReadOutcome (read bs) (Refused why p) out l r
-  refused-way why p e j k l r f x g y =
-      outcome (read bs) (Refused why p) out l r
-      (refusal-right bs why p out l r (subst (SaysSummary (readable bs)) e said) left-codes (x ∙ ap zeros f) (y ∙ ap zeros g))
+  refused-way why p e l r x y =
+      outcome (read bs) (Refused why p) out l r (refusal-right bs why p out l r (subst (SaysSummary (readable bs)) e said) left-codes x y)
 
   module _ (s : Summary) (e : res ≡ Accepted-codes s) (size : length out ≡ 4096) where
     accepted : Accepts bs s out
     accepted = accepts bs s out size (subst (SaysSummary (readable bs)) e said) left-codes
 
-    pub accepted-room : (s .codes ≤ 4096) × (length out ≡ 4096)
-    accepted-room = (accepted .room, size)
+    -- over the limits
+    pub over-way : (b : Bool) → b ≡ inLimits s out → not b ≡ true → (out′ l r : List ℕ) → out′ ≡ zeros (length out) → l ≡ zeros 4241 → r ≡ zeros 4241
+        → ReadOutcome (read bs) (Refused OverLimit (s .lines)) out′ l r
+    over-way b t f out′ l r x y z =
+        outcome (read bs) (Refused OverLimit (s .lines)) out′ l r
+        (over-right bs s out accepted left-codes (sym t ∙ is-false b f) out′ l r (x ∙ ap zeros size) y z)
 
-    -- and the others
-    pub accepted-way : (j k : ℕ) (l r : List ℕ) → j ≡ 4241 → l ≡ zeros j → k ≡ 4241 → r ≡ zeros k
-        → (a : Answer) (out′ l′ r′ : List ℕ) → Limited s out l r a out′ l′ r′ → ReadOutcome (read bs) a out′ l′ r′
-    accepted-way j k l r f x g y a out′ l′ r′ z =
-        outcome (read bs) a out′ l′ r′
-        (limits-right bs s out accepted left-codes l r (x ∙ ap zeros f) (y ∙ ap zeros g) a out′ l′ r′ z)
+    -- within them
+    pub within-way : (b : Bool) → b ≡ inLimits s out → not b ≡ false → (v : Built) (f : Facts) (l r : List ℕ)
+        → (v ≡ builtFrom (s .tests) (take (min (s .codes) 4096) out)) × (l ≡ leftTable (take (min (s .codes) 4096) out))
+        × (r ≡ rightTable (take (min (s .codes) 4096) out))
+        → f ≡ factsBy s v → ReadOutcome (read bs) (Accepted f) out l r
+    within-way b t g v f l r x y =
+        outcome (read bs) (Accepted f) out l r (within-right bs s out accepted left-codes (sym t ∙ is-true b g) v f l r x y)

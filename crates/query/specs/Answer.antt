@@ -18,7 +18,7 @@ use Rattle.claims.specs.Refusals.{Result, ok, refused}
 use Rattle.codes.specs.Codes.{queryCodes}
 use Rattle.refusals.specs.Causes.{causeOf}
 use Rattle.words.specs.Memory.{zeros}
-use Rattle.side_turned.specs.SideTable.{sideTable}
+use Rattle.side_tables.specs.SideTable.{sideTable}
 use Rattle.query.specs.declared.Facts.{Facts}
 use Rattle.query.specs.declared.Answer.{Answer}
 use Rattle.query.specs.declared.Answer.the-variants.{Accepted, Refused}

@@ -8,7 +8,7 @@ use mathlib.Core.List.{List}
 use Rattle.kat.specs.Tables.{occurrences}
 use Rattle.claims.specs.Sides.{Decision}
 use Rattle.claims.specs.SheetWriting.{RisingWithin}
-use Rattle.side_turned.specs.SideTable.{sideTable}
+use Rattle.side_tables.specs.SideTable.{sideTable}
 use Rattle.query.specs.declared.Facts.{Facts}
 use Rattle.query.specs.Answer.{factsOf}
 

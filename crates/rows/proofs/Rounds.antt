@@ -1,7 +1,7 @@
 -- Rounds close a table: after the rounds through the numbers below k, row x has bit y exactly where x leads to y through these numbers, by
 -- Warshall's recursion. Row k does not change in round k, so that a round may be done in place. Before that, the turns of the loops.
 -- Assumes nothing.
-use Prim.Native.Nat.{ℕ, zero, suc, _+_, _^_, _≤_, _<_}
+use Prim.Native.Nat.{ℕ, zero, suc, _+_, _^_, _≤_, _<_, min}
 use native.Mathlib.Numerals.{add-one}
 use native.Mathlib.Omega.{arith}
 use mathlib.Core.Path.{_≡_, refl, sym, _∙_, ap, ap₂, subst}
@@ -38,8 +38,8 @@ module _ (c k : ℕ) where
       → changed merge (set t x v) (x + 1) n ≡ changed merge t x n
   where-more t n x v h l e = changed-more merge t n x v h l e
 
-  pub where-end : (t : List ℕ) (n x : ℕ) → n ≤ x → changed merge t x n ≡ t
-  where-end t n x h = changed-end merge t n x (omega arith)
+  pub where-end : (t : List ℕ) (n x : ℕ) → min n (length t) ≤ x → changed merge t x n ≡ t
+  where-end t n x h = changed-end merge t n x h
 
 -- the rounds, one after another
 module _ (t : List ℕ) (n : ℕ) where

@@ -4,7 +4,6 @@
 use bits::marked;
 use bits::member;
 use words::word as row;
-ghost use Prim.Native.Nat.{_≤_};
 ghost use mathlib.Core.Path.{_≡_};
 ghost use mathlib.Core.Bool.{cond};
 ghost use lib.Bits.{bitOr};
@@ -85,21 +84,20 @@ fn merged(w: u64, c: u64, k: usize) -> u64
     if member(w, k) { w | c } else { w }
 }
 
-// The rows below n that have k, joined with c. There are so many rows.
+// The rows below n that have k, joined with c.
 fn join_where(t: &mut [u64], c: u64, k: usize, n: usize)
-    requires { ⌜ n ≤ length (now t) ⌝ }
     ensures { λ r. ⌜ now (t .exit) ≡ joinedWhere (now (t .entry)) c k n ⌝ }
 {
+    let m = words::least(n, t.len());
     let mut x = 0;
-    while x < n {
+    while x < m {
         t[x] = merged(t[x], c, k);
         x += 1;
     }
 }
 
-// The rows below n, closed. There are so many rows.
+// The rows below n, closed.
 pub fn close(t: &mut [u64], n: usize)
-    requires { ⌜ n ≤ length (now t) ⌝ }
     ensures { λ r. ⌜ now (t .exit) ≡ rounds (now (t .entry)) n n ⌝ }
 {
     let mut k = 0;
@@ -111,7 +109,6 @@ pub fn close(t: &mut [u64], n: usize)
 
 // One pair of t or several in a row, among n events.
 pub fn plus(t: [u64; 64], n: usize) -> [u64; 64]
-    requires { ⌜ n ≤ 64 ⌝ }
     ensures { λ r. ⌜ r ≡ rounds t n n ⌝ }
 {
     let mut r = t;

@@ -22,7 +22,7 @@ use Rattle.words.specs.Memory.{words}
 use Rattle.words.proofs.Words.{words-at}
 use Rattle.bits.specs.Sets.{members}
 use Rattle.bits.proofs.Members.{number-in}
-use Rattle.side_turned.specs.SideTable.{sideTable}
+use Rattle.side_tables.specs.SideTable.{sideTable}
 use Rattle.search_words.specs.declared.Shape.{Shape}
 use Rattle.search_atoms.specs.Masks.{maskOf, maskAt, masksOf}
 use Rattle.search_atoms.proofs.Kept.{live-bit, mask-path, mask-ring}

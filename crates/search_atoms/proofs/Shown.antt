@@ -19,7 +19,7 @@ use Rattle.claims.specs.Sides.{Decision}
 use Rattle.claims.specs.Alike.{occurrencesOf, statesOf, sameNext, sameLast, alikePath, alikeRing}
 use Rattle.claims.proofs.Results.{same-is-equal, same-self}
 use Rattle.bits.proofs.Members.{numbers-equal, number-filter}
-use Rattle.side_turned.specs.SideTable.{sideTable}
+use Rattle.side_tables.specs.SideTable.{sideTable}
 use Rattle.search_words.specs.declared.Shape.{Shape}
 use Rattle.standings.specs.Steps.{stepFrom, enders}
 use Rattle.standings.proofs.Tables.{null-shown, ends-bit, enders-small, from-small, from-shown}

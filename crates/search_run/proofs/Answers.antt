@@ -21,7 +21,7 @@ use Rattle.claims.proofs.Lawful.{path-lawful, ring-lawful}
 use Rattle.claims.proofs.WordBytes.{guarded-in-range}
 use Rattle.claims.proofs.SheetOfBytes.{numbers-bytes}
 use Rattle.claims.proofs.Verdict.{refuted-is-least}
-use Rattle.side_turned.specs.SideTable.{sideTable}
+use Rattle.side_tables.specs.SideTable.{sideTable}
 use Rattle.query.specs.declared.Facts.{Facts}
 use Rattle.query.specs.Answer.{factsOf}
 use Rattle.search_words.specs.Systems.{wordSystem}

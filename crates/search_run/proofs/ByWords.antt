@@ -15,7 +15,7 @@ use Rattle.claims.specs.Search.{verdict}
 use Rattle.claims.specs.Alike.{pathLetter, ringLetter}
 use Rattle.claims.specs.SheetWriting.{RisingWithin}
 use Rattle.claims.proofs.Letters.{letters-in}
-use Rattle.side_turned.specs.SideTable.{sideTable}
+use Rattle.side_tables.specs.SideTable.{sideTable}
 use Rattle.query.specs.declared.Facts.{Facts}
 use Rattle.query.specs.Answer.{factsOf}
 use Rattle.search_words.specs.declared.Shape.{Shape}

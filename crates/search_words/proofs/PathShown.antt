@@ -17,7 +17,7 @@ use Rattle.claims.specs.Standings.{Letter, Path, pathStep, pathSystem, pathFina
 use Rattle.claims.specs.Search.{verdict}
 use Rattle.claims.specs.Fields.{bigEndian}
 use Rattle.claims.specs.SheetBytes.{pathBytes}
-use Rattle.side_turned.specs.SideTable.{sideTable}
+use Rattle.side_tables.specs.SideTable.{sideTable}
 use Rattle.search_words.specs.declared.Shape.{Shape}
 use Rattle.standings.specs.Steps.{stepFrom, stepSet}
 use Rattle.search_words.specs.PathWords.{pathBegin, pathOnward, pathEnds, pathFinals}

@@ -23,7 +23,7 @@ use Rattle.claims.proofs.SetBytes.{RisingWithin}
 use Rattle.bits.proofs.Lists.{some-filter}
 use Rattle.bits.proofs.Members.{bit-number}
 use Rattle.side_atoms.proofs.Atoms.{member-filter}
-use Rattle.side_turned.specs.SideTable.{sideTable}
+use Rattle.side_tables.specs.SideTable.{sideTable}
 use Rattle.standings.specs.Steps.{enders}
 use Rattle.search_words.specs.RingWords.{inM, inN, turnEnds, pairTurns, ringCovered, ringFinals}
 use Rattle.standings.proofs.Tables.{ends-bit, ends-shown}

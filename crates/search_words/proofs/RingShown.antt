@@ -23,7 +23,7 @@ use Rattle.claims.specs.Standings as ring
 use Rattle.bits.proofs.Bit.{bit-none}
 use Rattle.bits.proofs.Lists.{some-filter}
 use Rattle.side_atoms.proofs.Atoms.{member-filter}
-use Rattle.side_turned.specs.SideTable.{sideTable}
+use Rattle.side_tables.specs.SideTable.{sideTable}
 use Rattle.standings.specs.Steps.{stepFrom, stepSet, enders, nullAt}
 use Rattle.standings.specs.Steps.{leads}
 use Rattle.search_words.specs.RingWords.{beginColumn, opened, onwardColumn, flag, ringBegin, ringOnward, inN}

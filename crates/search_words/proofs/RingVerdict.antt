@@ -15,7 +15,7 @@ use Rattle.claims.specs.Search.{verdict}
 use Rattle.claims.specs.Orders.{Rising}
 use Rattle.claims.proofs.Lawful.{ring-lawful}
 use Rattle.claims.proofs.Pairwise.{pairwise-filter, rising-upto}
-use Rattle.side_turned.specs.SideTable.{sideTable}
+use Rattle.side_tables.specs.SideTable.{sideTable}
 use Rattle.search_words.specs.declared.Shape.{Shape}
 use Rattle.search_words.specs.RingWords.{ringBegin, ringOnward, ringFinals}
 use Rattle.search_words.specs.Systems.{beginWords, onwardWords, finalsWords, wordSystem}

@@ -39,25 +39,25 @@ use Rattle.sheet.specs.inner.Ended.{ended}
 
 -- the answer to a part that ends the sheet or not
 abbrev pub answerTo : Tested → ℕ → Checked
-answerTo (ProvedPart passed fields next) end = ended true passed fields next end
-answerTo (RefutedPart passed fields next) end = ended false passed fields next end
+answerTo (ProvedPart passed fields next) end = ended true passed (fields + 1) next end
+answerTo (RefutedPart passed fields next) end = ended false passed (fields + 1) next end
 answerTo (Wrong i) end = Refused SheetField (suc i)
 
 -- the four ways out
-module _ (proved passed : Bool) (fields next end : ℕ) where
-  pub ended-followed : next < end → Refused SheetField (fields + 1) ≡ ended proved passed fields next end
+module _ (proved passed : Bool) (field next end : ℕ) where
+  pub ended-followed : next < end → Refused SheetField field ≡ ended proved passed field next end
   unfolding ended
-  ended-followed h = let z : fields + 1 ≡ suc fields = omega arith in rw (lt-ltb next end h, z) refl
+  ended-followed h = rw (lt-ltb next end h) refl
 
-  pub ended-failed : end ≤ next → passed ≡ false → Refused DoesNotPass 0 ≡ ended proved passed fields next end
+  pub ended-failed : end ≤ next → passed ≡ false → Refused DoesNotPass 0 ≡ ended proved passed field next end
   unfolding ended
   ended-failed h k = rw (le-ltb next end h, k) refl
 
-  pub ended-proved : end ≤ next → passed ≡ true → proved ≡ true → Proved ≡ ended proved passed fields next end
+  pub ended-proved : end ≤ next → passed ≡ true → proved ≡ true → Proved ≡ ended proved passed field next end
   unfolding ended
   ended-proved h k e = rw (le-ltb next end h, k, e) refl
 
-  pub ended-refuted : end ≤ next → passed ≡ true → proved ≡ false → Refuted ≡ ended proved passed fields next end
+  pub ended-refuted : end ≤ next → passed ≡ true → proved ≡ false → Refuted ≡ ended proved passed field next end
   unfolding ended
   ended-refuted h k e = rw (le-ltb next end h, k, e) refl
 
@@ -80,34 +80,34 @@ module _ (D : Decision) (bs : List ℕ) where
   abbrev Made : Said D → ℕ → List ℕ → Result Passed
   Made s n rest = afterwards (elim (isEmpty rest) [ true ↦ ok s | false ↦ refuse sheetField n ]) (passedOf D)
 
-  followed : (proved passed : Bool) (s : Said D) (n fields next : ℕ) (rest : List ℕ) → n ≡ suc fields → rest ≡ drop next bs → next < length bs
-      → Says (Made s n rest) (ended proved passed fields next (length bs))
+  followed : (proved passed : Bool) (s : Said D) (n field next : ℕ) (rest : List ℕ) → n ≡ field → rest ≡ drop next bs → next < length bs
+      → Says (Made s n rest) (ended proved passed field next (length bs))
   unfolding ended causeOf
-  followed proved passed s n fields next rest e f h =
+  followed proved passed s n field next rest e f h =
       rw (f, more-behind next bs h, lt-ltb next (length bs) h) (refl, sym e)
 
-  last-proved : (passed : Bool) (ss : List _) (n fields next : ℕ) (rest : List ℕ) → passed ≡ passes D (saysProved ss) → rest ≡ drop next bs
-      → length bs ≤ next → Says (Made (saysProved ss) n rest) (ended true passed fields next (length bs))
+  last-proved : (passed : Bool) (ss : List _) (n field next : ℕ) (rest : List ℕ) → passed ≡ passes D (saysProved ss) → rest ≡ drop next bs
+      → length bs ≤ next → Says (Made (saysProved ss) n rest) (ended true passed field next (length bs))
   unfolding ended passedOf causeOf
-  last-proved true ss n fields next rest g f h =
+  last-proved true ss n field next rest g f h =
       rw (f, none-behind next bs h, le-ltb next (length bs) h, passedOf, sym g) tt
-  last-proved false ss n fields next rest g f h =
+  last-proved false ss n field next rest g f h =
       rw (f, none-behind next bs h, le-ltb next (length bs) h, passedOf, sym g) (refl, refl)
 
-  last-refuted : (passed : Bool) (w : _) (n fields next : ℕ) (rest : List ℕ) → passed ≡ passes D (saysRefuted w) → rest ≡ drop next bs
-      → length bs ≤ next → Says (Made (saysRefuted w) n rest) (ended false passed fields next (length bs))
+  last-refuted : (passed : Bool) (w : _) (n field next : ℕ) (rest : List ℕ) → passed ≡ passes D (saysRefuted w) → rest ≡ drop next bs
+      → length bs ≤ next → Says (Made (saysRefuted w) n rest) (ended false passed field next (length bs))
   unfolding ended passedOf causeOf
-  last-refuted true w n fields next rest g f h =
+  last-refuted true w n field next rest g f h =
       rw (f, none-behind next bs h, le-ltb next (length bs) h, passedOf, sym g) tt
-  last-refuted false w n fields next rest g f h =
+  last-refuted false w n field next rest g f h =
       rw (f, none-behind next bs h, le-ltb next (length bs) h, passedOf, sym g) (refl, refl)
 
   part-said : (s : Said D) (n : ℕ) (rest : List ℕ) (t : Tested) → TestsPart D bs 1 s n rest t → Says (Made s n rest) (answerTo t (length bs))
   part-said (saysProved ss) n rest (ProvedPart passed fields next) (g, e, l, f) =
-      ⊎-elim (λ h. last-proved passed ss n fields next rest g f h) (λ h. followed true passed (saysProved ss) n fields next rest (omega (arith, e)) f h)
+      ⊎-elim (λ h. last-proved passed ss n (fields + 1) next rest g f h) (λ h. followed true passed (saysProved ss) n (fields + 1) next rest (omega (arith, e)) f h)
       (le-or-lt (length bs) next)
   part-said (saysRefuted w) n rest (RefutedPart passed fields next) (g, e, l, f) =
-      ⊎-elim (λ h. last-refuted passed w n fields next rest g f h) (λ h. followed false passed (saysRefuted w) n fields next rest (omega (arith, e)) f h)
+      ⊎-elim (λ h. last-refuted passed w n (fields + 1) next rest g f h) (λ h. followed false passed (saysRefuted w) n (fields + 1) next rest (omega (arith, e)) f h)
       (le-or-lt (length bs) next)
 
   part-ended : (r : Result (Part D)) (t : Tested) → Tests D bs 1 r t
@@ -151,12 +151,12 @@ few-wrong t i h e = subst FewFields e h
 -- the answer to the sheet, by the kind of what was found
 module _ (D : Decision) (bs : List ℕ) (t : Tested) (h : (k : ℕ) → Tests D bs k (partIn D k (drop 0 bs)) t) where
   pub proved-says : (passed : Bool) (fields next : ℕ) → t ≡ ProvedPart passed fields next → (c : Checked)
-      → c ≡ ended true passed fields next (length bs) → Says (checked D bs) c
+      → c ≡ ended true passed (fields + 1) next (length bs) → Says (checked D bs) c
   proved-says passed fields next e c f =
       subst⁻¹ (Says (checked D bs)) f (subst (λ u. Says (checked D bs) (answerTo u (length bs))) e (sheet-ended D bs t (h 1)))
 
   pub refuted-says : (passed : Bool) (fields next : ℕ) → t ≡ RefutedPart passed fields next → (c : Checked)
-      → c ≡ ended false passed fields next (length bs) → Says (checked D bs) c
+      → c ≡ ended false passed (fields + 1) next (length bs) → Says (checked D bs) c
   refuted-says passed fields next e c f =
       subst⁻¹ (Says (checked D bs)) f (subst (λ u. Says (checked D bs) (answerTo u (length bs))) e (sheet-ended D bs t (h 1)))
 

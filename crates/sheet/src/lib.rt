@@ -2,14 +2,10 @@
 // "Refusals with an example each".) The query is read first, refusals 1 to 8; then comes 13 at the first wrong field, and 14 for a
 // well-formed sheet that does not pass. It uses nothing of the search.
 use query::Answer;
-use query::Facts;
 use refusals::Reason;
 use sheet_part::Tested;
-ghost use Prim.Native.Nat.{_≤_};
 ghost use mathlib.Core.Path.{_≡_};
-ghost use Rattle.claims.specs.Sides.{Decision};
-ghost use Rattle.claims.specs.Calls.{checked, check-call};
-ghost use Rattle.query.specs.Decided.{Decided};
+ghost use Rattle.claims.specs.Calls.{check-call};
 ghost use Rattle.sheet.specs.Checks.{Says};
 ghost use Rattle.sheet.specs.Evidence.{HoldsInEveryGraph, DrawnGraphBreaks};
 ghost use Rattle.sheet.specs.inner.Ended.{ended};
@@ -22,14 +18,13 @@ pub enum Checked {
     Refused(Reason, usize),
 }
 
-// The answer to a sheet whose part says proved or not, passes or not, has so many fields and ends at place next: nothing may follow. A part
-// has at most 4,097 fields.
-fn answer(proved: bool, passes: bool, fields: usize, next: usize, end: usize) -> Checked
-    requires { ⌜ fields ≤ 4097 ⌝ }
-    ensures { λ r. ⌜ r ≡ ended proved passes fields next end ⌝ }
+// The answer to a sheet whose part says proved or not, passes or not, and ends at place next: nothing may follow, which would be the field of
+// this number.
+fn answer(proved: bool, passes: bool, field: usize, next: usize, end: usize) -> Checked
+    ensures { λ r. ⌜ r ≡ ended proved passes field next end ⌝ }
 {
     if next < end {
-        return Checked::Refused(Reason::SheetField, fields + 1);
+        return Checked::Refused(Reason::SheetField, field);
     }
     if passes {
         if proved {
@@ -40,20 +35,8 @@ fn answer(proved: bool, passes: bool, fields: usize, next: usize, end: usize) ->
     Checked::Refused(Reason::DoesNotPass, 0)
 }
 
-// The whole sheet is one part from its start.
-fn whole(f: Facts, left: &[u64; 4241], right: &[u64; 4241], sheet: &[u8]) -> Checked
-    ensures { λ r. ⌜ ((D : Decision) → Decided f (now (left .entry)) (now (right .entry)) D → Says (checked D (now (sheet .entry))) r) ⌝ }
-{
-    let t = sheet_part::part(f, left, right, sheet, 0);
-    match t {
-        Tested::Proved(passes, fields, next) => answer(true, passes, fields, next, sheet.len()),
-        Tested::Refuted(passes, fields, next) => answer(false, passes, fields, next, sheet.len()),
-        Tested::Wrong(before) => Checked::Refused(Reason::SheetField, before + 1),
-    }
-}
-
-// Checks a sheet against the query that the text is. Whoever has a sheet that passes as proved has a claim that holds in every graph; one that
-// passes as refuted has a graph that breaks it.
+// Checks a sheet against the query that the text is: one part from its start, of n fields, and nothing behind it. Whoever has a sheet that passes
+// as proved has a claim that holds in every graph; one that passes as refuted has a graph that breaks it.
 pub fn check(text: &[u8], sheet: &[u8]) -> Checked
     ensures says { λ r. ⌜ Says (check-call (now (text .entry)) (now (sheet .entry))) r ⌝ }
     ensures proved { λ r. ⌜ (r ≡ Proved → HoldsInEveryGraph (now (text .entry))) ⌝ }
@@ -65,6 +48,14 @@ pub fn check(text: &[u8], sheet: &[u8]) -> Checked
     let asked = query::read(text, &mut codes, &mut left, &mut right);
     match asked {
         Answer::Refused(why, place) => Checked::Refused(why, place),
-        Answer::Accepted(f) => whole(f, &left, &right, sheet),
+        Answer::Accepted(f) => {
+            let end = sheet.len();
+            let t = sheet_part::part(f, &left, &right, sheet, 0);
+            match t {
+                Tested::Proved(passes, n, next) => answer(true, passes, n + 1, next, end),
+                Tested::Refuted(passes, n, next) => answer(false, passes, n + 1, next, end),
+                Tested::Wrong(before) => Checked::Refused(Reason::SheetField, before + 1),
+            }
+        }
     }
 }

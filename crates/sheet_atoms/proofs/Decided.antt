@@ -12,7 +12,7 @@ use Rattle.claims.proofs.SetBytes.{RisingWithin}
 use Rattle.query.specs.declared.Facts.{Facts}
 use Rattle.query.specs.Answer.{factsOf}
 use Rattle.query.specs.Decided.{Decided}
-use Rattle.side_turned.specs.SideTable.{sideTable}
+use Rattle.side_tables.specs.SideTable.{sideTable}
 use Rattle.standings.proofs.LettersOf.{LettersOf}
 
 within-above : (lo hi : ℕ) (l : List ℕ) → RisingWithin lo hi l → (b : ℕ) → In b l → lo ≤ b

@@ -23,7 +23,7 @@ use Rattle.bits.specs.Sets.{including, allBelow, members}
 use Rattle.bits.proofs.Bit.{bit-none, bit-and}
 use Rattle.bits.proofs.Members.{number-in, in-number, bit-number}
 use Rattle.bits.proofs.Rows.{bit-all, bit-including}
-use Rattle.side_turned.specs.SideTable.{sideTable}
+use Rattle.side_tables.specs.SideTable.{sideTable}
 use Rattle.query.specs.declared.Facts.{Facts}
 use Rattle.sheet_atoms.specs.Masks.{gathered, alikeWords, lowestWords, maskOf}
 use Rattle.sheet_atoms.proofs.Shown.{alike-path-shown, alike-ring-shown}

@@ -27,7 +27,7 @@ use Rattle.query.specs.declared.Facts.{Facts}
 use Rattle.query.specs.Answer.{factsOf}
 use Rattle.query.specs.Decided.{Decided}
 use Rattle.standings.proofs.LettersOf.{LettersOf, live-below}
-use Rattle.side_turned.specs.SideTable.{sideTable}
+use Rattle.side_tables.specs.SideTable.{sideTable}
 use Rattle.sheet_atoms.specs.Masks.{lowestWords, maskOf, maskAt, masksOf, tried}
 use Rattle.sheet_atoms.proofs.Decided.{live-within, by-decided}
 use Rattle.sheet_atoms.proofs.Kept.{gathered-bit, mask-path, mask-ring}

@@ -15,7 +15,7 @@ use Rattle.claims.specs.SheetWriting.{AllBytes, RisingWithin}
 use Rattle.claims.specs.Sides.{Decision}
 use Rattle.claims.specs.Standings.{systemOf, claimSystem}
 use Rattle.claims.specs.Width.{width, rowLength}
-use Rattle.side_turned.specs.SideTable.{sideTable}
+use Rattle.side_tables.specs.SideTable.{sideTable}
 use Rattle.standings.proofs.LettersOf.{LettersOf}
 use Rattle.standings.proofs.Shows.{Shows}
 use Rattle.sheet_cells.specs.Layout.{standingCells}

@@ -17,7 +17,7 @@ use Rattle.kat.proofs.Sets.{filter-same}
 use Rattle.claims.specs.Bytes.{same}
 use Rattle.claims.specs.Sides.{Decision}
 use Rattle.claims.specs.Standings.{System, Letter, pathStep, pathSystem, pathFinals as pathFinalsOf}
-use Rattle.side_turned.specs.SideTable.{sideTable}
+use Rattle.side_tables.specs.SideTable.{sideTable}
 use Rattle.standings.specs.Steps.{stepFrom, stepSet}
 use Rattle.standings.proofs.OccurrenceWords.{occurrencesOf, word-empty, word-same}
 use Rattle.standings.proofs.Tables.{from-small, from-shown, set-step-small, set-step-shown, ends-shown}

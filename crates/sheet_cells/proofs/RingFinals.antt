@@ -22,7 +22,7 @@ use Rattle.claims.specs.Standings as ring
 use Rattle.claims.proofs.SetBytes.{RisingWithin, bit-zero}
 use Rattle.bits.proofs.Bit.{bit-none}
 use Rattle.bits.proofs.Members.{bit-number, member-number, some-number}
-use Rattle.side_turned.specs.SideTable.{sideTable}
+use Rattle.side_tables.specs.SideTable.{sideTable}
 use Rattle.standings.specs.Steps.{enders}
 use Rattle.standings.proofs.Tables.{ends-bit, ends-shown}
 use Rattle.standings.proofs.Turns.{closure-same, closure-zero}

@@ -18,7 +18,7 @@ use Rattle.claims.proofs.Letters.{Fits}
 use Rattle.claims.proofs.Pairwise.{pairwise-filter, rising-upto}
 use Rattle.claims.proofs.SetBytes.{RisingWithin, set-read-back}
 use Rattle.bits.proofs.Members.{number-in}
-use Rattle.side_turned.specs.SideTable.{sideTable}
+use Rattle.side_tables.specs.SideTable.{sideTable}
 use Rattle.standings.proofs.LettersOf.{LettersOf, live-members, letter-atom, letter-relation, alone-shown}
 use Rattle.standings.proofs.Shows.{Shows}
 use Rattle.sheet_cells.specs.RingCells.{ringFinals, ringShown}

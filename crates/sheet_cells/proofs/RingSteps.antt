@@ -26,7 +26,7 @@ use Rattle.bits.proofs.Bit.{bit-none, bit-above, bit-ext}
 use Rattle.bits.proofs.Members.{member-number, number-filter, number-none}
 use Rattle.bits.proofs.Shifted.{bit-cut}
 use Rattle.side_atoms.proofs.Atoms.{bit-of, number-small}
-use Rattle.side_turned.specs.SideTable.{sideTable}
+use Rattle.side_tables.specs.SideTable.{sideTable}
 use Rattle.standings.specs.Steps.{stepFrom, stepSet, endsSet, nullAt, leads, joined}
 use Rattle.standings.proofs.Tables.{null-shown, from-small, from-shown, set-step-small, set-step-shown, ends-shown}
 use Rattle.standings.proofs.Joined.{joined-bit, joined-small, joined-none}

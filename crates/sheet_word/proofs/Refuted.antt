@@ -17,7 +17,7 @@ use Rattle.claims.specs.Sides.{Decision}
 use Rattle.claims.specs.Standings.{claimSystem}
 use Rattle.claims.proofs.Provided.{provided-some}
 use Rattle.claims.proofs.WordBytes.{word-in-range}
-use Rattle.side_turned.specs.SideTable.{sideTable}
+use Rattle.side_tables.specs.SideTable.{sideTable}
 use Rattle.standings.proofs.LettersOf.{LettersOf}
 use Rattle.standings.proofs.Shows.{Shows}
 use Rattle.sheet_cells.specs.CellSystem.{cellsShow, cellSystem}

@@ -1,38 +1,67 @@
-// What the reader says of a query, as one line on standard output: `refusal N line P`, or `accepted path L R` or `accepted ring L R` with
-// the numbers of left and right occurrences. A contract cannot speak of what is written; the program `read_cases` compares it with the
-// stored cases.
+// What the reader says of a query, as one line: `refusal N line P`, or `accepted path L R` or `accepted ring L R` with the numbers of left and
+// right occurrences. The line is made as bytes in memory, and a contract says which; what is written to standard output no contract can say,
+// and the program `read_cases` compares it with the stored cases.
 use libc::STDOUT_FILENO;
+use print_line::put_byte;
+use print_line::put_number;
+use print_line::put_text;
 use query::Answer;
-use query::Facts;
+ghost use Prim.Native.Nat.{_≤_};
+ghost use lib.ListN.{length};
+ghost use Rattle.claims.specs.Reading.{read as reading};
+ghost use Rattle.print_line.specs.Puts.{Puts};
+ghost use Rattle.show.specs.Shown.{kindText, acceptedLine, readLine};
+ghost use Rattle.show.specs.inner.Answers.{answerLine};
 
-fn refusal(n: u64, line: u64) {
-    io::write_all(STDOUT_FILENO, b"refusal ");
-    io::print_decimal(STDOUT_FILENO, n);
-    io::write_all(STDOUT_FILENO, b" line ");
-    io::print_decimal(STDOUT_FILENO, line);
-    io::write_all(STDOUT_FILENO, b"\n");
+// `ring` or `path`.
+fn put_kind(out: &mut [u8], at: usize, ring: bool) -> usize
+    ensures { λ r. ⌜ Puts (now (out .entry)) at (kindText ring) r (now (out .exit)) ⌝ }
+{
+    if ring {
+        return put_text(out, at, b"ring");
+    }
+    put_text(out, at, b"path")
 }
 
-fn accepted(f: Facts) {
-    if f.ring {
-        io::write_all(STDOUT_FILENO, b"accepted ring ");
-    } else {
-        io::write_all(STDOUT_FILENO, b"accepted path ");
+// `accepted`, the kind of the claim, and the occurrences of its two sides.
+fn accepted_line(out: &mut [u8], ring: bool, left: usize, right: usize) -> usize
+    ensures puts { λ r. ⌜ Puts (now (out .entry)) 0 (acceptedLine ring left right) r (now (out .exit)) ⌝ }
+    ensures short { λ r. ⌜ length (acceptedLine ring left right) ≤ 56 ⌝ }
+{
+    let a = put_text(out, 0, b"accepted ");
+    let b = put_kind(out, a, ring);
+    let c = put_number(out, b, left as u64);
+    let d = put_number(out, c, right as u64);
+    put_byte(out, d, b'\n')
+}
+
+// The line of what the reader answered.
+fn answer_line(out: &mut [u8], a: Answer) -> usize
+    ensures puts { λ r. ⌜ Puts (now (out .entry)) 0 (answerLine a) r (now (out .exit)) ⌝ }
+    ensures short { λ r. ⌜ length (answerLine a) ≤ 56 ⌝ }
+{
+    match a {
+        Answer::Accepted(f) => accepted_line(out, f.ring, f.left, f.right),
+        Answer::Refused(why, place) => print_line::refusal_line(out, why, place),
     }
-    io::print_decimal(STDOUT_FILENO, f.left as u64);
-    io::write_all(STDOUT_FILENO, b" ");
-    io::print_decimal(STDOUT_FILENO, f.right as u64);
-    io::write_all(STDOUT_FILENO, b"\n");
+}
+
+// The line for the query that the text is, as far as it fits, and how long it is. It fits in 56 bytes: two numbers of at most 20 digits, and 16
+// other bytes.
+pub fn line(text: &[u8], out: &mut [u8]) -> usize
+    ensures puts { λ r. ⌜ Puts (now (out .entry)) 0 (readLine (reading (now (text .entry)))) r (now (out .exit)) ⌝ }
+    ensures short { λ r. ⌜ length (readLine (reading (now (text .entry)))) ≤ 56 ⌝ }
+{
+    let mut codes = [0u64; 4096];
+    let mut left = [0u64; 4241];
+    let mut right = [0u64; 4241];
+    let a = query::read(text, &mut codes, &mut left, &mut right);
+    answer_line(out, a)
 }
 
 // Writes the line for the query that the text is.
 pub fn show(text: &[u8]) {
-    let mut codes = [0u64; 4096];
-    let mut left = [0u64; 4241];
-    let mut right = [0u64; 4241];
-    let r = query::read(text, &mut codes, &mut left, &mut right);
-    match r {
-        Answer::Refused(why, line) => refusal(refusals::number(why), line as u64),
-        Answer::Accepted(f) => accepted(f),
-    }
+    let mut out = [0u8; 56];
+    let n = line(text, &mut out);
+    io::write_all(STDOUT_FILENO, &out[..n]);
 }

@@ -76,10 +76,25 @@ fn run(codes: &[u64], from: usize, to: usize, stack: &mut [u64]) -> u64
     peek(stack, n)
 }
 
+// The set that no more than 64 codes give: their sets need no more room.
+fn few_atoms(codes: &[u64], from: usize, to: usize) -> u64
+    requires { ⌜ length (slice from to (now codes)) ≤ 64 ⌝ }
+    ensures { λ r. ⌜ r ≡ testSet (slice from to (now (codes .entry))) ⌝ }
+{
+    let mut stack = [0u64; 64];
+    run(codes, from, to, &mut stack)
+}
+
 // The set that the codes from one place to before another give.
 pub fn test_atoms(codes: &[u64], from: usize, to: usize) -> u64
     ensures { λ r. ⌜ r ≡ testSet (slice from to (now (codes .entry))) ⌝ }
 {
+    if to <= 64 {
+        return few_atoms(codes, from, to);
+    }
+    if to - 64 <= from {
+        return few_atoms(codes, from, to);
+    }
     let mut stack = [0u64; 4096];
     run(codes, from, to, &mut stack)
 }

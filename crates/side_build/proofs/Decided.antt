@@ -1,40 +1,64 @@
 -- What is built from the codes of a query within the limits is what document 01 says: the table of each side of its claim, the number of
 -- its occurrences, and the atoms that are left.
 -- Assumes nothing.
-use Prim.Native.Nat.{_≤_}
-use mathlib.Core.Path.{_≡_, _∙_, ap}
-use mathlib.Core.Bool.{true}
-use lib.ListN.{length}
-use Rattle.kat.specs.Expr.{Expr}
+use Prim.Native.Nat.{ℕ, _+_, _/_, _%_, _≤_}
+use native.Mathlib.Omega.{arith}
+use mathlib.Core.Path.{_≡_, refl, sym, _∙_, ap, subst, subst⁻¹}
+use mathlib.Core.Bool.{true, not}
+use mathlib.Core.List.{List, [], _∷_, _++_, append-assoc}
+use lib.ListN.{length, drop, List·getD-eq-default}
+use lib.Seq.{drop-append-seam}
 use Rattle.kat.specs.Tables.{occurrences}
 use Rattle.claims.specs.Tree.{Claim}
-use Rattle.claims.specs.Query.{Query, tests, live}
+use Rattle.claims.specs.Query.{Query, tests, live, bit}
 use Rattle.claims.specs.Fields.{setNumber}
-use Rattle.claims.specs.Sides.{decision}
+use Rattle.claims.specs.Sides.{Decision as Sides, decision}
 use Rattle.claims.specs.Counting.{withinLimits}
+use Rattle.claims.proofs.Limits.{WithinLimits, decision-within-limits}
 use Rattle.codes.specs.Codes.{queryCodes}
+use Rattle.codes.proofs.Orderly.{settled-none, settled-on}
 use Rattle.codes.proofs.Claimed.{Claimed}
-use Rattle.side_turned.specs.SideTable.{sideTable}
-use Rattle.side_turned.specs.Turned.{sideWords}
-use Rattle.side_turned.proofs.SideTable.{side-is-table}
-use Rattle.side_parts.specs.Machine.{Machine, topPart, nothingBuilt}
-use Rattle.side_build.specs.Built.{relsOf, sideOf, leftTable, rightTable, builtFrom}
-use Rattle.side_parts.proofs.Builds.{Built as BuiltOn}
-use Rattle.side_parts.proofs.BuiltAlone.{built-alone}
+use Rattle.bits.proofs.Bit.{bit-none}
+use Rattle.words.specs.Memory.{zeros}
+use Rattle.side_tables.specs.SideTable.{sideTable}
+use Rattle.side_items.specs.Items.{argsOf, paired, itemsOf}
 use Rattle.side_items.proofs.Placed.{Limited}
-use Rattle.side_claim.proofs.Sides.{claimed-within, left-built, right-built}
+use Rattle.side_relations.specs.Relations.{relationSets}
 use Rattle.side_relations.proofs.RelationSets.{limited-sets}
 use Rattle.side_relations.proofs.Removed.{live-atoms}
+use Rattle.side_runs.specs.Program.{itemsIn, setsIn, countsIn}
+use Rattle.side_claim.specs.Sides.{claimed}
+use Rattle.side_claim.specs.Decisions.{decisionUnder}
+use Rattle.side_claim.proofs.Sides.{Prepared}
+use Rattle.side_claim.proofs.Claims.{claim-stands, decision-all, roomy}
+use Rattle.side_build.specs.Built.{needsOf, leftTable, rightTable, builtFrom}
+use Rattle.side_build.proofs.Assembled.{args-length, needs-length}
+use Rattle.side_build.proofs.AnyDecision.{BuiltAs, any-built}
 
--- a machine that built E and nothing else has the table of E, and as many occurrences
-table-built : (E : Expr) (m : Machine) → BuiltOn E (nothingBuilt 0) m → occurrences E ≤ 64 → (sideOf m ≡ sideTable E) × (m .used ≡ occurrences E)
-unfolding sideOf
-table-built E m b few =
-    let (used, null, holds, ready) = built-alone b few in (
-      ap (λ n. sideWords (m .tables .first) (m .tables .last) (m .tables .follow) (m .tables .letters) n (topPart (m .stack) .null)) used
-          ∙ side-is-table (m .tables) E few holds (topPart (m .stack) .null) null,
-      used,
-    )
+-- what the codes need is found in the program
+paired-first : (ks xs ys : List ℕ) → length xs ≡ length ks → paired ks (xs ++ ys) ≡ paired ks xs
+unfolding paired
+paired-first [] xs ys e = refl
+paired-first (k ∷ ks) [] ys e = absurd (omega arith)
+paired-first (k ∷ ks) (x ∷ xs) ys e = ap (λ is. record { code = k; arg = x } ∷ is) (paired-first ks xs ys (omega arith))
+
+module _ (ks : List ℕ) where
+  items-found : itemsIn ks (needsOf ks) ≡ itemsOf ks
+  unfolding itemsIn needsOf itemsOf
+  items-found =
+      ap (paired ks) (append-assoc (argsOf ks) (relationSets (itemsOf ks)) (zeros (length ks)))
+      ∙ paired-first ks (argsOf ks) (relationSets (itemsOf ks) ++ zeros (length ks)) (args-length ks)
+
+  sets-found : setsIn ks (needsOf ks) ≡ relationSets (itemsOf ks)
+  unfolding setsIn needsOf
+  sets-found =
+      ap (λ n. drop n (argsOf ks ++ relationSets (itemsOf ks))) (sym (args-length ks)) ∙ drop-append-seam (argsOf ks) (relationSets (itemsOf ks))
+
+  -- no line is left out
+  all-count : (l : ℕ) → countsIn ks (needsOf ks) l ≡ true
+  unfolding countsIn
+  all-count l =
+      ap (λ w. not (bit (l % 64) w)) (List·getD-eq-default (needsOf ks) 0 (omega (arith, needs-length ks))) ∙ ap not (bit-none (l % 64))
 
 -- what is built from the codes of a query
 pub record Decided (q : Query) (c : Claim) : Type 0 where
@@ -45,16 +69,27 @@ pub record Decided (q : Query) (c : Claim) : Type 0 where
   pub live-set : builtFrom (length (tests q)) (queryCodes q) .live ≡ setNumber 0 (live q)
 
 pub decided : (q : Query) (c : Claim) → Claimed q c → withinLimits q c ≡ true → length (queryCodes q) ≤ 4096 → Decided q c
-unfolding leftTable rightTable builtFrom relsOf
+unfolding leftTable rightTable builtFrom
 decided q c h w few =
-    let limits : Limited q (relsOf (queryCodes q)) = limited-sets q (h .lines) few in
-    let within = claimed-within q c h w in
-    let (lt, lc) = table-built (decision q c .left) _ (left-built q c (relsOf (queryCodes q)) h w few limits) (within .left) in
-    let (rt, rc) = table-built (decision q c .right) _ (right-built q c (relsOf (queryCodes q)) h w few limits) (within .right) in
+    let ks = queryCodes q in
+    let ns = needsOf ks in
+    let all = all-count ks in
+    let same : decisionUnder (countsIn ks ns) q c ≡ decision q c = decision-all (countsIn ks ns) all q c in
+    let within : WithinLimits (decision q c) = decision-within-limits q c (settled-on [] q (h .lines) settled-none .room) w in
+    let p : Prepared q ns = record {
+      items = items-found ks;
+      sets = subst⁻¹ (Limited q) (sets-found ks) (limited-sets q (h .lines) few);
+      fits = few;
+    } in
+    let b : BuiltAs ks ns (claimed ks) (decision q c) =
+    subst (BuiltAs ks ns (claimed ks)) same
+    (any-built q c h ns p c (claimed ks) (claim-stands q c h) (roomy (countsIn ks ns) all q c w)
+    (subst⁻¹ (λ (D : Sides). occurrences (D .left) ≤ 64) same (within .left))
+    (subst⁻¹ (λ (D : Sides). occurrences (D .right) ≤ 64) same (within .right))) in
     record {
-      left-table = lt;
-      right-table = rt;
-      left-count = lc;
-      right-count = rc;
+      left-table = b .left-table;
+      right-table = b .right-table;
+      left-count = b .left-count;
+      right-count = b .right-count;
       live-set = live-atoms q (h .lines) few;
     }

@@ -1,12 +1,21 @@
-// The occurrence tables of the two sides of a claim, from the codes of its query. (Document 01, "Words" and "Standings".)
-ghost use Prim.Native.Nat.{_≤_};
+// The tables of the two sides of a decision, from a program; and of the claim of a query, from its codes. (Document 01, "Words" and
+// "Standings".)
+use side_claim::Decision;
+use side_stack::STACK;
+use side_tables::TABLE;
+ghost use Prim.Native.Nat.{_+_, _≤_, min};
 ghost use mathlib.Core.Path.{_≡_};
 ghost use lib.ListN.{length, take};
-ghost use Rattle.side_items.specs.Items.{argsOf, itemsOf};
+ghost use Rattle.words.specs.Memory.{zeros};
+ghost use Rattle.side_items.specs.Items.{itemsOf};
 ghost use Rattle.side_relations.specs.Relations.{removedSet, liveSet};
-ghost use Rattle.side_claim.specs.Sides.{leftMachine, rightMachine};
-ghost use Rattle.side_jumps.specs.Jumps.{Jumps, Onward, Places};
-ghost use Rattle.side_build.specs.Built.{relsOf, sideOf, leftTable, rightTable, builtFrom};
+ghost use Rattle.side_build.specs.Built.{needsOf, tableAt, leftOf, rightOf, countedIn, leftTable, rightTable, builtFrom};
+
+// The occurrences of each side.
+pub struct Counted {
+    pub left: usize,
+    pub right: usize,
+}
 
 // The occurrences of each side, and the set of the atoms that no `never` removes.
 pub struct Built {
@@ -15,178 +24,147 @@ pub struct Built {
     pub live: u64,
 }
 
-// The codes made ready, with the sets of the relations.
-fn prepare(
-    codes: &[u64],
-    args: &mut [u64],
-    ops: &mut [u64],
-    xs: &mut [u64],
-    next: &mut [u64],
-    rels: &mut [u64; codes::RELATION_SETS],
-)
-    requires { ⌜ Places (now codes) (now args) (now ops) (now xs) (now next) × (length (now codes) ≤ 4096) ⌝ }
-    ensures { λ r. ⌜ (now (args .exit) ≡ argsOf (now (codes .entry))) × (now (rels .exit) ≡ relsOf (now (codes .entry))) × Onward (now (next .exit))
-        × Jumps (itemsOf (now (codes .entry))) (now (ops .exit)) (now (xs .exit)) (now (next .exit)) ⌝ }
+// The table of the expression that starts at a place of a program.
+pub fn build_at(codes: &[u64], needs: &[u64], from: usize, table: &mut [u64; TABLE])
+    ensures { λ r. ⌜ now (table .exit) ≡ tableAt (now (codes .entry)) (now (needs .entry)) from ⌝ }
 {
-    let mut starts = [0u64; 32];
-    side_items::find_args(codes, args, &mut starts);
-    side_relations::relation_sets(codes, args, rels);
-    side_jumps::find_jumps(codes, args, ops, xs, next);
+    let mut parts = [0u64; STACK];
+    side_parts::nothing(table, &mut parts);
+    side_runs::run_from(codes, needs, table, &mut parts, from);
+    side_parts::tell(table, &parts);
 }
 
-// The table of the left side, and how many occurrences it has.
-fn fill_left(
+// The tables of the two sides of a decision, and the occurrences of each, in tables that are clear.
+fn fill_sides(
     codes: &[u64],
-    ops: &[u64],
-    xs: &[u64],
-    next: &[u64],
-    rels: &[u64; codes::RELATION_SETS],
-    table: &mut [u64; 4241],
-) -> usize
-    requires { ⌜ (length (now codes) ≡ length (now next)) × (length (now ops) ≡ length (now next)) × (length (now xs) ≡ length (now next))
-        × (length (now next) ≤ 4096) × Onward (now next) ⌝ }
-    ensures { λ r. ⌜ (Jumps (itemsOf (now (codes .entry))) (now (ops .entry)) (now (xs .entry)) (now (next .entry))
-        → (r ≡ leftMachine (now (rels .entry)) (now (codes .entry)) .used)
-        × (now (table .exit) ≡ sideOf (leftMachine (now (rels .entry)) (now (codes .entry))))) ⌝ }
+    needs: &[u64],
+    d: Decision,
+    left: &mut [u64; TABLE],
+    right: &mut [u64; TABLE],
+) -> Counted
+    requires { ⌜ (now left ≡ zeros 4241) × (now right ≡ zeros 4241) ⌝ }
+    ensures { λ r. ⌜ (r ≡ countedIn (now (codes .entry)) (now (needs .entry)) d)
+        × (now (left .exit) ≡ leftOf (now (codes .entry)) (now (needs .entry)) d)
+        × (now (right .exit) ≡ rightOf (now (codes .entry)) (now (needs .entry)) d) ⌝ }
 {
-    let mut first = [0u64; 64];
-    let mut last = [0u64; 64];
-    let mut follow = [0u64; 4096];
-    let mut letters = [0u64; 16];
-    let mut parts = [0u64; 2048];
-    let top = side_claim::left_side(
-        codes,
-        ops,
-        xs,
-        next,
-        rels,
-        &mut first,
-        &mut last,
-        &mut follow,
-        &mut letters,
-        &mut parts,
-    );
-    let null = side_parts::null_at(&parts, top.height);
-    side_turned::turn(&first, &last, &follow, &letters, top.used, null, table);
-    top.used
+    let mut parts = [0u64; STACK];
+    side_claim::left_side(codes, needs, d, left, &mut parts);
+    side_parts::tell(left, &parts);
+    let m = side_stack::used(&parts);
+    side_claim::right_side(codes, needs, d, right, &mut parts);
+    side_parts::tell(right, &parts);
+    Counted {
+        left: m,
+        right: side_stack::used(&parts),
+    }
 }
 
-// The table of the right side, and how many occurrences it has.
-fn fill_right(
+// The tables of the two sides of a decision, and the occurrences of each.
+pub fn build_sides(
     codes: &[u64],
-    ops: &[u64],
-    xs: &[u64],
-    next: &[u64],
-    rels: &[u64; codes::RELATION_SETS],
-    table: &mut [u64; 4241],
-) -> usize
-    requires { ⌜ (length (now codes) ≡ length (now next)) × (length (now ops) ≡ length (now next)) × (length (now xs) ≡ length (now next))
-        × (length (now next) ≤ 4096) × Onward (now next) ⌝ }
-    ensures { λ r. ⌜ (Jumps (itemsOf (now (codes .entry))) (now (ops .entry)) (now (xs .entry)) (now (next .entry))
-        → (r ≡ rightMachine (now (rels .entry)) (now (codes .entry)) .used)
-        × (now (table .exit) ≡ sideOf (rightMachine (now (rels .entry)) (now (codes .entry))))) ⌝ }
+    needs: &[u64],
+    d: Decision,
+    left: &mut [u64; TABLE],
+    right: &mut [u64; TABLE],
+) -> Counted
+    ensures { λ r. ⌜ (r ≡ countedIn (now (codes .entry)) (now (needs .entry)) d)
+        × (now (left .exit) ≡ leftOf (now (codes .entry)) (now (needs .entry)) d)
+        × (now (right .exit) ≡ rightOf (now (codes .entry)) (now (needs .entry)) d) ⌝ }
 {
-    let mut first = [0u64; 64];
-    let mut last = [0u64; 64];
-    let mut follow = [0u64; 4096];
-    let mut letters = [0u64; 16];
-    let mut parts = [0u64; 2048];
-    let zero = side_claim::zero_set(
-        codes,
-        ops,
-        xs,
-        next,
-        rels,
-        &mut first,
-        &mut last,
-        &mut follow,
-        &mut letters,
-        &mut parts,
-    );
-    let top = side_claim::right_side(
-        codes,
-        ops,
-        xs,
-        next,
-        rels,
-        &mut first,
-        &mut last,
-        &mut follow,
-        &mut letters,
-        &mut parts,
-        zero,
-    );
-    let null = side_parts::null_at(&parts, top.height);
-    side_turned::turn(&first, &last, &follow, &letters, top.used, null, table);
-    top.used
+    words::clear(left);
+    words::clear(right);
+    fill_sides(codes, needs, d, left, right)
+}
+
+// What the codes need, and the sets of their relations.
+fn prepare(codes: &[u64], needs: &mut [u64])
+    requires { ⌜ (length (now needs) ≡ length (now codes) + 48) × (length (now codes) ≤ 4096) ⌝ }
+    ensures { λ r. ⌜ now (needs .exit) ≡ needsOf (now (codes .entry)) ⌝ }
+{
+    let n = codes.len();
+    let mut starts = [0u64; codes::MOST_LETS];
+    side_items::find_args(codes, &mut needs[..n], &mut starts);
+    let mut rels = [0u64; codes::RELATION_SETS];
+    side_relations::relation_sets(codes, &needs[..n], &mut rels);
+    words::copy(&rels, &mut needs[n..]);
 }
 
 // The atoms that are left.
-fn live_of(codes: &[u64], args: &[u64], tests: u64) -> u64
-    requires { ⌜ (now args ≡ argsOf (now codes)) × (length (now args) ≡ length (now codes)) ⌝ }
+fn live_of(codes: &[u64], needs: &[u64], tests: u64) -> u64
+    requires { ⌜ now needs ≡ needsOf (now codes) ⌝ }
     ensures { λ r. ⌜ r ≡ liveSet tests (removedSet (itemsOf (now (codes .entry)))) ⌝ }
 {
-    let removed = side_relations::removed_set(codes, args);
+    let removed = side_relations::removed_set(codes, &needs[..codes.len()]);
     side_relations::live_set(tests, removed)
 }
 
-// All of it, with memory lent for what the codes need.
+// All of it, with memory lent for the program.
 fn build_in(
     codes: &[u64],
-    args: &mut [u64],
-    ops: &mut [u64],
-    xs: &mut [u64],
-    next: &mut [u64],
+    needs: &mut [u64],
     tests: u64,
-    left: &mut [u64; 4241],
-    right: &mut [u64; 4241],
+    left: &mut [u64; TABLE],
+    right: &mut [u64; TABLE],
 ) -> Built
-    requires { ⌜ Places (now codes) (now args) (now ops) (now xs) (now next) × (length (now codes) ≤ 4096) ⌝ }
+    requires { ⌜ (length (now needs) ≡ length (now codes) + 48) × (length (now codes) ≤ 4096) × (now left ≡ zeros 4241) × (now right ≡ zeros 4241) ⌝ }
     ensures { λ r. ⌜ (r ≡ builtFrom tests (now (codes .entry))) × (now (left .exit) ≡ leftTable (now (codes .entry)))
         × (now (right .exit) ≡ rightTable (now (codes .entry))) ⌝ }
 {
-    let mut rels = [0u64; codes::RELATION_SETS];
-    prepare(codes, args, ops, xs, next, &mut rels);
-    let m = fill_left(codes, ops, xs, next, &rels, left);
-    let n = fill_right(codes, ops, xs, next, &rels, right);
+    prepare(codes, needs);
+    let d = side_claim::claimed_in(codes);
+    let c = fill_sides(codes, needs, d, left, right);
     Built {
-        left: m,
-        right: n,
-        live: live_of(codes, args, tests),
+        left: c.left,
+        right: c.right,
+        live: live_of(codes, needs, tests),
     }
+}
+
+// No more than 464 codes, with little memory.
+fn build_short(
+    codes: &[u64],
+    tests: u64,
+    left: &mut [u64; TABLE],
+    right: &mut [u64; TABLE],
+) -> Built
+    requires { ⌜ (length (now codes) ≤ 464) × (now left ≡ zeros 4241) × (now right ≡ zeros 4241) ⌝ }
+    ensures { λ r. ⌜ (r ≡ builtFrom tests (now (codes .entry))) × (now (left .exit) ≡ leftTable (now (codes .entry)))
+        × (now (right .exit) ≡ rightTable (now (codes .entry))) ⌝ }
+{
+    let n = codes.len() + codes::RELATION_SETS;
+    let mut needs = [0u64; 512];
+    build_in(codes, &mut needs[..n], tests, left, right)
 }
 
 // No more than 4,096 codes.
-fn build_within(codes: &[u64], tests: u64, left: &mut [u64; 4241], right: &mut [u64; 4241]) -> Built
-    requires { ⌜ length (now codes) ≤ 4096 ⌝ }
+fn build_long(codes: &[u64], tests: u64, left: &mut [u64; TABLE], right: &mut [u64; TABLE]) -> Built
+    requires { ⌜ (length (now codes) ≤ 4096) × (now left ≡ zeros 4241) × (now right ≡ zeros 4241) ⌝ }
     ensures { λ r. ⌜ (r ≡ builtFrom tests (now (codes .entry))) × (now (left .exit) ≡ leftTable (now (codes .entry)))
         × (now (right .exit) ≡ rightTable (now (codes .entry))) ⌝ }
 {
-    let n = codes.len();
-    let mut args = [0u64; 4096];
-    let mut ops = [0u64; 4096];
-    let mut xs = [0u64; 4096];
-    let mut next = [0u64; 4096];
-    build_in(
-        codes,
-        &mut args[..n],
-        &mut ops[..n],
-        &mut xs[..n],
-        &mut next[..n],
-        tests,
-        left,
-        right,
-    )
+    let n = codes.len() + codes::RELATION_SETS;
+    let mut needs = [0u64; 4144];
+    build_in(codes, &mut needs[..n], tests, left, right)
 }
 
-// The tables of the two sides of the claim of the codes, of which no more than 4,096 count, and the atoms of so many tests that are left.
-pub fn build(codes: &[u64], tests: u64, left: &mut [u64; 4241], right: &mut [u64; 4241]) -> Built
-    ensures { λ r. ⌜ (r ≡ builtFrom tests (take 4096 (now (codes .entry))))
-        × (now (left .exit) ≡ leftTable (take 4096 (now (codes .entry))))
-        × (now (right .exit) ≡ rightTable (take 4096 (now (codes .entry)))) ⌝ }
+// The tables of the two sides of the claim of the first n codes, of which no more than 4,096 count, and the atoms of so many tests that are left.
+// Clear tables are asked for, since whoever lends them has to clear them where a query is refused.
+pub fn build(
+    codes: &[u64],
+    n: usize,
+    tests: u64,
+    left: &mut [u64; TABLE],
+    right: &mut [u64; TABLE],
+) -> Built
+    requires { ⌜ (now left ≡ zeros 4241) × (now right ≡ zeros 4241) ⌝ }
+    ensures { λ r. ⌜ (r ≡ builtFrom tests (take (min n 4096) (now (codes .entry))))
+        × (now (left .exit) ≡ leftTable (take (min n 4096) (now (codes .entry))))
+        × (now (right .exit) ≡ rightTable (take (min n 4096) (now (codes .entry)))) ⌝ }
 {
-    if codes.len() <= 4096 {
-        return build_within(codes, tests, left, right);
+    let m = words::least(words::least(n, 4096), codes.len());
+    let part = &codes[..m];
+    if m <= 464 {
+        return build_short(part, tests, left, right);
     }
-    build_within(&codes[..4096], tests, left, right)
+    build_long(part, tests, left, right)
 }

@@ -1,7 +1,9 @@
+-- The sides in memory.
+pub mod SidesInMemory
 -- Where expressions stand among the codes of a query.
 pub mod Starts
 pub mod Endings
--- The two sides, built and in memory.
+-- The two sides of any decision are built; and those of the claim of a query.
 pub mod Leaves
 pub mod Sides
-pub mod SidesInMemory
+pub mod Claims

@@ -1,73 +1,150 @@
--- The two sides of a claim, step by step: each step makes of the machine before what the definition says, so that all of them together make
--- the side. The functions of `src/claim.rt` cite these laws for the machines that they leave in memory.
+-- The pieces of the two sides as the code puts them together, a law for each way out.
 -- Assumes nothing.
-use Prim.Native.Nat.{ℕ}
-use mathlib.Core.Path.{_≡_, sym, ap, _∙_}
-use mathlib.Core.List.{List}
+use Prim.Native.Nat.{ℕ, suc, _+_, _≤_, _<_}
+use native.Mathlib.Omega.{arith}
+use mathlib.Core.Path.{_≡_, refl, sym, _∙_, ap, ap₂}
+use mathlib.Core.Bool.{Bool, true, false, cond, not, _&&_, _||_, true≢false}
+use mathlib.Core.List.{List, [], _∷_}
+use lib.Dec.{eqb, ltb}
+use lib.ListN.{length, getD, drop}
 use borrow.Author.Tests.{eq-eqb, ne-eqb}
-use Rattle.side_parts.specs.Machine.{Machine, topPart, stepped, nothingBuilt}
-use Rattle.side_items.specs.Items.{itemsOf, startsOf}
-use Rattle.side_runs.specs.Execution.{executeAll, executeUnion}
-use Rattle.codes.specs.Codes.{claimKind}
-use Rattle.side_claim.specs.Sides.{leftMachine, zeroSet, besides, between, anyStar, rightMachine}
-use Rattle.side_parts.specs.Memory.{partsIn, machineIn}
-use Rattle.side_parts.specs.declared.Top.{Top}
+use Rattle.kat.specs.Lists.{some}
+use Rattle.side_stack.specs.Stack.{topPart, pushPart}
+use Rattle.side_stack.specs.declared.Part.{Part}
+use Rattle.side_parts.specs.Machine.{Machine, given, united, inOrder, anyStar, nothingBuilt}
+use Rattle.side_items.specs.Items.{startsFrom, startsOf}
+use Rattle.side_runs.specs.Program.{itemsIn, setsIn, countsIn}
+use Rattle.side_runs.specs.Execution.{execute, executeAt, executeAll, unitedTimes, executeUnion}
+use Rattle.side_runs.proofs.RunningAll.{starts-none, starts-inside, starts-other, starts-found}
+use Rattle.side_claim.specs.Sides.{firstOf, startOf, claimed, isRing, placed, assumed, zeroSet, zeroFor, between, around, leftMachine, besides, rightMachine}
+use Rattle.side_claim.specs.declared.Decision.{Decision}
 
--- any*
-pub any-made : (rels : List ℕ) (m a n : Machine) → a ≡ stepped rels 48 0 m → n ≡ stepped rels 9 0 a → n ≡ anyStar rels m
-unfolding anyStar
-any-made rels m a n e f = f ∙ ap (stepped rels 9 0) e
+-- a test negated
+pub not-there : (b : Bool) → not b ≡ true → b ≡ false
+not-there true e = sym e
+not-there false e = refl
 
-module _ (rels ks : List ℕ) where
-  pub left-made : (m a b n : Machine) → m ≡ nothingBuilt 0 → a ≡ executeAll rels (itemsOf ks) (startsOf 135 ks) m
-      → b ≡ executeAll rels (itemsOf ks) (startsOf 137 ks) a → n ≡ executeAll rels (itemsOf ks) (startsOf 138 ks) b → n ≡ leftMachine rels ks
-  unfolding leftMachine
-  left-made m a b n e f g h =
-      let run : ℕ → Machine → Machine = λ k. executeAll rels (itemsOf ks) (startsOf k ks) in
-      h ∙ ap (run 138) (g ∙ ap (run 137) (f ∙ ap (run 135) e))
+is-there : (b : Bool) → not b ≡ false → b ≡ true
+is-there true e = refl
+is-there false e = sym e
 
-  -- the set of the part on top of a union that is in memory
-  pub zero-made : (m : Machine) (first last follow letters parts : List ℕ) (t : Top) (z : ℕ) → m ≡ nothingBuilt 64
-      → machineIn first last follow letters parts t ≡ executeUnion rels (itemsOf ks) (startsOf 134 ks) m
-      → z ≡ topPart (partsIn parts (t .height)) .null → z ≡ zeroSet rels ks
-  unfolding zeroSet machineIn
-  zero-made m first last follow letters parts t z e f g =
-      g ∙ ap (λ (n : Machine). topPart (n .stack) .null) (f ∙ ap (executeUnion rels (itemsOf ks) (startsOf 134 ks)) e)
+-- the first start from place i on, where an expression starts at s, is the first of all
+pub record Seeks (k : ℕ) (ks : List ℕ) (i s : ℕ) : Type 0 where
+  pub lines : ℕ
+  pub same : firstOf (startsFrom (λ l. true) k lines i s (drop i ks)) ≡ startOf k ks
 
-  -- what stands beside the anys, by the kind of the claim
-  module _ (k : ℕ) (kind : k ≡ claimKind ks) (m n : Machine) where
-    pub beside-ring : k ≡ 138 → n ≡ executeUnion rels (itemsOf ks) (startsOf 134 ks) m → n ≡ besides rels ks m
-    unfolding besides
-    beside-ring h e = rw (eq-eqb (claimKind ks) 138 (sym kind ∙ h)) e
+pub seeks-all : (k : ℕ) (ks : List ℕ) → Seeks k ks 0 0
+unfolding startOf startsOf
+seeks-all k ks = record { lines = 0; same = refl }
 
-    pub beside-inclusion : (k ≡ 138 → ⊥) → k ≡ 136 → n ≡ executeAll rels (itemsOf ks) (startsOf 136 ks) m → n ≡ besides rels ks m
-    unfolding besides
-    beside-inclusion d h e = rw (ne-eqb (claimKind ks) 138 (λ q. d (kind ∙ q)), eq-eqb (claimKind ks) 136 (sym kind ∙ h)) e
+module _ (k : ℕ) (ks : List ℕ) (i s : ℕ) (x : Seeks k ks i s) where
+  abbrev every : ℕ → Bool
+  every l = true
 
-    pub beside-empty : (k ≡ 138 → ⊥) → (k ≡ 136 → ⊥) → n ≡ stepped rels 6 0 m → n ≡ besides rels ks m
-    unfolding besides
-    beside-empty d g e = rw (ne-eqb (claimKind ks) 138 (λ q. d (kind ∙ q)), ne-eqb (claimKind ks) 136 (λ q. g (kind ∙ q))) e
+  pub seeks-inside : i < length ks → getD ks i 0 < 128 → Seeks k ks (i + 1) s
+  seeks-inside h c = record { lines = x .lines; same = ap firstOf (sym (starts-inside every k ks (x .lines) i s h c)) ∙ x .same }
 
-  -- what stands between the anys
-  module _ (k : ℕ) (kind : k ≡ claimKind ks) (m a : Machine) (union : a ≡ executeUnion rels (itemsOf ks) (startsOf 133 ks) m) where
-    pub between-ring : k ≡ 138 → a ≡ between rels ks m
-    unfolding between
-    between-ring h = rw (eq-eqb (claimKind ks) 138 (sym kind ∙ h)) union
+  pub seeks-other : i < length ks → 128 ≤ getD ks i 0 → (getD ks i 0 ≡ k → ⊥) → Seeks k ks (i + 1) (i + 1)
+  seeks-other h c n =
+      record {
+        lines = x .lines + 1;
+        same = ap firstOf (sym (starts-other every k ks (x .lines) i s h c (ap (λ b. b && true) (ne-eqb (getD ks i 0) k n)))) ∙ x .same;
+      }
 
-    pub between-path : (k ≡ 138 → ⊥) → (z : ℕ) (b n : Machine) → z ≡ zeroSet rels ks → b ≡ stepped rels 6 z a → n ≡ stepped rels 7 0 b
-        → n ≡ between rels ks m
-    unfolding between
-    between-path d z b n s e f =
-        rw (ne-eqb (claimKind ks) 138 (λ q. d (kind ∙ q)))
-        (f ∙ ap (stepped rels 7 0) (e ∙ (ap (λ (x : ℕ). stepped rels 6 x a) s ∙ ap (stepped rels 6 (zeroSet rels ks)) union)))
+  pub seeks-found : i < length ks → 128 ≤ getD ks i 0 → getD ks i 0 ≡ k → s ≡ startOf k ks
+  unfolding firstOf
+  seeks-found h c e =
+      sym (ap firstOf (starts-found every k ks (x .lines) i s h c (ap (λ b. b && true) (eq-eqb (getD ks i 0) k e)))) ∙ x .same
 
-  -- the right side, up to the second any*, and whole
-  pub opening-made : (m a b d n : Machine) → m ≡ nothingBuilt 0 → a ≡ besides rels ks m → b ≡ anyStar rels a → d ≡ between rels ks b
-      → n ≡ stepped rels 8 0 d → n ≡ stepped rels 8 0 (between rels ks (anyStar rels (besides rels ks (nothingBuilt 0))))
-  opening-made m a b d n e f g h i =
-      i ∙ ap (stepped rels 8 0) (h ∙ ap (between rels ks) (g ∙ ap (anyStar rels) (f ∙ ap (besides rels ks) e)))
+  pub seeks-none : length ks ≤ i → 0 ≡ startOf k ks
+  unfolding firstOf
+  seeks-none h = sym (ap firstOf (starts-none every k ks (x .lines) i s h)) ∙ x .same
 
-  pub right-made : (m a b n : Machine) → m ≡ stepped rels 8 0 (between rels ks (anyStar rels (besides rels ks (nothingBuilt 0))))
-      → a ≡ anyStar rels m → b ≡ stepped rels 8 0 a → n ≡ stepped rels 7 0 b → n ≡ rightMachine rels ks
+-- where no code k is, no expression ends with it
+no-starts : (counts : ℕ → Bool) (k l a s : ℕ) (ks : List ℕ) → some (λ c. eqb c k) ks ≡ false → startsFrom counts k l a s ks ≡ []
+unfolding startsFrom
+no-starts counts k l a s [] e = refl
+no-starts counts k l a s (c ∷ ks) e =
+    go (ltb c 128) (eqb c k) e (λ f. no-starts counts k l (a + 1) s ks f) (λ f. no-starts counts k (l + 1) (a + 1) (a + 1) ks f)
+  where
+    go : (b d : Bool) → (d || some (λ c. eqb c k) ks) ≡ false
+        → (some (λ c. eqb c k) ks ≡ false → startsFrom counts k l (a + 1) s ks ≡ [])
+        → (some (λ c. eqb c k) ks ≡ false → startsFrom counts k (l + 1) (a + 1) (a + 1) ks ≡ [])
+        → cond b (startsFrom counts k l (a + 1) s ks)
+        (cond (d && counts l) (s ∷ startsFrom counts k (l + 1) (a + 1) (a + 1) ks) (startsFrom counts k (l + 1) (a + 1) (a + 1) ks)) ≡ []
+    go b true g h i = absurd (true≢false g)
+    go true false g h i = h g
+    go false false g h i = i g
+
+-- of no expressions that are assumed irreflexive no atom is a word
+pub zero-none : (ks ns : List ℕ) (ring b : Bool) → b ≡ some (λ c. eqb c 134) ks → not b ≡ true → 0 ≡ zeroFor ks ns ring
+unfolding zeroFor zeroSet assumed executeUnion executeAll unitedTimes startsOf given pushPart topPart nothingBuilt
+zero-none ks ns true b e f = refl
+zero-none ks ns false b e f =
+    let z : startsFrom (countsIn ks ns) 134 0 0 0 ks ≡ [] = no-starts (countsIn ks ns) 134 0 0 0 ks (sym e ∙ not-there b f) in
+    sym (ap (λ ss. topPart (unitedTimes (length ss) (given 0 (executeAll (setsIn ks ns) (itemsIn ks ns) ss nothingBuilt)) .stack) .null) z)
+
+pub zero-ring : (ks ns : List ℕ) (ring : Bool) → ring ≡ true → 0 ≡ zeroFor ks ns ring
+unfolding zeroFor
+zero-ring ks ns ring e = sym (ap (λ b. cond b 0 (zeroSet ks ns)) e)
+
+pub zero-path : (ks ns : List ℕ) (ring : Bool) (r : ℕ) → ring ≡ false → r ≡ zeroSet ks ns → r ≡ zeroFor ks ns ring
+unfolding zeroFor
+zero-path ks ns ring r e f = f ∙ sym (ap (λ b. cond b 0 (zeroSet ks ns)) e)
+
+pub zero-found : (ks ns : List ℕ) (m n : Machine) (a : Part) → m ≡ nothingBuilt
+    → n ≡ executeUnion (setsIn ks ns) (itemsIn ks ns) (startsOf (countsIn ks ns) 134 ks) m → a ≡ topPart (n .stack) → a .null ≡ zeroSet ks ns
+unfolding zeroSet assumed
+zero-found ks ns m n a e f g =
+    ap (λ (p : Part). p .null) g
+    ∙ ap (λ (x : Machine). topPart (x .stack) .null) (f ∙ ap (executeUnion (setsIn ks ns) (itemsIn ks ns) (startsOf (countsIn ks ns) 134 ks)) e)
+
+module _ (ks ns : List ℕ) (d : Decision) where
+  pub left-made : (m n : Machine) → m ≡ nothingBuilt → ((k : ℕ) → d .left < k → n ≡ execute k (setsIn ks ns) (itemsIn ks ns) (d .left) m)
+      → n ≡ leftMachine ks ns d
+  unfolding leftMachine placed executeAt
+  left-made m n e f = f (suc (d .left)) (omega arith) ∙ ap (execute (suc (d .left)) (setsIn ks ns) (itemsIn ks ns) (d .left)) e
+
+  pub beside-ring : (m n : Machine) (b : Bool) → b ≡ isRing d → b ≡ true
+      → n ≡ executeUnion (setsIn ks ns) (itemsIn ks ns) (startsOf (countsIn ks ns) 134 ks) m → n ≡ besides ks ns d m
+  unfolding besides assumed
+  beside-ring m n b e f g =
+      g ∙ sym (ap (λ c. cond c (assumed ks ns 134 m) (cond (eqb (d .kind) 136) (placed ks ns (d .right) m) (given 0 m))) (sym e ∙ f))
+
+  pub beside-include : (m n : Machine) (b : Bool) → b ≡ isRing d → b ≡ false → d .kind ≡ 136
+      → ((k : ℕ) → d .right < k → n ≡ execute k (setsIn ks ns) (itemsIn ks ns) (d .right) m) → n ≡ besides ks ns d m
+  unfolding besides placed executeAt
+  beside-include m n b e f g h =
+      h (suc (d .right)) (omega arith)
+      ∙ sym (ap₂ (λ c i. cond c (assumed ks ns 134 m) (cond i (placed ks ns (d .right) m) (given 0 m))) (sym e ∙ f) (eq-eqb (d .kind) 136 g))
+
+  pub beside-empty : (m n : Machine) (b : Bool) → b ≡ isRing d → b ≡ false → (d .kind ≡ 136 → ⊥) → n ≡ given 0 m → n ≡ besides ks ns d m
+  unfolding besides
+  beside-empty m n b e f g h =
+      h ∙ sym (ap₂ (λ c i. cond c (assumed ks ns 134 m) (cond i (placed ks ns (d .right) m) (given 0 m))) (sym e ∙ f) (ne-eqb (d .kind) 136 g))
+
+  pub right-made : (ring : Bool) (z : ℕ) (m a b n : Machine) → ring ≡ isRing d → z ≡ zeroFor ks ns ring → m ≡ nothingBuilt
+      → a ≡ besides ks ns d m → b ≡ around ks ns ring z a → n ≡ united b → n ≡ rightMachine ks ns d
   unfolding rightMachine
-  right-made m a b n e f g h = h ∙ ap (stepped rels 7 0) (g ∙ ap (stepped rels 8 0) (f ∙ ap (anyStar rels) e))
+  right-made ring z m a b n e f g h i j =
+      j ∙ ap united (i ∙ ap₂ (λ y x. around ks ns ring y x) f (h ∙ ap (besides ks ns d) g)
+      ∙ ap (λ r. around ks ns r (zeroFor ks ns r) (besides ks ns d nothingBuilt)) e)
+
+module _ (ks ns : List ℕ) (ring : Bool) (z : ℕ) where
+  pub inside-path : (m a b n : Machine) → not ring ≡ true → a ≡ executeUnion (setsIn ks ns) (itemsIn ks ns) (startsOf (countsIn ks ns) 133 ks) m
+      → b ≡ given z a → n ≡ united b → n ≡ between ks ns ring z m
+  unfolding between assumed
+  inside-path m a b n e f g h =
+      h ∙ ap united (g ∙ ap (given z) f)
+      ∙ sym (ap (λ c. cond c (assumed ks ns 133 m) (united (given z (assumed ks ns 133 m)))) (not-there ring e))
+
+  pub inside-ring : (m a : Machine) → not ring ≡ false → a ≡ executeUnion (setsIn ks ns) (itemsIn ks ns) (startsOf (countsIn ks ns) 133 ks) m
+      → a ≡ between ks ns ring z m
+  unfolding between assumed
+  inside-ring m a e f =
+      f ∙ sym (ap (λ c. cond c (assumed ks ns 133 m) (united (given z (assumed ks ns 133 m)))) (is-there ring e))
+
+  pub around-made : (m a b c d n : Machine) → a ≡ anyStar m → b ≡ between ks ns ring z a → c ≡ inOrder b → d ≡ anyStar c → n ≡ inOrder d
+      → n ≡ around ks ns ring z m
+  unfolding around
+  around-made m a b c d n e f g h i = i ∙ ap inOrder (h ∙ ap anyStar (g ∙ ap inOrder (f ∙ ap (between ks ns ring z) e)))

@@ -1,346 +1,193 @@
-// The two sides of a claim, on the tables and the parts in memory. (Document 01, "Words".)
-use codes::ANY;
-use codes::SEQUENCE;
-use codes::STAR;
-use codes::TESTED;
-use codes::UNION;
-use side_parts::Top;
-use side_parts::nothing;
-use side_parts::null_at;
-use side_parts::step;
-use side_runs::run_kind;
+// The two sides of a decision, on a table and the parts that wait in memory. (Document 01, "Words".)
+use side_runs::run_from;
 use side_runs::run_union;
-ghost use Prim.Native.Nat.{_≤_};
+use side_stack::STACK;
+use side_tables::TABLE;
 ghost use mathlib.Core.Path.{_≡_};
-ghost use lib.ListN.{length};
-ghost use Rattle.codes.specs.Codes.{SEQUENCE};
-ghost use Rattle.side_items.specs.Items.{itemsOf};
-ghost use Rattle.side_parts.specs.Machine.{stepped, nothingBuilt};
-ghost use Rattle.side_claim.specs.Sides.{leftMachine, zeroSet, besides, between, anyStar, rightMachine};
-ghost use Rattle.side_parts.specs.Memory.{Fits, machineIn};
-ghost use Rattle.side_jumps.specs.Jumps.{Jumps, Onward};
+ghost use Rattle.words.specs.Memory.{zeros};
+ghost use Rattle.side_parts.specs.Machine.{machineIn};
+ghost use Rattle.side_claim.specs.Sides.{startOf, leftEnd, claimed, isRing, zeroSet, zeroFor, between, around, leftMachine, besides, rightMachine};
 
-// The left side: the expression of the claim, or what stands before `in`.
+// What is claimed: its kind, which is the code of a claim, where the claimed expression starts, and for an inclusion where the one starts that
+// it is to lie in.
+pub struct Decision {
+    pub kind: u64,
+    pub left: usize,
+    pub right: usize,
+}
+
+// Where the first expression starts that ends with the code k; 0 where there is none.
+fn start_of(codes: &[u64], k: u64) -> usize
+    ensures { λ r. ⌜ r ≡ startOf k (now (codes .entry)) ⌝ }
+{
+    let mut start = 0;
+    let mut i = 0;
+    while i < codes.len() {
+        let code = codes[i];
+        i += 1;
+        if code < codes::LINE {
+            continue;
+        }
+        if code == k {
+            return start;
+        }
+        start = i;
+    }
+    0
+}
+
+// The code that the claimed expression of a claim of this kind ends with.
+fn left_end(kind: u64) -> u64
+    ensures { λ r. ⌜ r ≡ leftEnd kind ⌝ }
+{
+    if kind == codes::CLAIM_INCLUDE {
+        codes::INCLUDED
+    } else {
+        kind
+    }
+}
+
+// The claim of the query that the codes are.
+pub fn claimed_in(codes: &[u64]) -> Decision
+    ensures { λ r. ⌜ r ≡ claimed (now (codes .entry)) ⌝ }
+{
+    let kind = codes::claim_kind(codes);
+    Decision {
+        kind,
+        left: start_of(codes, left_end(kind)),
+        right: start_of(codes, codes::CLAIM_INCLUDE),
+    }
+}
+
+// The left side, in a table that is clear: whoever lends it clears it once, also where nothing is built.
 pub fn left_side(
     codes: &[u64],
-    ops: &[u64],
-    xs: &[u64],
-    next: &[u64],
-    rels: &[u64; codes::RELATION_SETS],
-    first: &mut [u64; 64],
-    last: &mut [u64; 64],
-    follow: &mut [u64; 4096],
-    letters: &mut [u64; 16],
-    parts: &mut [u64; 2048],
-) -> Top
-    requires { ⌜ (length (now parts) ≡ 2048)
-        × (length (now codes) ≡ length (now next)) × (length (now ops) ≡ length (now next)) × (length (now xs) ≡ length (now next))
-        × (length (now next) ≤ 4096) × Onward (now next) ⌝ }
-    ensures { λ r. ⌜ Fits (now (first .exit)) (now (last .exit)) (now (follow .exit)) (now (letters .exit)) (now (parts .exit)) r
-        × (Jumps (itemsOf (now (codes .entry))) (now (ops .entry)) (now (xs .entry)) (now (next .entry))
-        → machineIn (now (first .exit)) (now (last .exit)) (now (follow .exit)) (now (letters .exit)) (now (parts .exit)) r
-        ≡ leftMachine (now (rels .entry)) (now (codes .entry))) ⌝ }
+    needs: &[u64],
+    d: Decision,
+    table: &mut [u64; TABLE],
+    parts: &mut [u64; STACK],
+)
+    requires { ⌜ now table ≡ zeros 4241 ⌝ }
+    ensures { λ r. ⌜ machineIn (now (table .exit)) (now (parts .exit)) ≡ leftMachine (now (codes .entry)) (now (needs .entry)) d ⌝ }
 {
-    let none = nothing(0, first, last, follow, letters);
-    let included = run_kind(
-        codes,
-        ops,
-        xs,
-        next,
-        rels,
-        first,
-        last,
-        follow,
-        letters,
-        parts,
-        codes::INCLUDED,
-        none,
-    );
-    let absent = run_kind(
-        codes,
-        ops,
-        xs,
-        next,
-        rels,
-        first,
-        last,
-        follow,
-        letters,
-        parts,
-        codes::CLAIM_EMPTY,
-        included.top,
-    );
-    let ring = run_kind(
-        codes,
-        ops,
-        xs,
-        next,
-        rels,
-        first,
-        last,
-        follow,
-        letters,
-        parts,
-        codes::CLAIM_IRREFLEXIVE,
-        absent.top,
-    );
-    ring.top
+    side_stack::empty(parts);
+    run_from(codes, needs, table, parts, d.left);
 }
 
-// The atoms that are words of a1. Its occurrences are of no concern, so they are numbered past the tables.
-pub fn zero_set(
+// The atoms that are words of a1, where some expression is assumed irreflexive; the table is clear again.
+fn zero_of(codes: &[u64], needs: &[u64], table: &mut [u64; TABLE], parts: &mut [u64; STACK]) -> u64
+    requires { ⌜ now table ≡ zeros 4241 ⌝ }
+    ensures { λ r. ⌜ (r ≡ zeroSet (now (codes .entry)) (now (needs .entry))) × (now (table .exit) ≡ zeros 4241) ⌝ }
+{
+    side_stack::empty(parts);
+    run_union(codes, needs, codes::ASSUME_IRREFLEXIVE, table, parts);
+    let a = side_stack::top(parts);
+    words::clear(table);
+    a.null
+}
+
+// The atoms that are words of a1, for a path claim; a ring claim asks for none.
+fn zero_for(
     codes: &[u64],
-    ops: &[u64],
-    xs: &[u64],
-    next: &[u64],
-    rels: &[u64; codes::RELATION_SETS],
-    first: &mut [u64; 64],
-    last: &mut [u64; 64],
-    follow: &mut [u64; 4096],
-    letters: &mut [u64; 16],
-    parts: &mut [u64; 2048],
+    needs: &[u64],
+    ring: bool,
+    table: &mut [u64; TABLE],
+    parts: &mut [u64; STACK],
 ) -> u64
-    requires { ⌜ (length (now parts) ≡ 2048)
-        × (length (now codes) ≡ length (now next)) × (length (now ops) ≡ length (now next)) × (length (now xs) ≡ length (now next))
-        × (length (now next) ≤ 4096) × Onward (now next) ⌝ }
-    ensures { λ r. ⌜ (length (now (parts .exit)) ≡ 2048)
-        × (Jumps (itemsOf (now (codes .entry))) (now (ops .entry)) (now (xs .entry)) (now (next .entry))
-        → r ≡ zeroSet (now (rels .entry)) (now (codes .entry))) ⌝ }
+    requires { ⌜ now table ≡ zeros 4241 ⌝ }
+    ensures { λ r. ⌜ (r ≡ zeroFor (now (codes .entry)) (now (needs .entry)) ring) × (now (table .exit) ≡ zeros 4241) ⌝ }
 {
-    let none = nothing(64, first, last, follow, letters);
-    let own = run_union(
-        codes,
-        ops,
-        xs,
-        next,
-        rels,
-        first,
-        last,
-        follow,
-        letters,
-        parts,
-        codes::ASSUME_IRREFLEXIVE,
-        none,
-    );
-    null_at(parts, own.height)
+    if ring {
+        return 0;
+    }
+    if !side_relations::among(codes, codes::ASSUME_IRREFLEXIVE) {
+        return 0;
+    }
+    zero_of(codes, needs, table, parts)
 }
 
-// any*
-fn any_star(
-    rels: &[u64; codes::RELATION_SETS],
-    first: &mut [u64; 64],
-    last: &mut [u64; 64],
-    follow: &mut [u64; 4096],
-    letters: &mut [u64; 16],
-    parts: &mut [u64; 2048],
-    top: Top,
-) -> Top
-    requires { ⌜ Fits (now first) (now last) (now follow) (now letters) (now parts) top ⌝ }
-    ensures { λ r. ⌜ Fits (now (first .exit)) (now (last .exit)) (now (follow .exit)) (now (letters .exit)) (now (parts .exit)) r
-        × (machineIn (now (first .exit)) (now (last .exit)) (now (follow .exit)) (now (letters .exit)) (now (parts .exit)) r
-        ≡ anyStar (now (rels .entry))
-        (machineIn (now (first .entry)) (now (last .entry)) (now (follow .entry)) (now (letters .entry)) (now (parts .entry)) top)) ⌝ }
+// Whether the claim is one of rings.
+fn is_ring(d: Decision) -> bool
+    ensures { λ r. ⌜ r ≡ isRing d ⌝ }
 {
-    let any = step(ANY, 0, rels, first, last, follow, letters, parts, top);
-    step(STAR, 0, rels, first, last, follow, letters, parts, any)
+    d.kind == codes::CLAIM_IRREFLEXIVE
 }
 
 // What any*;e;any* is united with: y of an inclusion, `[false]` of an empty claim, a1 of a ring claim.
 fn beside(
     codes: &[u64],
-    ops: &[u64],
-    xs: &[u64],
-    next: &[u64],
-    rels: &[u64; codes::RELATION_SETS],
-    first: &mut [u64; 64],
-    last: &mut [u64; 64],
-    follow: &mut [u64; 4096],
-    letters: &mut [u64; 16],
-    parts: &mut [u64; 2048],
-    top: Top,
-) -> Top
-    requires { ⌜ Fits (now first) (now last) (now follow) (now letters) (now parts) top
-        × (length (now codes) ≡ length (now next)) × (length (now ops) ≡ length (now next)) × (length (now xs) ≡ length (now next))
-        × (length (now next) ≤ 4096) × Onward (now next) ⌝ }
-    ensures { λ r. ⌜ Fits (now (first .exit)) (now (last .exit)) (now (follow .exit)) (now (letters .exit)) (now (parts .exit)) r
-        × (Jumps (itemsOf (now (codes .entry))) (now (ops .entry)) (now (xs .entry)) (now (next .entry))
-        → machineIn (now (first .exit)) (now (last .exit)) (now (follow .exit)) (now (letters .exit)) (now (parts .exit)) r
-        ≡ besides (now (rels .entry)) (now (codes .entry))
-        (machineIn (now (first .entry)) (now (last .entry)) (now (follow .entry)) (now (letters .entry)) (now (parts .entry)) top)) ⌝ }
+    needs: &[u64],
+    d: Decision,
+    table: &mut [u64; TABLE],
+    parts: &mut [u64; STACK],
+)
+    ensures { λ r. ⌜ machineIn (now (table .exit)) (now (parts .exit))
+        ≡ besides (now (codes .entry)) (now (needs .entry)) d (machineIn (now (table .entry)) (now (parts .entry))) ⌝ }
 {
-    let kind = codes::claim_kind(codes);
-    if kind == codes::CLAIM_IRREFLEXIVE {
-        return run_union(
-            codes,
-            ops,
-            xs,
-            next,
-            rels,
-            first,
-            last,
-            follow,
-            letters,
-            parts,
-            codes::ASSUME_IRREFLEXIVE,
-            top,
-        );
+    if is_ring(d) {
+        run_union(codes, needs, codes::ASSUME_IRREFLEXIVE, table, parts);
+        return;
     }
-    if kind == codes::CLAIM_INCLUDE {
-        let ran = run_kind(
-            codes,
-            ops,
-            xs,
-            next,
-            rels,
-            first,
-            last,
-            follow,
-            letters,
-            parts,
-            codes::CLAIM_INCLUDE,
-            top,
-        );
-        return ran.top;
+    if d.kind == codes::CLAIM_INCLUDE {
+        run_from(codes, needs, table, parts, d.right);
+        return;
     }
-    step(TESTED, 0, rels, first, last, follow, letters, parts, top)
+    side_parts::give(parts, 0);
 }
 
 // a0, and in a path claim `zero` with it, the set of the atoms that are words of a1.
 fn inside(
     codes: &[u64],
-    ops: &[u64],
-    xs: &[u64],
-    next: &[u64],
-    rels: &[u64; codes::RELATION_SETS],
-    first: &mut [u64; 64],
-    last: &mut [u64; 64],
-    follow: &mut [u64; 4096],
-    letters: &mut [u64; 16],
-    parts: &mut [u64; 2048],
+    needs: &[u64],
+    ring: bool,
     zero: u64,
-    top: Top,
-) -> Top
-    requires { ⌜ Fits (now first) (now last) (now follow) (now letters) (now parts) top
-        × (length (now codes) ≡ length (now next)) × (length (now ops) ≡ length (now next)) × (length (now xs) ≡ length (now next))
-        × (length (now next) ≤ 4096) × Onward (now next) ⌝ }
-    ensures { λ r. ⌜ Fits (now (first .exit)) (now (last .exit)) (now (follow .exit)) (now (letters .exit)) (now (parts .exit)) r
-        × (Jumps (itemsOf (now (codes .entry))) (now (ops .entry)) (now (xs .entry)) (now (next .entry)) → zero ≡ zeroSet (now (rels .entry)) (now (codes .entry))
-        → machineIn (now (first .exit)) (now (last .exit)) (now (follow .exit)) (now (letters .exit)) (now (parts .exit)) r
-        ≡ between (now (rels .entry)) (now (codes .entry))
-        (machineIn (now (first .entry)) (now (last .entry)) (now (follow .entry)) (now (letters .entry)) (now (parts .entry)) top)) ⌝ }
+    table: &mut [u64; TABLE],
+    parts: &mut [u64; STACK],
+)
+    ensures { λ r. ⌜ machineIn (now (table .exit)) (now (parts .exit))
+        ≡ between (now (codes .entry)) (now (needs .entry)) ring zero (machineIn (now (table .entry)) (now (parts .entry))) ⌝ }
 {
-    let a0 = run_union(
-        codes,
-        ops,
-        xs,
-        next,
-        rels,
-        first,
-        last,
-        follow,
-        letters,
-        parts,
-        codes::ASSUME_EMPTY,
-        top,
-    );
-    if codes::claim_kind(codes) == codes::CLAIM_IRREFLEXIVE {
-        return a0;
+    run_union(codes, needs, codes::ASSUME_EMPTY, table, parts);
+    if !ring {
+        side_parts::give(parts, zero);
+        side_parts::unite(parts);
     }
-    let with = step(TESTED, zero, rels, first, last, follow, letters, parts, a0);
-    step(UNION, 0, rels, first, last, follow, letters, parts, with)
 }
 
-// The right side up to the second any*: what the rest is united with, and any*;e.
-fn opening(
+// any*;e;any* on top of what it is united with, where e is a0, or a0 | zero.
+fn put_around(
     codes: &[u64],
-    ops: &[u64],
-    xs: &[u64],
-    next: &[u64],
-    rels: &[u64; codes::RELATION_SETS],
-    first: &mut [u64; 64],
-    last: &mut [u64; 64],
-    follow: &mut [u64; 4096],
-    letters: &mut [u64; 16],
-    parts: &mut [u64; 2048],
+    needs: &[u64],
+    ring: bool,
     zero: u64,
-) -> Top
-    requires { ⌜ (length (now parts) ≡ 2048)
-        × (length (now codes) ≡ length (now next)) × (length (now ops) ≡ length (now next)) × (length (now xs) ≡ length (now next))
-        × (length (now next) ≤ 4096) × Onward (now next) ⌝ }
-    ensures { λ r. ⌜ Fits (now (first .exit)) (now (last .exit)) (now (follow .exit)) (now (letters .exit)) (now (parts .exit)) r
-        × (Jumps (itemsOf (now (codes .entry))) (now (ops .entry)) (now (xs .entry)) (now (next .entry)) → zero ≡ zeroSet (now (rels .entry)) (now (codes .entry))
-        → machineIn (now (first .exit)) (now (last .exit)) (now (follow .exit)) (now (letters .exit)) (now (parts .exit)) r
-        ≡ stepped (now (rels .entry)) SEQUENCE 0 (between (now (rels .entry)) (now (codes .entry))
-        (anyStar (now (rels .entry)) (besides (now (rels .entry)) (now (codes .entry)) (nothingBuilt 0))))) ⌝ }
+    table: &mut [u64; TABLE],
+    parts: &mut [u64; STACK],
+)
+    ensures { λ r. ⌜ machineIn (now (table .exit)) (now (parts .exit))
+        ≡ around (now (codes .entry)) (now (needs .entry)) ring zero (machineIn (now (table .entry)) (now (parts .entry))) ⌝ }
 {
-    let none = nothing(0, first, last, follow, letters);
-    let other = beside(
-        codes,
-        ops,
-        xs,
-        next,
-        rels,
-        first,
-        last,
-        follow,
-        letters,
-        parts,
-        none,
-    );
-    let any = any_star(rels, first, last, follow, letters, parts, other);
-    let both = inside(
-        codes,
-        ops,
-        xs,
-        next,
-        rels,
-        first,
-        last,
-        follow,
-        letters,
-        parts,
-        zero,
-        any,
-    );
-    step(SEQUENCE, 0, rels, first, last, follow, letters, parts, both)
+    side_parts::any_star(table, parts);
+    inside(codes, needs, ring, zero, table, parts);
+    side_parts::put_in_order(table, parts);
+    side_parts::any_star(table, parts);
+    side_parts::put_in_order(table, parts);
 }
 
-// The right side: y | any*;(a0 | zero);any*, or a1 | any*;a0;any*.
+// The right side, in a table that is clear: y | any*;(a0 | zero);any*, or a1 | any*;a0;any*.
 pub fn right_side(
     codes: &[u64],
-    ops: &[u64],
-    xs: &[u64],
-    next: &[u64],
-    rels: &[u64; codes::RELATION_SETS],
-    first: &mut [u64; 64],
-    last: &mut [u64; 64],
-    follow: &mut [u64; 4096],
-    letters: &mut [u64; 16],
-    parts: &mut [u64; 2048],
-    zero: u64,
-) -> Top
-    requires { ⌜ (length (now parts) ≡ 2048)
-        × (length (now codes) ≡ length (now next)) × (length (now ops) ≡ length (now next)) × (length (now xs) ≡ length (now next))
-        × (length (now next) ≤ 4096) × Onward (now next) ⌝ }
-    ensures { λ r. ⌜ Fits (now (first .exit)) (now (last .exit)) (now (follow .exit)) (now (letters .exit)) (now (parts .exit)) r
-        × (Jumps (itemsOf (now (codes .entry))) (now (ops .entry)) (now (xs .entry)) (now (next .entry)) → zero ≡ zeroSet (now (rels .entry)) (now (codes .entry))
-        → machineIn (now (first .exit)) (now (last .exit)) (now (follow .exit)) (now (letters .exit)) (now (parts .exit)) r
-        ≡ rightMachine (now (rels .entry)) (now (codes .entry))) ⌝ }
+    needs: &[u64],
+    d: Decision,
+    table: &mut [u64; TABLE],
+    parts: &mut [u64; STACK],
+)
+    requires { ⌜ now table ≡ zeros 4241 ⌝ }
+    ensures { λ r. ⌜ machineIn (now (table .exit)) (now (parts .exit)) ≡ rightMachine (now (codes .entry)) (now (needs .entry)) d ⌝ }
 {
-    let before = opening(
-        codes,
-        ops,
-        xs,
-        next,
-        rels,
-        first,
-        last,
-        follow,
-        letters,
-        parts,
-        zero,
-    );
-    let any = any_star(rels, first, last, follow, letters, parts, before);
-    let path = step(SEQUENCE, 0, rels, first, last, follow, letters, parts, any);
-    step(UNION, 0, rels, first, last, follow, letters, parts, path)
+    let ring = is_ring(d);
+    let zero = zero_for(codes, needs, ring, table, parts);
+    side_stack::empty(parts);
+    beside(codes, needs, d, table, parts);
+    put_around(codes, needs, ring, zero, table, parts);
+    side_parts::unite(parts);
 }

@@ -62,12 +62,15 @@ paired (k ∷ ks) (x ∷ xs) = record { code = k; arg = x } ∷ paired ks xs
 unfoldable pub itemsOf : List ℕ → List Item
 itemsOf ks = paired ks (argsOf ks)
 
--- where the expressions start that end with the code k: a line from its start, and the right side of an inclusion behind `INCLUDED`
-unfoldable pub startsFrom : ℕ → ℕ → ℕ → List ℕ → List ℕ
-startsFrom k at start [] = []
-startsFrom k at start (c ∷ cs) =
-    cond (ltb c LINE) (startsFrom k (at + 1) start cs)
-    (cond (eqb c k) (start ∷ startsFrom k (at + 1) (at + 1) cs) (startsFrom k (at + 1) (at + 1) cs))
+-- where the expressions start that end with the code k, in lines that pass a test: a line from its start, and the right side of an inclusion
+-- behind `INCLUDED`. Lines are counted from 0 by their ends; an inclusion is in the last.
+unfoldable pub startsFrom : (ℕ → Bool) → ℕ → ℕ → ℕ → ℕ → List ℕ → List ℕ
+startsFrom counts k line at start [] = []
+startsFrom counts k line at start (c ∷ cs) =
+    cond (ltb c LINE) (startsFrom counts k line (at + 1) start cs)
+    (cond (eqb c k && counts line)
+    (start ∷ startsFrom counts k (line + 1) (at + 1) (at + 1) cs)
+    (startsFrom counts k (line + 1) (at + 1) (at + 1) cs))
 
-unfoldable pub startsOf : ℕ → List ℕ → List ℕ
-startsOf k cs = startsFrom k 0 0 cs
+unfoldable pub startsOf : (ℕ → Bool) → ℕ → List ℕ → List ℕ
+startsOf counts k cs = startsFrom counts k 0 0 0 cs

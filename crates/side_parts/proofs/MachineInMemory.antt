@@ -1,176 +1,157 @@
--- The machine in memory after one code: where the tables and the parts were changed as the code says, the memory holds the machine that
--- the code makes of the one before, and the memory is as large as it was.
+-- The machine that the memory holds after each change of the table and of the parts; and what one code does to the machine, a law for each
+-- way that a code can go.
 -- Assumes nothing.
-use Prim.Native.Nat.{ℕ, _+_, _-_, _*_, _≤_, min}
+use Prim.Native.Nat.{ℕ, _+_, _-_, _^_, _≤_, _<_, min}
 use native.Mathlib.Omega.{arith}
-use mathlib.Core.Path.{_≡_, refl, sym, _∙_, ap, ap₂}
-use mathlib.Core.List.{List}
-use lib.Bits.{bitAnd, bitOr}
-use lib.ListN.{length, set, length-set}
+use mathlib.Core.Path.{_≡_, refl, sym, _∙_, ap}
+use mathlib.Core.Bool.{Bool, true, false, not}
+use mathlib.Core.List.{List, []}
+use lib.Bits.{bitAnd, bitOr, or-zero-l}
+use lib.ListN.{getD}
+use borrow.Author.Tests.{ne-eqb, le-leb, lt-leb, lt-ltb, le-ltb}
+use Rattle.bits.specs.Sets.{including}
+use Rattle.bits.proofs.Rows.{including-in}
 use Rattle.side_atoms.specs.Atoms.{allAtoms}
-use Rattle.side_tables.specs.Occurrences.{cut, joined, lettered, added, sequenced, iterated}
-use Rattle.words.specs.Memory.{words}
-use Rattle.words.proofs.Words.{words-length, changed-length}
-use Rattle.side_parts.specs.Machine.{Part, Machine, topPart, underPart, pushPart, given, fresh, united, inOrder, again, optional, nothingBuilt}
-use Rattle.side_parts.specs.Memory.{partsIn, machineIn, Fits}
-use Rattle.side_parts.specs.declared.Top.{Top}
-use Rattle.side_parts.proofs.PartsInMemory.{under-parts}
+use Rattle.side_tables.specs.InPlace.{added, sequenced, iterated}
+use Rattle.side_stack.specs.Stack.{topPart, underPart, pushPart, usedIn, stackIn}
+use Rattle.side_stack.specs.declared.Part.{Part}
+use Rattle.words.specs.Memory.{zeros}
+use Rattle.words.proofs.Zeros.{zeros-words}
+use Rattle.side_parts.specs.Machine.{Machine, machineIn, given, fresh, united, inOrder, again, optional, stepped, nothingBuilt}
 
--- one part less, and two less
-module _ (ws : List ℕ) (n m : ℕ) (p : m ≡ n - 1) where
-  one-less : partsIn ws m ≡ underPart (partsIn ws n)
-  one-less = ap (partsIn ws) p ∙ sym (under-parts ws n)
-
-  two-less : (k : ℕ) → k ≡ m - 1 → partsIn ws k ≡ underPart (underPart (partsIn ws n))
-  two-less k q = ap (partsIn ws) q ∙ sym (under-parts ws m) ∙ ap underPart one-less
-
--- the same part on the same stack
-same-push : (st st′ : List Part) (a b c d : ℕ) → a ≡ b → c ≡ d → st ≡ st′
-    → pushPart (record { low = a; null = c }) st ≡ pushPart (record { low = b; null = d }) st′
-same-push st st′ a b c d e f g =
-    ap₂ (λ x y. pushPart (record { low = x; null = y }) st) e f ∙ ap (pushPart (record { low = b; null = d })) g
-
--- a part made from the two on top, of which m is the height without the first and k the height without both
-module _ (g : ℕ → ℕ → ℕ) (ws : List ℕ) (n m k low b a : ℕ) (p : m ≡ n - 1) (q : k ≡ m - 1) (x : low ≡ topPart (partsIn ws m) .low)
-    (y : b ≡ topPart (partsIn ws m) .null) (z : a ≡ topPart (partsIn ws n) .null) where
-  two-joined : pushPart (record { low = low; null = g b a }) (partsIn ws k)
-      ≡ pushPart (record {
-        low = topPart (underPart (partsIn ws n)) .low;
-        null = g (topPart (underPart (partsIn ws n)) .null) (topPart (partsIn ws n) .null);
-      }) (underPart (underPart (partsIn ws n)))
-  two-joined =
-      same-push _ _ _ _ _ _ (x ∙ ap (λ st. topPart st .low) (one-less ws n m p)) (ap₂ g (y ∙ ap (λ st. topPart st .null) (one-less ws n m p)) z)
-      (two-less ws n m p k q)
-
--- codes that change no table
-module _ (first last follow letters ws vs : List ℕ) (top : Top) (h : ℕ) where
-  pub given-in : (x : ℕ) → partsIn vs h ≡ pushPart (record { low = top .used; null = x }) (partsIn ws (top .height))
-      → machineIn first last follow letters vs (record { height = h; used = top .used }) ≡ given x (machineIn first last follow letters ws top)
+-- the memory after each change: the number of occurrences and the parts that it holds, and the table
+module _ (t ws vs : List ℕ) where
+  pub given-made : (low x : ℕ) → low ≡ usedIn ws → usedIn vs ≡ usedIn ws
+      → stackIn vs ≡ pushPart (record { low = low; null = x; looped = true }) (stackIn ws) → machineIn t vs ≡ given x (machineIn t ws)
   unfolding machineIn given
-  given-in x e =
-      ap (λ st. record { tables = record { first = first; last = last; follow = follow; letters = letters }; used = top .used; stack = st }) e
+  given-made low x e f g = rw (f, g, e) refl
 
-  pub united-in : (m k low b a : ℕ) → m ≡ top .height - 1 → k ≡ m - 1 → low ≡ topPart (partsIn ws m) .low → b ≡ topPart (partsIn ws m) .null
-      → a ≡ topPart (partsIn ws (top .height)) .null → partsIn vs h ≡ pushPart (record { low = low; null = bitOr b a }) (partsIn ws k)
-      → machineIn first last follow letters vs (record { height = h; used = top .used }) ≡ united (machineIn first last follow letters ws top)
+  pub united-made : (a b : Part) → a ≡ topPart (stackIn ws) → b ≡ topPart (underPart (stackIn ws)) → usedIn vs ≡ usedIn ws
+      → stackIn vs ≡ pushPart (record { low = b .low; null = bitOr (b .null) (a .null); looped = false }) (underPart (underPart (stackIn ws)))
+      → machineIn t vs ≡ united (machineIn t ws)
   unfolding machineIn united
-  united-in m k low b a p q x y z e =
-      ap (λ st. record { tables = record { first = first; last = last; follow = follow; letters = letters }; used = top .used; stack = st })
-      (e ∙ two-joined bitOr ws (top .height) m k low b a p q x y z)
+  united-made a b e f g h = rw (g, h, e, f) refl
 
-  pub optional-in : (k low : ℕ) → k ≡ top .height - 1 → low ≡ topPart (partsIn ws (top .height)) .low
-      → partsIn vs h ≡ pushPart (record { low = low; null = allAtoms }) (partsIn ws k)
-      → machineIn first last follow letters vs (record { height = h; used = top .used }) ≡ optional (machineIn first last follow letters ws top)
+  pub optional-made : (a : Part) → a ≡ topPart (stackIn ws) → usedIn vs ≡ usedIn ws
+      → stackIn vs ≡ pushPart (record { low = a .low; null = allAtoms; looped = a .looped }) (underPart (stackIn ws))
+      → machineIn t vs ≡ optional (machineIn t ws)
   unfolding machineIn optional
-  optional-in k low p x e =
-      ap (λ st. record { tables = record { first = first; last = last; follow = follow; letters = letters }; used = top .used; stack = st })
-      (e ∙ same-push _ _ _ _ _ _ x refl (one-less ws (top .height) k p))
+  optional-made a e f g = rw (f, g, e) refl
 
--- the same machine
-same-machine : (f f′ l l′ w w′ t t′ : List ℕ) (u u′ : ℕ) (st st′ : List Part) → f ≡ f′ → l ≡ l′ → w ≡ w′ → t ≡ t′ → u ≡ u′ → st ≡ st′
-    → _≡_ {A = Machine} (record { tables = record { first = f; last = l; follow = w; letters = t }; used = u; stack = st })
-    (record { tables = record { first = f′; last = l′; follow = w′; letters = t′ }; used = u′; stack = st′ })
-same-machine f f′ l l′ w w′ t t′ u u′ st st′ a b c d e g = rw (a, b, c, d, e, g) refl
+module _ (t u ws vs : List ℕ) where
+  pub fresh-made : (f l g s low : ℕ) (us : List ℕ) → low ≡ usedIn ws → u ≡ added low f l g s t → usedIn us ≡ usedIn ws
+      → stackIn us ≡ pushPart (record { low = low; null = 0; looped = false }) (stackIn ws) → usedIn vs ≡ min (usedIn us + 1) 64
+      → stackIn vs ≡ stackIn us → machineIn u vs ≡ fresh f l g s (machineIn t ws)
+  unfolding machineIn fresh
+  fresh-made f l g s low us a b c d e h = rw (b, e, h, c, d, a) refl
 
--- codes that change tables
-module _ (first last follow letters first′ last′ follow′ letters′ ws vs : List ℕ) (top : Top) (h : ℕ) where
-  pub fresh-in : (u f l g s : ℕ) → first′ ≡ set first (top .used) f → last′ ≡ set last (top .used) l
-      → follow′ ≡ set follow (top .used * 64 + top .used) g → letters′ ≡ lettered letters (top .used) s → u ≡ min (top .used + 1) 4096
-      → partsIn vs h ≡ pushPart (record { low = top .used; null = 0 }) (partsIn ws (top .height))
-      → machineIn first′ last′ follow′ letters′ vs (record { height = h; used = u }) ≡ fresh f l g s (machineIn first last follow letters ws top)
-  unfolding machineIn fresh added
-  fresh-in u f l g s a b c d e st = same-machine _ _ _ _ _ _ _ _ _ _ _ _ a b c d e st
+  pub order-made : (a b : Part) (hi : ℕ) → a ≡ topPart (stackIn ws) → b ≡ topPart (underPart (stackIn ws)) → hi ≡ usedIn ws
+      → u ≡ sequenced (b .low) (a .low) hi (b .null) (a .null) t → usedIn vs ≡ usedIn ws
+      → stackIn vs ≡ pushPart (record { low = b .low; null = bitAnd (b .null) (a .null); looped = false }) (underPart (underPart (stackIn ws)))
+      → machineIn u vs ≡ inOrder (machineIn t ws)
+  unfolding machineIn inOrder
+  order-made a b hi c d e f g h = rw (f, g, h, c, d, e) refl
 
-  pub fresh-fits : (u f l g s : ℕ) → first′ ≡ set first (top .used) f → last′ ≡ set last (top .used) l
-      → follow′ ≡ set follow (top .used * 64 + top .used) g → letters′ ≡ lettered letters (top .used) s → u ≡ min (top .used + 1) 4096
-      → length vs ≡ length ws → h ≤ 1024 → Fits first last follow letters ws top
-      → Fits first′ last′ follow′ letters′ vs (record { height = h; used = u })
-  unfolding lettered
-  fresh-fits u f l g s a b c d e k i r =
-      record {
-        firsts = ap length a ∙ length-set first (top .used) f ∙ r .firsts;
-        lasts = ap length b ∙ length-set last (top .used) l ∙ r .lasts;
-        follows = ap length c ∙ length-set follow (top .used * 64 + top .used) g ∙ r .follows;
-        marks = ap length d ∙ changed-length _ letters (length letters) 0 ∙ r .marks;
-        stack = k ∙ r .stack;
-        height = i;
-        used = omega arith;
-      }
+  pub again-made : (a : Part) (hi : ℕ) → a ≡ topPart (stackIn ws) → a .looped ≡ false → hi ≡ usedIn ws → u ≡ iterated (a .low) hi t
+      → usedIn vs ≡ usedIn ws
+      → stackIn vs ≡ pushPart (record { low = a .low; null = a .null; looped = true }) (underPart (stackIn ws))
+      → machineIn u vs ≡ again (machineIn t ws)
+  unfolding machineIn again
+  again-made a hi c d e f g h =
+      let z : topPart (stackIn ws) .looped ≡ false = ap (λ (p : Part). p .looped) (sym c) ∙ d in
+      rw (z, f, g, h, c, e) refl
 
-  pub order-in : (m k mid low b a : ℕ) → m ≡ top .height - 1 → k ≡ m - 1 → mid ≡ topPart (partsIn ws (top .height)) .low
-      → a ≡ topPart (partsIn ws (top .height)) .null → low ≡ topPart (partsIn ws m) .low → b ≡ topPart (partsIn ws m) .null
-      → first′ ≡ cut first mid (top .used) b → last′ ≡ cut last low mid a → follow′ ≡ joined first last follow low mid mid (top .used)
-      → letters′ ≡ letters → partsIn vs h ≡ pushPart (record { low = low; null = bitAnd b a }) (partsIn ws k)
-      → machineIn first′ last′ follow′ letters′ vs (record { height = h; used = top .used }) ≡ inOrder (machineIn first last follow letters ws top)
-  unfolding machineIn inOrder sequenced
-  order-in m k mid low b a p q v z x y d e f i st =
-      same-machine _ _ _ _ _ _ _ _ _ _ _ _
-      (d ∙ ap₂ (λ j s. cut first j (top .used) s) v y′) (e ∙ rw (x′, v, z) refl)
-      (f ∙ ap₂ (λ j s. joined first last follow j s s (top .used)) x′ v) i refl
-      (st ∙ two-joined bitAnd ws (top .height) m k low b a p q x y z)
-    where
-      x′ : low ≡ topPart (underPart (partsIn ws (top .height))) .low
-      x′ = x ∙ ap (λ s. topPart s .low) (one-less ws (top .height) m p)
+pub again-kept : (t ws : List ℕ) (a : Part) → a ≡ topPart (stackIn ws) → a .looped ≡ true → machineIn t ws ≡ again (machineIn t ws)
+unfolding machineIn again
+again-kept t ws a c d =
+    let z : topPart (stackIn ws) .looped ≡ true = ap (λ (p : Part). p .looped) (sym c) ∙ d in
+    sym (rw z refl)
 
-      y′ : b ≡ topPart (underPart (partsIn ws (top .height))) .null
-      y′ = y ∙ ap (λ s. topPart s .null) (one-less ws (top .height) m p)
+pub nothing-made : (t ws : List ℕ) (n : ℕ) → t ≡ zeros n → n ≡ 4241 → usedIn ws ≡ 0 → stackIn ws ≡ [] → machineIn t ws ≡ nothingBuilt
+unfolding machineIn nothingBuilt
+nothing-made t ws n e f g h = rw (e, f, g, h, zeros-words 4241) refl
 
-  pub order-fits : (mid low b a : ℕ) → first′ ≡ cut first mid (top .used) b → last′ ≡ cut last low mid a
-      → follow′ ≡ joined first last follow low mid mid (top .used) → letters′ ≡ letters → length vs ≡ length ws → h ≤ 1024
-      → Fits first last follow letters ws top → Fits first′ last′ follow′ letters′ vs (record { height = h; used = top .used })
-  unfolding cut joined
-  order-fits mid low b a d e f i k n r =
-      record {
-        firsts = ap length d ∙ changed-length _ first (top .used) mid ∙ r .firsts;
-        lasts = ap length e ∙ changed-length _ last mid low ∙ r .lasts;
-        follows = ap length f ∙ words-length (length follow) _ ∙ r .follows;
-        marks = ap length i ∙ r .marks;
-        stack = k ∙ r .stack;
-        height = n;
-        used = r .used;
-      }
+pub clear-made : (t ws : List ℕ) → t ≡ zeros 4241 → (usedIn ws ≡ 0) × (stackIn ws ≡ []) → machineIn t ws ≡ nothingBuilt
+clear-made t ws e (f, g) = nothing-made t ws 4241 e refl f g
 
--- `+` changes only what may follow
-module _ (first last follow follow′ letters ws : List ℕ) (top : Top) (low : ℕ) where
-  pub again-in : low ≡ topPart (partsIn ws (top .height)) .low → follow′ ≡ joined first last follow low (top .used) low (top .used)
-      → machineIn first last follow′ letters ws top ≡ again (machineIn first last follow letters ws top)
-  unfolding machineIn again iterated
-  again-in x e =
-      ap (λ w. record {
-        tables = record { first = first; last = last; follow = w; letters = letters };
-        used = top .used;
-        stack = partsIn ws (top .height);
-      }) (e ∙ ap (λ j. joined first last follow j (top .used) j (top .used)) x)
+-- a test of a flag
+pub not-looped : (b : Bool) → not b ≡ true → b ≡ false
+not-looped true e = sym e
+not-looped false e = refl
 
-  pub again-fits : follow′ ≡ joined first last follow low (top .used) low (top .used) → Fits first last follow letters ws top
-      → Fits first last follow′ letters ws top
-  unfolding joined
-  again-fits e r =
-      record {
-        firsts = r .firsts;
-        lasts = r .lasts;
-        follows = ap length e ∙ words-length (length follow) _ ∙ r .follows;
-        marks = r .marks;
-        stack = r .stack;
-        height = r .height;
-        used = r .used;
-      }
+pub is-looped : (b : Bool) → not b ≡ false → b ≡ true
+is-looped true e = refl
+is-looped false e = sym e
 
--- empty tables without parts
-module _ (first last follow letters ws : List ℕ) (k : ℕ) (a : first ≡ words 64 (λ i. 0)) (b : last ≡ words 64 (λ i. 0))
-    (c : follow ≡ words 4096 (λ i. 0)) (d : letters ≡ words 16 (λ i. 0)) where
-  pub nothing-in : machineIn first last follow letters ws (record { height = 0; used = k }) ≡ nothingBuilt k
-  unfolding machineIn nothingBuilt partsIn
-  nothing-in = same-machine _ _ _ _ _ _ _ _ _ _ _ _ a b c d refl refl
+-- the set of one relation alone
+relation-alone : (r s : ℕ) → r < 16 → s ≡ including 64 0 r → s ≡ 2 ^ r
+relation-alone r s h e = e ∙ including-in 64 0 r (omega arith) ∙ or-zero-l (2 ^ r)
 
-  pub nothing-fits : length ws ≡ 2048 → k ≤ 4096 → Fits first last follow letters ws (record { height = 0; used = k })
-  nothing-fits e h =
-      record {
-        firsts = ap length a ∙ words-length 64 _;
-        lasts = ap length b ∙ words-length 64 _;
-        follows = ap length c ∙ words-length 4096 _;
-        marks = ap length d ∙ words-length 16 _;
-        stack = e;
-        height = omega arith;
-        used = h;
-      }
+-- the same occurrence
+pub fresh-same : (m : Machine) (f f′ l l′ g g′ s s′ : ℕ) → f ≡ f′ → l ≡ l′ → g ≡ g′ → s ≡ s′ → fresh f l g s m ≡ fresh f′ l′ g′ s′ m
+fresh-same m f f′ l l′ g g′ s s′ a b c d = rw (a, b, c, d) refl
+
+-- the step of relation r, whose sets were read
+pub relation-made : (rels : List ℕ) (r f l g s : ℕ) (m n : Machine) → r < 16 → f ≡ getD rels r 0 → l ≡ getD rels (r + 16) 0
+    → g ≡ getD rels (r + 32) 0 → s ≡ including 64 0 r → n ≡ fresh f l g s m
+    → n ≡ fresh (getD rels r 0) (getD rels (r + 16) 0) (getD rels (r + 32) 0) (2 ^ r) m
+relation-made rels r f l g s m n h a b c d e = e ∙ fresh-same m _ _ _ _ _ _ _ _ a b c (relation-alone r s h d)
+
+-- a code of a relation is that of one of 16
+pub relation-below : (k : ℕ) → 32 ≤ k → k < 48 → k - 32 < 16
+relation-below k h i = omega arith
+
+-- the places of the sets of relation r
+places : (k r : ℕ) → r ≡ k - 32 → 32 ≤ k → (k - 16 ≡ r + 16) × (k ≡ r + 32)
+places k r p h = (omega arith, omega arith)
+
+-- what each code does
+module _ (rels : List ℕ) (k x : ℕ) where
+  pub step-test : k ≡ 6 → (m : Machine) → given x m ≡ stepped rels k x m
+  unfolding stepped
+  step-test e m = sym (rw e refl)
+
+  pub step-or : k ≡ 7 → (m : Machine) → united m ≡ stepped rels k x m
+  unfolding stepped
+  step-or e m = sym (rw e refl)
+
+  pub step-then : k ≡ 8 → (m : Machine) → inOrder m ≡ stepped rels k x m
+  unfolding stepped
+  step-then e m = sym (rw e refl)
+
+  pub step-star : k ≡ 9 → (m : Machine) → optional (again m) ≡ stepped rels k x m
+  unfolding stepped
+  step-star e m = sym (rw e refl)
+
+  pub step-plus : k ≡ 10 → (m : Machine) → again m ≡ stepped rels k x m
+  unfolding stepped
+  step-plus e m = sym (rw e refl)
+
+  pub step-optional : k ≡ 11 → (m : Machine) → optional m ≡ stepped rels k x m
+  unfolding stepped
+  step-optional e m = sym (rw e refl)
+
+  pub step-any : k ≡ 48 → (m : Machine) → fresh allAtoms allAtoms 0 65535 m ≡ stepped rels k x m
+  unfolding stepped
+  step-any e m = sym (rw e refl)
+
+  -- none of these
+  module _ (a : k ≡ 6 → ⊥) (b : k ≡ 7 → ⊥) (c : k ≡ 8 → ⊥) (d : k ≡ 9 → ⊥) (e : k ≡ 10 → ⊥) (f : k ≡ 11 → ⊥) (g : k ≡ 48 → ⊥) where
+    pub step-relation : (r : ℕ) → r ≡ k - 32 → 32 ≤ k → k < 48 → (m : Machine)
+        → fresh (getD rels r 0) (getD rels (r + 16) 0) (getD rels (r + 32) 0) (2 ^ r) m ≡ stepped rels k x m
+    unfolding stepped
+    step-relation r p h i m =
+        let (u, v) = places k r p h in
+        sym (rw (ne-eqb k 6 a, ne-eqb k 7 b, ne-eqb k 8 c, ne-eqb k 9 d, ne-eqb k 10 e, ne-eqb k 11 f, ne-eqb k 48 g, le-leb 32 k h, lt-ltb k 48 i)
+        (fresh-same m _ _ _ _ _ _ _ _ (ap (λ j. getD rels j 0) (sym p)) (ap (λ j. getD rels j 0) u) (ap (λ j. getD rels j 0) v)
+        (ap (λ j. 2 ^ j) (sym p))))
+
+    pub step-below : k < 32 → (m : Machine) → m ≡ stepped rels k x m
+    unfolding stepped
+    step-below h m =
+        sym (rw (ne-eqb k 6 a, ne-eqb k 7 b, ne-eqb k 8 c, ne-eqb k 9 d, ne-eqb k 10 e, ne-eqb k 11 f, ne-eqb k 48 g, lt-leb 32 k h) refl)
+
+    pub step-above : 32 ≤ k → 48 ≤ k → (m : Machine) → m ≡ stepped rels k x m
+    unfolding stepped
+    step-above h i m =
+        sym (rw (ne-eqb k 6 a, ne-eqb k 7 b, ne-eqb k 8 c, ne-eqb k 9 d, ne-eqb k 10 e, ne-eqb k 11 f, ne-eqb k 48 g, le-leb 32 k h, le-ltb k 48 i) refl)

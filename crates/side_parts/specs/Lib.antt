@@ -1,3 +1,2 @@
--- The machine that builds tables from codes, and the machine in memory.
+-- The machine that builds a table from codes.
 pub mod Machine
-pub mod Memory

@@ -1,56 +1,42 @@
--- Building the occurrence tables of an expression from its codes, one after another, with a stack of parts. (Document 01, "Standings"; the
--- codes are those of the crate `codes`.) A part is a run of occurrences: where it begins, and the set of the atoms that are words of it.
--- It is defined for any codes: one that builds nothing does nothing, what is taken from an empty stack is the empty part, a full stack
--- takes nothing more, and occurrences past 4,096 are not counted.
+-- Building the table of an expression from its codes, one after another, with a stack of parts. (Document 01, "Standings"; the codes are those
+-- of the crate `codes`.) A part is a run of occurrences: where it begins, and the set of the atoms that are words of it. It is defined for
+-- any codes: one that builds nothing does nothing, and occurrences past 64 are not counted.
 -- Assumes nothing.
 use Prim.Native.Nat.{ℕ, _+_, _-_, _^_, min}
-use mathlib.Core.Bool.{cond, _&&_}
-use mathlib.Core.List.{List, [], _∷_}
+use mathlib.Core.Bool.{true, false, cond, _&&_}
+use mathlib.Core.List.{List, []}
 use lib.Bits.{bitAnd, bitOr}
 use lib.Dec.{eqb, leb, ltb}
-use lib.ListN.{length, getD}
+use lib.ListN.{getD, set}
 use Rattle.codes.specs.Codes.{TESTED, UNION, SEQUENCE, STAR, PLUS, OPTIONAL, A-RELATION, ANY}
 use Rattle.side_atoms.specs.Atoms.{allAtoms}
-use Rattle.side_tables.specs.Occurrences.{Tables, added, sequenced, iterated}
+use Rattle.side_tables.specs.InPlace.{added, sequenced, iterated}
+use Rattle.side_stack.specs.Stack.{topPart, underPart, pushPart, usedIn, stackIn}
+use Rattle.side_stack.specs.declared.Part.{Part}
 use Rattle.words.specs.Memory.{words}
 
--- a part of the expression: how many occurrences stand before it, and the set of the atoms that are words of it
-pub record Part : Type 0 where
-  pub low : ℕ
-  pub null : ℕ
-
--- the tables so far, how many occurrences they have, and the parts that wait, the last on top
+-- the table so far, how many occurrences it has, and the parts that wait, the last on top
 pub record Machine : Type 0 where
-  pub tables : Tables
+  pub table : List ℕ
   pub used : ℕ
   pub stack : List Part
 
--- what is on top
-unfoldable pub topPart : List Part → Part
-topPart [] = record { low = 0; null = 0 }
-topPart (x ∷ xs) = x
-
--- what is under it
-unfoldable pub underPart : List Part → List Part
-underPart [] = []
-underPart (x ∷ xs) = xs
-
--- a part put on top of a stack with room for 1,024
-unfoldable pub pushPart : Part → List Part → List Part
-pushPart x st = cond (ltb (length st) 1024) (x ∷ st) st
+-- the machine that the memory holds
+unfoldable pub machineIn : List ℕ → List ℕ → Machine
+machineIn table parts = record { table = table; used = usedIn parts; stack = stackIn parts }
 
 -- a test: a part without occurrences, whose words are the atoms of the set x
 unfoldable pub given : ℕ → Machine → Machine
 given x m =
-    record { tables = m .tables; used = m .used; stack = pushPart (record { low = m .used; null = x }) (m .stack) }
+    record { table = m .table; used = m .used; stack = pushPart (record { low = m .used; null = x; looped = true }) (m .stack) }
 
 -- a new occurrence: at the atoms of f it may be first, at those of l last, at those of g after itself; it reads the relations of s
 unfoldable pub fresh : ℕ → ℕ → ℕ → ℕ → Machine → Machine
 fresh f l g s m =
     record {
-      tables = added (m .tables) (m .used) f l g s;
-      used = min (m .used + 1) 4096;
-      stack = pushPart (record { low = m .used; null = 0 }) (m .stack);
+      table = added (m .used) f l g s (m .table);
+      used = min (m .used + 1) 64;
+      stack = pushPart (record { low = m .used; null = 0; looped = false }) (m .stack);
     }
 
 -- `|`: the two parts on top are one
@@ -59,9 +45,9 @@ united m =
     let a = topPart (m .stack) in
     let b = topPart (underPart (m .stack)) in
     record {
-      tables = m .tables;
+      table = m .table;
       used = m .used;
-      stack = pushPart (record { low = b .low; null = bitOr (b .null) (a .null) }) (underPart (underPart (m .stack)));
+      stack = pushPart (record { low = b .low; null = bitOr (b .null) (a .null); looped = false }) (underPart (underPart (m .stack)));
     }
 
 -- `;`
@@ -70,24 +56,35 @@ inOrder m =
     let a = topPart (m .stack) in
     let b = topPart (underPart (m .stack)) in
     record {
-      tables = sequenced (m .tables) (b .low) (a .low) (m .used) (b .null) (a .null);
+      table = sequenced (b .low) (a .low) (m .used) (b .null) (a .null) (m .table);
       used = m .used;
-      stack = pushPart (record { low = b .low; null = bitAnd (b .null) (a .null) }) (underPart (underPart (m .stack)));
+      stack = pushPart (record { low = b .low; null = bitAnd (b .null) (a .null); looped = false }) (underPart (underPart (m .stack)));
     }
 
--- `+`
+-- `+`, which of a looped part is the part itself
 unfoldable pub again : Machine → Machine
 again m =
-    record { tables = iterated (m .tables) (topPart (m .stack) .low) (m .used); used = m .used; stack = m .stack }
+    let a = topPart (m .stack) in
+    cond (a .looped) m
+    (record {
+      table = iterated (a .low) (m .used) (m .table);
+      used = m .used;
+      stack = pushPart (record { low = a .low; null = a .null; looped = true }) (underPart (m .stack));
+    })
 
 -- `?`
 unfoldable pub optional : Machine → Machine
 optional m =
+    let a = topPart (m .stack) in
     record {
-      tables = m .tables;
+      table = m .table;
       used = m .used;
-      stack = pushPart (record { low = topPart (m .stack) .low; null = allAtoms }) (underPart (m .stack));
+      stack = pushPart (record { low = a .low; null = allAtoms; looped = a .looped }) (underPart (m .stack));
     }
+
+-- one step of whichever relation, any number of times
+unfoldable pub anyStar : Machine → Machine
+anyStar m = optional (again (fresh allAtoms allAtoms 0 65535 m))
 
 -- One code. `rels` has for relation r at place r the atoms at which its step may start, at 16 + r those at which it may stop, and at 32 + r
 -- those at which it may follow itself; x is the set of a bracketed test.
@@ -102,16 +99,10 @@ stepped rels k x m =
     (cond (eqb k ANY) (fresh allAtoms allAtoms 0 65535 m)
     (cond (leb A-RELATION k && ltb k ANY) (fresh (getD rels (k - A-RELATION) 0) (getD rels (k - 16) 0) (getD rels k 0) (2 ^ (k - A-RELATION)) m) m)))))))
 
--- nothing built yet, with k occurrences before
-unfoldable pub nothingBuilt : ℕ → Machine
-nothingBuilt k =
-    record {
-      tables = record {
-        first = words 64 (λ i. 0);
-        last = words 64 (λ i. 0);
-        follow = words 4096 (λ i. 0);
-        letters = words 16 (λ i. 0);
-      };
-      used = k;
-      stack = [];
-    }
+-- nothing built yet
+unfoldable pub nothingBuilt : Machine
+nothingBuilt = record { table = words 4241 (λ i. 0); used = 0; stack = [] }
+
+-- the table in the end: it also tells the atoms that are words of the part on top
+unfoldable pub toldTable : Machine → List ℕ
+toldTable m = set (m .table) 4240 (topPart (m .stack) .null)

@@ -69,7 +69,7 @@ fn narrow_all(codes: &[u64], args: &[u64], limits: &mut [u64])
 }
 
 // Whether a code is among the codes.
-fn among(codes: &[u64], k: u64) -> bool
+pub fn among(codes: &[u64], k: u64) -> bool
     ensures { λ r. ⌜ r ≡ some (λ c. eqb c k) (now (codes .entry)) ⌝ }
 {
     let mut i = 0;

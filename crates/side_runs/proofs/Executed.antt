@@ -28,7 +28,7 @@ use Rattle.side_atoms.specs.Single.{starts, stops}
 use Rattle.side_atoms.proofs.Singles.{replaced-single}
 use Rattle.side_items.specs.Items.{itemsOf}
 use Rattle.side_parts.specs.Machine.{Machine}
-use Rattle.side_jumps.specs.Performing.{performed, perform}
+use Rattle.side_runs.specs.Performing.{performed, perform}
 use Rattle.side_runs.specs.Execution.{execute}
 use Rattle.side_parts.proofs.Builds.{Builds}
 use Rattle.side_parts.proofs.BuildsLeaves.{builds-more, builds-same, builds-fresh}
@@ -36,7 +36,7 @@ use Rattle.side_items.proofs.Placed.{Placed, Limited}
 use Rattle.side_items.proofs.Scanned.{item}
 use Rattle.side_items.proofs.TreeItems.{nameItem, treeItems, relation-code, let-code}
 use Rattle.side_runs.proofs.PlacedItems.{startsBefore, placed-items, letPlace, let-placed, let-starts, let-before}
-use Rattle.side_jumps.proofs.Performed.{relation-performed, let-performed, perform-append, perform-end}
+use Rattle.side_runs.proofs.Performed.{relation-performed, let-performed, perform-append, perform-end}
 use Rattle.side_items.proofs.Inside.{tree-inside}
 use Rattle.side_items.proofs.EarlierTests.{set-earlier}
 use Rattle.side_runs.proofs.TreeBuilds.{tree-builds}

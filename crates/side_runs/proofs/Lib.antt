@@ -1,8 +1,9 @@
--- Running items in memory.
-pub mod Running
-pub mod RunningAll
--- The items of an expression of a query.
+-- What items do.
+pub mod Performed
+-- Where expressions stand, and what executing them builds.
 pub mod PlacedItems
--- Running them builds the expression.
 pub mod TreeBuilds
 pub mod Executed
+-- Items run in memory.
+pub mod Running
+pub mod RunningAll

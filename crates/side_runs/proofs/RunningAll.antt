@@ -5,86 +5,108 @@ use Prim.Native.Nat.{ℕ, zero, suc, _+_, _-_, _≤_, _<_}
 use native.Mathlib.Numerals.{add-one}
 use native.Mathlib.Omega.{arith}
 use mathlib.Core.Path.{_≡_, refl, sym, ap, _∙_}
+use mathlib.Core.Logic.{⊎-elim}
+use mathlib.Core.Bool.{Bool, true, false, not, _&&_}
 use mathlib.Core.List.{List, [], _∷_}
+use lib.Dec.{eqb}
 use lib.ListN.{length, getD, drop, drop-of-length-le}
 use lib.Seq.{drop-cons}
-use borrow.Author.Tests.{lt-ltb, le-ltb, eq-eqb, ne-eqb}
-use Rattle.side_parts.specs.Machine.{Machine, stepped}
-use Rattle.side_items.specs.Items.{Item, startsFrom, startsOf}
-use Rattle.side_runs.specs.Execution.{executeAll, unitedTimes, executeUnion}
-use Rattle.side_jumps.specs.Jumps.{Jumps}
-use Rattle.side_runs.specs.inner.Running.{LineRan}
+use borrow.Author.Tests.{lt-ltb, le-ltb}
+use Rattle.side_parts.specs.Machine.{Machine, given, united}
+use Rattle.side_items.specs.Items.{Item, ofTest, startsFrom, startsOf}
+use Rattle.words.proofs.Words.{same-or-not}
+use Rattle.side_runs.specs.Program.{itemsIn, setsIn, countsIn}
+use Rattle.side_runs.specs.Execution.{executeAt, executeAll, unitedTimes, executeUnion}
+use Rattle.side_runs.specs.inner.Running.{Skipped, LineRan}
 
--- the places from i on, where an expression starts at s
-module _ (k : ℕ) (cs : List ℕ) (i s : ℕ) where
-  starts-none : length cs ≤ i → startsFrom k i s (drop i cs) ≡ []
+-- the places from i on, where an expression starts at s, behind l lines
+module _ (counts : ℕ → Bool) (k : ℕ) (cs : List ℕ) (l i s : ℕ) where
+  pub starts-none : length cs ≤ i → startsFrom counts k l i s (drop i cs) ≡ []
   unfolding startsFrom
   starts-none h = rw (drop-of-length-le cs {i = i} h)
 
-  starts-inside : i < length cs → getD cs i 0 < 128 → startsFrom k i s (drop i cs) ≡ startsFrom k (i + 1) s (drop (i + 1) cs)
+  pub starts-inside : i < length cs → getD cs i 0 < 128 → startsFrom counts k l i s (drop i cs) ≡ startsFrom counts k l (i + 1) s (drop (i + 1) cs)
   unfolding startsFrom
   starts-inside h c = rw (drop-cons cs i 0 h, lt-ltb (getD cs i 0) 128 c, add-one i)
 
-  starts-other : i < length cs → 128 ≤ getD cs i 0 → (getD cs i 0 ≡ k → ⊥)
-      → startsFrom k i s (drop i cs) ≡ startsFrom k (i + 1) (i + 1) (drop (i + 1) cs)
+  pub starts-other : i < length cs → 128 ≤ getD cs i 0 → (eqb (getD cs i 0) k && counts l) ≡ false
+      → startsFrom counts k l i s (drop i cs) ≡ startsFrom counts k (l + 1) (i + 1) (i + 1) (drop (i + 1) cs)
   unfolding startsFrom
-  starts-other h c n = rw (drop-cons cs i 0 h, le-ltb (getD cs i 0) 128 c, ne-eqb (getD cs i 0) k n, add-one i)
+  starts-other h c n = rw (drop-cons cs i 0 h, le-ltb (getD cs i 0) 128 c, n, add-one i)
 
-  starts-found : i < length cs → 128 ≤ getD cs i 0 → getD cs i 0 ≡ k
-      → startsFrom k i s (drop i cs) ≡ s ∷ startsFrom k (i + 1) (i + 1) (drop (i + 1) cs)
+  pub starts-found : i < length cs → 128 ≤ getD cs i 0 → (eqb (getD cs i 0) k && counts l) ≡ true
+      → startsFrom counts k l i s (drop i cs) ≡ s ∷ startsFrom counts k (l + 1) (i + 1) (i + 1) (drop (i + 1) cs)
   unfolding startsFrom
-  starts-found h c e = rw (drop-cons cs i 0 h, le-ltb (getD cs i 0) 128 c, eq-eqb (getD cs i 0) k e, add-one i)
+  starts-found h c e = rw (drop-cons cs i 0 h, le-ltb (getD cs i 0) 128 c, e, add-one i)
 
--- c expressions made n of m; what is left from place i on, where one starts at s, has to make of n what all make of m
-pub record Rest (k : ℕ) (cs ops args next rels : List ℕ) (m : Machine) (i s c : ℕ) (n : Machine) : Type 0 where
-  pub counted : c + length (startsFrom k i s (drop i cs)) ≡ length (startsOf k cs)
-  pub whole : (is : List Item) → Jumps is ops args next
-      → executeAll rels is (startsFrom k i s (drop i cs)) n ≡ executeAll rels is (startsOf k cs) m
+-- c expressions made n of m; what is left from place i on, behind l lines, where one starts at s, has to make of n what all make of m
+pub record Rest (k : ℕ) (ks ns : List ℕ) (m : Machine) (i s l c : ℕ) (n : Machine) : Type 0 where
+  pub counted : c + length (startsFrom (countsIn ks ns) k l i s (drop i ks)) ≡ length (startsOf (countsIn ks ns) k ks)
+  pub whole : executeAll (setsIn ks ns) (itemsIn ks ns) (startsFrom (countsIn ks ns) k l i s (drop i ks)) n
+      ≡ executeAll (setsIn ks ns) (itemsIn ks ns) (startsOf (countsIn ks ns) k ks) m
 
-pub rest-all : (k : ℕ) (cs ops args next rels : List ℕ) (m : Machine) → Rest k cs ops args next rels m 0 0 0 m
+pub rest-all : (k : ℕ) (ks ns : List ℕ) (m : Machine) → Rest k ks ns m 0 0 0 0 m
 unfolding startsOf
-rest-all k cs ops args next rels m = record { counted = omega arith; whole = λ is j. refl }
+rest-all k ks ns m = record { counted = omega arith; whole = refl }
 
-module _ (k : ℕ) (cs ops args next rels : List ℕ) (m : Machine) (i s c : ℕ) (n : Machine) (rest : Rest k cs ops args next rels m i s c n) where
-  pub rest-inside : i < length cs → getD cs i 0 < 128 → Rest k cs ops args next rels m (i + 1) s c n
-  rest-inside h l =
-      let e = starts-inside k cs i s h l in
+module _ (k : ℕ) (ks ns : List ℕ) (m : Machine) (i s l c : ℕ) (n : Machine) (rest : Rest k ks ns m i s l c n) where
+  abbrev on : List ℕ → Machine → Machine
+  on = executeAll (setsIn ks ns) (itemsIn ks ns)
+
+  pub rest-inside : i < length ks → getD ks i 0 < 128 → Rest k ks ns m (i + 1) s l c n
+  rest-inside h j =
+      let e = starts-inside (countsIn ks ns) k ks l i s h j in
       record {
         counted = ap (λ ss. c + length ss) (sym e) ∙ rest .counted;
-        whole = λ is j. ap (λ ss. executeAll rels is ss n) (sym e) ∙ rest .whole is j;
+        whole = ap (λ ss. on ss n) (sym e) ∙ rest .whole;
       }
 
-  pub rest-other : i < length cs → 128 ≤ getD cs i 0 → (getD cs i 0 ≡ k → ⊥) → Rest k cs ops args next rels m (i + 1) (i + 1) c n
+  pub rest-other : i < length ks → 128 ≤ getD ks i 0 → (eqb (getD ks i 0) k && countsIn ks ns l) ≡ false → Rest k ks ns m (i + 1) (i + 1) (l + 1) c n
   rest-other h g d =
-      let e = starts-other k cs i s h g d in
+      let e = starts-other (countsIn ks ns) k ks l i s h g d in
       record {
         counted = ap (λ ss. c + length ss) (sym e) ∙ rest .counted;
-        whole = λ is j. ap (λ ss. executeAll rels is ss n) (sym e) ∙ rest .whole is j;
+        whole = ap (λ ss. on ss n) (sym e) ∙ rest .whole;
       }
 
-  pub rest-found : i < length cs → 128 ≤ getD cs i 0 → getD cs i 0 ≡ k → s < 4097
-      → (n′ : Machine) → LineRan ops args next rels s n n′ → Rest k cs ops args next rels m (i + 1) (i + 1) (c + 1) n′
-  unfolding executeAll
-  rest-found h g d b n′ ran =
-      let e = starts-found k cs i s h g d in
-      let ss = startsFrom k (i + 1) (i + 1) (drop (i + 1) cs) in
+  pub rest-found : i < length ks → 128 ≤ getD ks i 0 → (eqb (getD ks i 0) k && countsIn ks ns l) ≡ true
+      → (n′ : Machine) → LineRan ks ns s n n′ → Rest k ks ns m (i + 1) (i + 1) (l + 1) (c + 1) n′
+  unfolding executeAll executeAt
+  rest-found h g d n′ ran =
+      let e = starts-found (countsIn ks ns) k ks l i s h g d in
+      let ss = startsFrom (countsIn ks ns) k (l + 1) (i + 1) (i + 1) (drop (i + 1) ks) in
       record {
         counted = omega (arith, ap length e, rest .counted);
-        whole = λ is j. ap (executeAll rels is ss) (ran is j 4097 b) ∙ (ap (λ ss. executeAll rels is ss n) (sym e) ∙ rest .whole is j);
+        whole = ap (on ss) (ran (suc s) (omega arith)) ∙ (ap (λ ss. on ss n) (sym e) ∙ rest .whole);
       }
 
-  pub rest-count : length cs ≤ i → c ≡ length (startsOf k cs)
-  rest-count h = omega (arith, ap length (starts-none k cs i s h), rest .counted)
+  pub rest-count : length ks ≤ i → c ≡ length (startsOf (countsIn ks ns) k ks)
+  rest-count h = omega (arith, ap length (starts-none (countsIn ks ns) k ks l i s h), rest .counted)
 
-  pub rest-done : length cs ≤ i → (is : List Item) → Jumps is ops args next → n ≡ executeAll rels is (startsOf k cs) m
+  pub rest-done : length ks ≤ i → n ≡ on (startsOf (countsIn ks ns) k ks) m
   unfolding executeAll
-  rest-done h is j = ap (λ ss. executeAll rels is ss n) (sym (starts-none k cs i s h)) ∙ rest .whole is j
+  rest-done h = ap (λ ss. on ss n) (sym (starts-none (countsIn ks ns) k ks l i s h)) ∙ rest .whole
+
+-- a code of a T more was passed
+pub is-test : (b : Bool) → not b ≡ false → b ≡ true
+is-test true e = refl
+is-test false e = sym e
+
+pub is-none : (b : Bool) → not b ≡ true → b ≡ false
+is-none true e = sym e
+is-none false e = refl
+
+pub skip-more : (ks : List ℕ) (pc i : ℕ) → Skipped ks pc i → (b : Bool) → b ≡ ofTest (getD ks i 0) → not b ≡ false → Skipped ks pc (i + 1)
+skip-more ks pc i (h, t) b e f = (
+  omega arith,
+  λ j a l. ⊎-elim (λ z. ap (λ n. ofTest (getD ks n 0)) z ∙ sym e ∙ is-test b f) (λ z. t j a (omega arith)) (same-or-not j i),
+)
 
 -- uniting once more
-pub united-more : (n : ℕ) (rels : List ℕ) (m m′ : Machine) → 0 < n → m′ ≡ stepped rels 7 0 m → unitedTimes (n - 1) m′ ≡ unitedTimes n m
-unfolding unitedTimes stepped
-united-more zero rels m m′ h e = absurd (omega arith)
-united-more (suc n) rels m m′ h e =
+pub united-more : (n : ℕ) (m m′ : Machine) → 0 < n → m′ ≡ united m → unitedTimes (n - 1) m′ ≡ unitedTimes n m
+unfolding unitedTimes
+united-more zero m m′ h e = absurd (omega arith)
+united-more (suc n) m m′ h e =
     let less : suc n - 1 ≡ n = omega arith in
     ap (λ k. unitedTimes k m′) less ∙ ap (unitedTimes n) e
 
@@ -95,6 +117,6 @@ united-none (suc n) m h = absurd (omega arith)
 
 -- several expressions, `[false]`, and the union of all
 pub union-all : (rels : List ℕ) (is : List Item) (ss : List ℕ) (c : ℕ) (m a b n : Machine) → c ≡ length ss → a ≡ executeAll rels is ss m
-    → b ≡ stepped rels 6 0 a → n ≡ unitedTimes c b → n ≡ executeUnion rels is ss m
+    → b ≡ given 0 a → n ≡ unitedTimes c b → n ≡ executeUnion rels is ss m
 unfolding executeUnion
-union-all rels is ss c m a b n l e f g = g ∙ (ap (λ k. unitedTimes k b) l ∙ ap (unitedTimes (length ss)) (f ∙ ap (stepped rels 6 0) e))
+union-all rels is ss c m a b n l e f g = g ∙ (ap (λ k. unitedTimes k b) l ∙ ap (unitedTimes (length ss)) (f ∙ ap (given 0) e))

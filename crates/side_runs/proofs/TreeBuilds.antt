@@ -18,13 +18,13 @@ use Rattle.codes.proofs.Orderly.{slip-first, slip-append, Settled}
 use Rattle.side_atoms.specs.Atoms.{atomsOf}
 use Rattle.side_atoms.specs.Tests.{testSet}
 use Rattle.side_parts.specs.Machine.{Machine, stepped}
-use Rattle.side_jumps.specs.Performing.{performed, perform}
+use Rattle.side_runs.specs.Performing.{performed, perform}
 use Rattle.side_parts.proofs.Builds.{Builds}
 use Rattle.side_parts.proofs.BuildsLeaves.{builds-same, builds-given}
 use Rattle.side_parts.proofs.BuildsJoined.{builds-union, builds-sequence}
 use Rattle.side_parts.proofs.BuildsIterated.{builds-plus, builds-opt, builds-star}
 use Rattle.side_items.proofs.TreeItems.{bracketItems, nameItem, treeItems, test-codes, either-code}
-use Rattle.side_jumps.proofs.Performed.{perform-one, perform-bracket, perform-last, perform-two}
+use Rattle.side_runs.proofs.Performed.{perform-one, perform-bracket, perform-last, perform-two}
 use Rattle.side_items.proofs.Inside.{tree-inside}
 
 -- how many codes two operands have, or one, with the operator

@@ -1,150 +1,126 @@
-// The codes of an expression, one after another, on the tables and the parts in memory; a let is built anew where it is named.
-// (Document 01, "Words": lets are expanded.)
-use codes::TESTED;
-use codes::UNION;
-use side_parts::Top;
+// The codes of an expression, one after another, on its table and the parts that wait in memory; a let is built anew where it is named.
+// (Document 01, "Words": lets are expanded.) A program is the codes of a query and `needs`, in which stand behind one another what each code
+// needs, the sets of the relations and the set of the lines that are left out of the assumptions.
 use side_parts::step;
-ghost use Prim.Native.Nat.{_≤_, _<_};
+use side_stack::STACK;
+use side_tables::TABLE;
+use words::least;
+use words::word;
+ghost use Prim.Native.Nat.{ℕ, _≤_, _<_};
 ghost use mathlib.Core.Path.{_≡_};
+ghost use mathlib.Core.Bool.{_&&_};
 ghost use mathlib.Core.List.{List};
+ghost use lib.Dec.{eqb};
 ghost use lib.ListN.{length};
-ghost use Rattle.side_items.specs.Items.{Item, startsOf};
+ghost use Rattle.side_items.specs.Items.{startsOf};
+ghost use Rattle.side_parts.specs.Machine.{machineIn};
+ghost use Rattle.side_runs.specs.Program.{itemsIn, setsIn, countsIn};
 ghost use Rattle.side_runs.specs.Execution.{executeAll, unitedTimes, executeUnion};
-ghost use Rattle.side_parts.specs.Memory.{Fits, machineIn};
-ghost use Rattle.side_jumps.specs.Jumps.{Jumps, Onward};
-ghost use Rattle.side_runs.specs.inner.Running.{LineRan, ItemRan};
+ghost use Rattle.side_runs.specs.inner.Running.{Skipped, LineRan, ItemRan};
+
+// The first place from pc on at which no code of a T stands.
+fn skip_tests(codes: &[u64], pc: usize) -> usize
+    ensures { λ r. ⌜ Skipped (now (codes .entry)) pc r ⌝ }
+{
+    let mut i = pc;
+    while i < codes.len() {
+        if !side_items::of_test(codes[i]) {
+            return i;
+        }
+        i += 1;
+    }
+    i
+}
 
 // The items from a place to the end of its line; a let is built from the place where its line starts, which comes before. No more than 33
 // of these calls stand in one another, since a let names only lets before it.
-fn run_from(
-    ops: &[u64],
-    xs: &[u64],
-    next: &[u64],
-    rels: &[u64; codes::RELATION_SETS],
-    first: &mut [u64; 64],
-    last: &mut [u64; 64],
-    follow: &mut [u64; 4096],
-    letters: &mut [u64; 16],
-    parts: &mut [u64; 2048],
+pub fn run_from(
+    codes: &[u64],
+    needs: &[u64],
+    table: &mut [u64; TABLE],
+    parts: &mut [u64; STACK],
     from: usize,
-    top: Top,
-) -> Top
-    requires { ⌜ Fits (now first) (now last) (now follow) (now letters) (now parts) top
-        × (length (now ops) ≡ length (now next)) × (length (now xs) ≡ length (now next)) × (length (now next) ≤ 4096)
-        × Onward (now next) ⌝ }
-    ensures { λ r. ⌜ Fits (now (first .exit)) (now (last .exit)) (now (follow .exit)) (now (letters .exit)) (now (parts .exit)) r
-        × LineRan (now (ops .entry)) (now (xs .entry)) (now (next .entry)) (now (rels .entry)) from
-        (machineIn (now (first .entry)) (now (last .entry)) (now (follow .entry)) (now (letters .entry)) (now (parts .entry)) top)
-        (machineIn (now (first .exit)) (now (last .exit)) (now (follow .exit)) (now (letters .exit)) (now (parts .exit)) r) ⌝ }
+)
+    ensures { λ r. ⌜ LineRan (now (codes .entry)) (now (needs .entry)) from
+        (machineIn (now (table .entry)) (now (parts .entry))) (machineIn (now (table .exit)) (now (parts .exit))) ⌝ }
 {
-    let mut t = top;
-    let mut pc = from;
-    while pc < ops.len() {
-        if codes::LINE <= ops[pc] {
-            return t;
+    let mut pc = skip_tests(codes, from);
+    while pc < codes.len() {
+        if codes::LINE <= codes[pc] {
+            return;
         }
-        t = run_item(
-            ops,
-            xs,
-            next,
-            rels,
-            first,
-            last,
-            follow,
-            letters,
-            parts,
-            from,
-            pc,
-            t,
-        );
-        pc = next[pc] as usize;
+        run_item(codes, needs, table, parts, from, pc);
+        pc = skip_tests(codes, pc + 1);
     }
-    t
 }
 
 // The item at one place of a line that starts at `from`.
 fn run_item(
-    ops: &[u64],
-    xs: &[u64],
-    next: &[u64],
-    rels: &[u64; codes::RELATION_SETS],
-    first: &mut [u64; 64],
-    last: &mut [u64; 64],
-    follow: &mut [u64; 4096],
-    letters: &mut [u64; 16],
-    parts: &mut [u64; 2048],
+    codes: &[u64],
+    needs: &[u64],
+    table: &mut [u64; TABLE],
+    parts: &mut [u64; STACK],
     from: usize,
     pc: usize,
-    top: Top,
-) -> Top
-    requires { ⌜ Fits (now first) (now last) (now follow) (now letters) (now parts) top
-        × (length (now ops) ≡ length (now next)) × (length (now xs) ≡ length (now next)) × (length (now next) ≤ 4096)
-        × Onward (now next) × (pc < length (now next)) ⌝ }
-    ensures { λ r. ⌜ Fits (now (first .exit)) (now (last .exit)) (now (follow .exit)) (now (letters .exit)) (now (parts .exit)) r
-        × ItemRan (now (ops .entry)) (now (xs .entry)) (now (next .entry)) (now (rels .entry)) from pc
-        (machineIn (now (first .entry)) (now (last .entry)) (now (follow .entry)) (now (letters .entry)) (now (parts .entry)) top)
-        (machineIn (now (first .exit)) (now (last .exit)) (now (follow .exit)) (now (letters .exit)) (now (parts .exit)) r) ⌝ }
+)
+    requires { ⌜ pc < length (now codes) ⌝ }
+    ensures { λ r. ⌜ ItemRan (now (codes .entry)) (now (needs .entry)) from pc
+        (machineIn (now (table .entry)) (now (parts .entry))) (machineIn (now (table .exit)) (now (parts .exit))) ⌝ }
 {
-    let code = ops[pc];
-    let arg = xs[pc];
+    let code = codes[pc];
+    let arg = word(needs, pc);
+    let n = least(codes.len(), needs.len());
     if code < codes::A_LET {
-        return step(code, arg, rels, first, last, follow, letters, parts, top);
+        step(code, arg, &needs[n..], table, parts);
+        return;
     }
     if codes::LETS_END <= code {
-        return step(code, arg, rels, first, last, follow, letters, parts, top);
+        step(code, arg, &needs[n..], table, parts);
+        return;
     }
     let start = arg as usize;
     if from <= start {
-        return top;
+        return;
     }
-    run_from(
-        ops,
-        xs,
-        next,
-        rels,
-        first,
-        last,
-        follow,
-        letters,
-        parts,
-        start,
-        top,
-    )
+    run_from(codes, needs, table, parts, start);
 }
 
-// The machine after several expressions, and how many they were.
-pub struct Ran {
-    pub top: Top,
-    pub count: usize,
-}
-
-// The expressions that end with the code `kind`, one after another, and how many there were.
-pub fn run_kind(
-    codes: &[u64],
-    ops: &[u64],
-    xs: &[u64],
-    next: &[u64],
-    rels: &[u64; codes::RELATION_SETS],
-    first: &mut [u64; 64],
-    last: &mut [u64; 64],
-    follow: &mut [u64; 4096],
-    letters: &mut [u64; 16],
-    parts: &mut [u64; 2048],
-    kind: u64,
-    top: Top,
-) -> Ran
-    requires { ⌜ Fits (now first) (now last) (now follow) (now letters) (now parts) top
-        × (length (now codes) ≡ length (now next)) × (length (now ops) ≡ length (now next)) × (length (now xs) ≡ length (now next))
-        × (length (now next) ≤ 4096) × Onward (now next) ⌝ }
-    ensures { λ r. ⌜ Fits (now (first .exit)) (now (last .exit)) (now (follow .exit)) (now (letters .exit)) (now (parts .exit)) (r .top)
-        × (r .count ≡ length (startsOf kind (now (codes .entry))))
-        × ((is : List Item) → Jumps is (now (ops .entry)) (now (xs .entry)) (now (next .entry))
-        → machineIn (now (first .exit)) (now (last .exit)) (now (follow .exit)) (now (letters .exit)) (now (parts .exit)) (r .top)
-        ≡ executeAll (now (rels .entry)) is (startsOf kind (now (codes .entry)))
-        (machineIn (now (first .entry)) (now (last .entry)) (now (follow .entry)) (now (letters .entry)) (now (parts .entry)) top)) ⌝ }
+// Whether line l, counted from 0, counts as an assumption: it is not left out.
+fn line_counts(codes: &[u64], needs: &[u64], l: usize) -> bool
+    requires { ⌜ l ≤ length (now codes) ⌝ }
+    ensures { λ r. ⌜ r ≡ countsIn (now (codes .entry)) (now (needs .entry)) l ⌝ }
 {
-    let mut t = top;
+    let w = word(needs, codes.len() + codes::RELATION_SETS + l / 64);
+    !bits::member(w, l % 64)
+}
+
+// Whether the expression that ends with `code` in line l is one of those that end with `kind` and count.
+fn is_one(codes: &[u64], needs: &[u64], code: u64, kind: u64, l: usize) -> bool
+    requires { ⌜ l ≤ length (now codes) ⌝ }
+    ensures { λ r. ⌜ r ≡ (eqb code kind && countsIn (now (codes .entry)) (now (needs .entry)) l) ⌝ }
+{
+    if code == kind {
+        return line_counts(codes, needs, l);
+    }
+    false
+}
+
+// The expressions that end with the code `kind`, of the lines that count as assumptions, one after another, and how many there were.
+fn run_kind(
+    codes: &[u64],
+    needs: &[u64],
+    kind: u64,
+    table: &mut [u64; TABLE],
+    parts: &mut [u64; STACK],
+) -> usize
+    ensures { λ r. ⌜ (r ≡ length (startsOf (countsIn (now (codes .entry)) (now (needs .entry))) kind (now (codes .entry))))
+        × (machineIn (now (table .exit)) (now (parts .exit))
+        ≡ executeAll (setsIn (now (codes .entry)) (now (needs .entry))) (itemsIn (now (codes .entry)) (now (needs .entry)))
+        (startsOf (countsIn (now (codes .entry)) (now (needs .entry))) kind (now (codes .entry)))
+        (machineIn (now (table .entry)) (now (parts .entry)))) ⌝ }
+{
     let mut count = 0;
+    let mut line = 0;
     let mut start = 0;
     let mut i = 0;
     while i < codes.len() {
@@ -153,103 +129,44 @@ pub fn run_kind(
         if code < codes::LINE {
             continue;
         }
-        if code != kind {
+        let one = is_one(codes, needs, code, kind, line);
+        line += 1;
+        if !one {
             start = i;
             continue;
         }
-        t = run_from(
-            ops,
-            xs,
-            next,
-            rels,
-            first,
-            last,
-            follow,
-            letters,
-            parts,
-            start,
-            t,
-        );
+        run_from(codes, needs, table, parts, start);
         count += 1;
         start = i;
     }
-    Ran { top: t, count }
+    count
 }
 
 // The two parts on top united, n times.
-fn unite_times(
-    rels: &[u64; codes::RELATION_SETS],
-    first: &mut [u64; 64],
-    last: &mut [u64; 64],
-    follow: &mut [u64; 4096],
-    letters: &mut [u64; 16],
-    parts: &mut [u64; 2048],
-    n: usize,
-    top: Top,
-) -> Top
-    requires { ⌜ Fits (now first) (now last) (now follow) (now letters) (now parts) top ⌝ }
-    ensures { λ r. ⌜ Fits (now (first .exit)) (now (last .exit)) (now (follow .exit)) (now (letters .exit)) (now (parts .exit)) r
-        × (machineIn (now (first .exit)) (now (last .exit)) (now (follow .exit)) (now (letters .exit)) (now (parts .exit)) r
-        ≡ unitedTimes n
-        (machineIn (now (first .entry)) (now (last .entry)) (now (follow .entry)) (now (letters .entry)) (now (parts .entry)) top)) ⌝ }
+fn unite_times(parts: &mut [u64; STACK], n: usize)
+    ensures { λ r. ⌜ ((t : List ℕ) → machineIn t (now (parts .exit)) ≡ unitedTimes n (machineIn t (now (parts .entry)))) ⌝ }
 {
-    let mut t = top;
     let mut left = n;
     while 0 < left {
-        t = step(UNION, 0, rels, first, last, follow, letters, parts, t);
+        side_parts::unite(parts);
         left -= 1;
     }
-    t
 }
 
-// The expressions that end with the code `kind`, united; of none `[false]`.
+// The expressions that end with the code `kind`, of the lines that count as assumptions, united; of none `[false]`.
 pub fn run_union(
     codes: &[u64],
-    ops: &[u64],
-    xs: &[u64],
-    next: &[u64],
-    rels: &[u64; codes::RELATION_SETS],
-    first: &mut [u64; 64],
-    last: &mut [u64; 64],
-    follow: &mut [u64; 4096],
-    letters: &mut [u64; 16],
-    parts: &mut [u64; 2048],
+    needs: &[u64],
     kind: u64,
-    top: Top,
-) -> Top
-    requires { ⌜ Fits (now first) (now last) (now follow) (now letters) (now parts) top
-        × (length (now codes) ≡ length (now next)) × (length (now ops) ≡ length (now next)) × (length (now xs) ≡ length (now next))
-        × (length (now next) ≤ 4096) × Onward (now next) ⌝ }
-    ensures { λ r. ⌜ Fits (now (first .exit)) (now (last .exit)) (now (follow .exit)) (now (letters .exit)) (now (parts .exit)) r
-        × ((is : List Item) → Jumps is (now (ops .entry)) (now (xs .entry)) (now (next .entry))
-        → machineIn (now (first .exit)) (now (last .exit)) (now (follow .exit)) (now (letters .exit)) (now (parts .exit)) r
-        ≡ executeUnion (now (rels .entry)) is (startsOf kind (now (codes .entry)))
-        (machineIn (now (first .entry)) (now (last .entry)) (now (follow .entry)) (now (letters .entry)) (now (parts .entry)) top)) ⌝ }
+    table: &mut [u64; TABLE],
+    parts: &mut [u64; STACK],
+)
+    ensures { λ r. ⌜ machineIn (now (table .exit)) (now (parts .exit))
+        ≡ executeUnion (setsIn (now (codes .entry)) (now (needs .entry))) (itemsIn (now (codes .entry)) (now (needs .entry)))
+        (startsOf (countsIn (now (codes .entry)) (now (needs .entry))) kind (now (codes .entry)))
+        (machineIn (now (table .entry)) (now (parts .entry))) ⌝ }
 {
-    let ran = run_kind(
-        codes,
-        ops,
-        xs,
-        next,
-        rels,
-        first,
-        last,
-        follow,
-        letters,
-        parts,
-        kind,
-        top,
-    );
-    let none = step(
-        TESTED,
-        0,
-        rels,
-        first,
-        last,
-        follow,
-        letters,
-        parts,
-        ran.top,
-    );
-    unite_times(rels, first, last, follow, letters, parts, ran.count, none)
+    let n = run_kind(codes, needs, kind, table, parts);
+    side_parts::give(parts, 0);
+    unite_times(parts, n);
 }

@@ -1,6 +1,12 @@
--- Ranges of occurrences, and followers.
-pub mod Ranges
-pub mod Joined
--- Parts in sequence and repeated; a new occurrence.
-pub mod Parts
-pub mod NewOccurrence
+-- Changes of a table, one after another; what stands at a place behind them.
+pub mod Walks
+pub mod EachNumber
+pub mod Changes
+pub mod Marks
+-- The bits of a range.
+pub mod RangeSets
+-- The table of a side shows its expression: while it is built, and in the end.
+pub mod Shows
+pub mod ShowsJoined
+pub mod ShowsRepeated
+pub mod SideTable

@@ -1,2 +1,3 @@
--- The occurrence tables in memory.
-pub mod Occurrences
+-- The table of an expression, and how it is changed in place.
+pub mod SideTable
+pub mod InPlace

@@ -1,138 +1,155 @@
-// The occurrence tables of an expression in lent memory, changed in place from part to part. (Document 01, "Standings".)
-ghost use Prim.Native.Nat.{_+_, _*_, _≤_, _<_};
+// The table of a side in lent memory, changed in place from part to part of its expression. (Document 01, "Standings".) The layout is that of
+// `specs/SideTable.antt`.
+ghost use Prim.Native.Nat.{_+_, _≤_, _<_};
 ghost use mathlib.Core.Path.{_≡_};
-ghost use lib.ListN.{length, set};
-ghost use Rattle.side_tables.specs.Occurrences.{cut, joined, lettered};
-ghost use Rattle.words.specs.Memory.{words};
+ghost use lib.ListN.{length};
+ghost use Rattle.kat.specs.Lists.{upto};
+ghost use Rattle.bits.specs.Sets.{members};
+ghost use Rattle.claims.specs.Query.{bit};
+ghost use Rattle.words.specs.Memory.{forEach};
+ghost use Rattle.side_tables.specs.InPlace.{rangeSet, putInto, joinedAt, joined, keptIf, cutAt, cut, markedAt, addedAt, letteredAt, added, sequenced, iterated};
 
-// The sets from place lo to before hi keep only what is in s.
-fn cut_sets(sets: &mut [u64], lo: usize, hi: usize, s: u64)
-    ensures { λ r. ⌜ now (sets .exit) ≡ cut (now (sets .entry)) lo hi s ⌝ }
+// Words of a table: the steps, 65 for each of 64 atoms; the ends, one for each atom; the letters, one for each of 16 relations; and one.
+pub const ENDS: usize = 4160;
+
+pub const LETTERS: usize = 4224;
+
+pub const NULL: usize = 4240;
+
+pub const TABLE: usize = 4241;
+
+// The bits from lo to before hi.
+fn range_set(lo: usize, hi: usize) -> u64
+    ensures { λ r. ⌜ r ≡ rangeSet lo hi ⌝ }
 {
-    let end = words::least(hi, sets.len());
-    let mut i = lo;
-    while i < end {
-        sets[i] = sets[i] & s;
-        i += 1;
+    bits::below(hi) & (bits::ALL - bits::below(lo))
+}
+
+// The set f is put into the words at base + k, for each k of s.
+fn put_into(table: &mut [u64], base: usize, f: u64, s: u64)
+    requires { ⌜ base + 64 ≤ length (now table) ⌝ }
+    ensures { λ r. ⌜ now (table .exit) ≡ forEach (putInto base f) (members s) (now (table .entry)) ⌝ }
+{
+    let mut left = s;
+    while left != 0 {
+        let k = u64::trailing_zeros(left) as usize;
+        table[base + k] = table[base + k] | f;
+        left = left & (left - 1);
     }
 }
 
-// In row p, the occurrences from start to before end may follow.
-fn join_row(first: &[u64], last: &[u64], follow: &mut [u64], p: usize, start: usize, end: usize)
-    requires { ⌜ (p < 64) × (end ≤ 64) × (length (now first) ≡ 64) × (length (now last) ≡ 64) × (length (now follow) ≡ 4096) ⌝ }
-    ensures { λ r. ⌜ now (follow .exit) ≡ joined (now (first .entry)) (now (last .entry)) (now (follow .entry)) p (p + 1) start end ⌝ }
+// At atom a: those of `to` that may be first may also come after those of `from` that may be last.
+fn join_at(table: &mut [u64], from: u64, to: u64, a: usize)
+    requires { ⌜ (a < 64) × (length (now table) ≡ 4241) ⌝ }
+    ensures { λ r. ⌜ now (table .exit) ≡ joinedAt from to a (now (table .entry)) ⌝ }
 {
-    let set = last[p];
-    let mut q = start;
-    while q < end {
-        follow[p * 64 + q] = follow[p * 64 + q] | (set & first[q]);
-        q += 1;
+    let f = table[65 * a] & to;
+    let s = table[ENDS + a] & from;
+    put_into(table, 65 * a + 1, f, s);
+}
+
+// At every atom.
+fn join(table: &mut [u64], from: u64, to: u64)
+    requires { ⌜ length (now table) ≡ 4241 ⌝ }
+    ensures { λ r. ⌜ now (table .exit) ≡ joined from to (now (table .entry)) ⌝ }
+{
+    let mut a = 0;
+    while a < 64 {
+        join_at(table, from, to, a);
+        a += 1;
     }
 }
 
-// In the rows from lo to before mid, the occurrences from start to before end may follow.
-fn join_rows(
-    first: &[u64],
-    last: &[u64],
-    follow: &mut [u64],
-    lo: usize,
-    mid: usize,
-    start: usize,
-    end: usize,
-)
-    requires { ⌜ (mid ≤ 64) × (end ≤ 64) × (length (now first) ≡ 64) × (length (now last) ≡ 64) × (length (now follow) ≡ 4096) ⌝ }
-    ensures { λ r. ⌜ now (follow .exit) ≡ joined (now (first .entry)) (now (last .entry)) (now (follow .entry)) lo mid start end ⌝ }
+// s where `on`, and else without what is in r.
+fn kept_if(on: bool, r: u64, s: u64) -> u64
+    ensures { λ u. ⌜ u ≡ keptIf on r s ⌝ }
 {
-    let mut p = lo;
-    while p < mid {
-        join_row(first, last, follow, p, start, end);
-        p += 1;
+    if on { s } else { s & (bits::ALL - r) }
+}
+
+// At atom a: where it is not in x none of `to` is first, and where it is not in y none of `from` is last.
+fn cut_at(table: &mut [u64], from: u64, to: u64, x: u64, y: u64, a: usize)
+    requires { ⌜ (a < 64) × (length (now table) ≡ 4241) ⌝ }
+    ensures { λ r. ⌜ now (table .exit) ≡ cutAt from to x y a (now (table .entry)) ⌝ }
+{
+    let first = kept_if(bits::member(x, a), to, table[65 * a]);
+    table[65 * a] = first;
+    let last = kept_if(bits::member(y, a), from, table[ENDS + a]);
+    table[ENDS + a] = last;
+}
+
+// At every atom.
+fn cut_ends(table: &mut [u64], from: u64, to: u64, x: u64, y: u64)
+    requires { ⌜ length (now table) ≡ 4241 ⌝ }
+    ensures { λ r. ⌜ now (table .exit) ≡ cut from to x y (now (table .entry)) ⌝ }
+{
+    let mut a = 0;
+    while a < 64 {
+        cut_at(table, from, to, x, y, a);
+        a += 1;
     }
 }
 
-// Two parts in sequence, of the places from lo to before mid and from mid to before hi; x and y are the sets of the atoms that are words
-// of the left and of the right part. An occurrence of the right may follow one of the left; one of the right is first only at an atom
-// of x, and one of the left last only at an atom of y.
-pub fn sequence(
-    first: &mut [u64; 64],
-    last: &mut [u64; 64],
-    follow: &mut [u64; 4096],
-    lo: usize,
-    mid: usize,
-    hi: usize,
-    x: u64,
-    y: u64,
-)
-    ensures { λ r. ⌜ (now (first .exit) ≡ cut (now (first .entry)) mid hi x)
-        × (now (last .exit) ≡ cut (now (last .entry)) lo mid y)
-        × (now (follow .exit) ≡ joined (now (first .entry)) (now (last .entry)) (now (follow .entry)) lo mid mid hi) ⌝ }
+// The word at place i with bit k in it, where `on`.
+fn mark(table: &mut [u64], i: usize, k: usize, on: bool)
+    ensures { λ r. ⌜ now (table .exit) ≡ markedAt i k on (now (table .entry)) ⌝ }
 {
-    let rows = words::least(mid, 64);
-    let columns = words::least(hi, 64);
-    join_rows(first, last, follow, lo, rows, mid, columns);
-    cut_sets(first, mid, hi, x);
-    cut_sets(last, lo, mid, y);
+    let w = bits::marked(words::word(table, i), k, on);
+    words::store(table, i, w);
 }
 
-// The part of the places from lo to before hi one or more times: each of its occurrences may follow each other.
-pub fn iterate(first: &[u64; 64], last: &[u64; 64], follow: &mut [u64; 4096], lo: usize, hi: usize)
-    ensures { λ r. ⌜ now (follow .exit) ≡ joined (now (first .entry)) (now (last .entry)) (now (follow .entry)) lo hi lo hi ⌝ }
+// At every atom: the occurrence with bit k may be first, last or after itself where the atom is in f, l or g.
+fn add_at_atoms(table: &mut [u64], k: usize, f: u64, l: u64, g: u64)
+    requires { ⌜ k < 64 ⌝ }
+    ensures { λ r. ⌜ now (table .exit) ≡ forEach (addedAt k f l g) (upto 0 64) (now (table .entry)) ⌝ }
 {
-    let end = words::least(hi, 64);
-    join_rows(first, last, follow, lo, end, lo, end);
+    let mut a = 0;
+    while a < 64 {
+        mark(table, 65 * a, k, bits::member(f, a));
+        mark(table, ENDS + a, k, bits::member(l, a));
+        mark(table, 65 * a + 1 + k, k, bits::member(g, a));
+        a += 1;
+    }
 }
 
-// The occurrence at place p reads the relations of the set s.
-fn mark(letters: &mut [u64], p: usize, s: u64)
-    ensures { λ r. ⌜ now (letters .exit) ≡ lettered (now (letters .entry)) p s ⌝ }
+// It reads the relations of s.
+fn add_letters(table: &mut [u64], k: usize, s: u64)
+    ensures { λ r. ⌜ now (table .exit) ≡ forEach (letteredAt k s) (upto 0 16) (now (table .entry)) ⌝ }
 {
     let mut r = 0;
-    while r < letters.len() {
-        let on = bits::member(s, r);
-        letters[r] = bits::marked(letters[r], p, on);
+    while r < 16 {
+        mark(table, LETTERS + r, k, bits::member(s, r));
         r += 1;
     }
 }
 
-// All tables empty.
-pub fn clear_tables(
-    first: &mut [u64; 64],
-    last: &mut [u64; 64],
-    follow: &mut [u64; 4096],
-    letters: &mut [u64; 16],
-)
-    ensures { λ r. ⌜ (now (first .exit) ≡ words 64 (λ k. 0))
-        × (now (last .exit) ≡ words 64 (λ k. 0))
-        × (now (follow .exit) ≡ words 4096 (λ k. 0))
-        × (now (letters .exit) ≡ words 16 (λ k. 0)) ⌝ }
+// A new occurrence with bit k, of which there are 64: at the atoms of f it may be read first, at those of l last, at those of g after itself,
+// and it reads the relations of the set s.
+pub fn new_occurrence(table: &mut [u64; TABLE], k: usize, f: u64, l: u64, g: u64, s: u64)
+    ensures { λ r. ⌜ now (table .exit) ≡ added k f l g s (now (table .entry)) ⌝ }
 {
-    words::clear(first);
-    words::clear(last);
-    words::clear(follow);
-    words::clear(letters);
+    if k < 64 {
+        add_at_atoms(table, k, f, l, g);
+        add_letters(table, k, s);
+    }
 }
 
-// A new occurrence at place k: at the atoms of f it may be read first, at those of l last, at those of g after itself, and it reads the
-// relations of the set s.
-pub fn new_occurrence(
-    first: &mut [u64; 64],
-    last: &mut [u64; 64],
-    follow: &mut [u64; 4096],
-    letters: &mut [u64; 16],
-    k: usize,
-    f: u64,
-    l: u64,
-    g: u64,
-    s: u64,
-)
-    ensures { λ r. ⌜ (now (first .exit) ≡ set (now (first .entry)) k f)
-        × (now (last .exit) ≡ set (now (last .entry)) k l)
-        × (now (follow .exit) ≡ set (now (follow .entry)) (k * 64 + k) g)
-        × (now (letters .exit) ≡ lettered (now (letters .entry)) k s) ⌝ }
+// Two parts in sequence, of the bits from lo to before mid and from mid to before hi; x and y are the sets of the atoms that are words of
+// the left and of the right part. An occurrence of the right may follow one of the left; one of the right is first only at an atom
+// of x, and one of the left last only at an atom of y.
+pub fn sequence(table: &mut [u64; TABLE], lo: usize, mid: usize, hi: usize, x: u64, y: u64)
+    ensures { λ r. ⌜ now (table .exit) ≡ sequenced lo mid hi x y (now (table .entry)) ⌝ }
 {
-    let place = words::least(k, 64);
-    words::store(first, k, f);
-    words::store(last, k, l);
-    words::store(follow, place * 65, g);
-    mark(letters, k, s);
+    let from = range_set(lo, mid);
+    let to = range_set(mid, hi);
+    join(table, from, to);
+    cut_ends(table, from, to, x, y);
+}
+
+// The part of the bits from lo to before hi one or more times: each of its occurrences may follow each other.
+pub fn iterate(table: &mut [u64; TABLE], lo: usize, hi: usize)
+    ensures { λ r. ⌜ now (table .exit) ≡ iterated lo hi (now (table .entry)) ⌝ }
+{
+    let s = range_set(lo, hi);
+    join(table, s, s);
 }

@@ -15,7 +15,7 @@ use Rattle.claims.proofs.SetBytes.{RisingWithin, set-read-back}
 use Rattle.claims.proofs.Letters.{Fits}
 use Rattle.bits.specs.Sets.{members}
 use Rattle.bits.proofs.Members.{number-in}
-use Rattle.side_turned.specs.SideTable.{sideTable}
+use Rattle.side_tables.specs.SideTable.{sideTable}
 use Rattle.standings.specs.Steps.{nullAt, aloneWords}
 use Rattle.standings.proofs.Tables.{null-shown}
 

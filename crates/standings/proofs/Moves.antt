@@ -21,7 +21,7 @@ use Rattle.bits.specs.Sets.{row, unionRows}
 use Rattle.bits.proofs.Bit.{bit-none, bit-above, bit-and, bit-ext, bits-equal}
 use Rattle.bits.proofs.Members.{number-none}
 use Rattle.bits.proofs.Rows.{bit-union, meets-some}
-use Rattle.side_turned.specs.SideTable.{sideTable}
+use Rattle.side_tables.specs.SideTable.{sideTable}
 use Rattle.standings.specs.Steps.{readers, enders, stepFrom, stepSet, endsSet, leads}
 use Rattle.standings.proofs.Tables.{from-small, from-bit}
 

@@ -22,8 +22,8 @@ use Rattle.bits.proofs.Bit.{bit-and}
 use Rattle.bits.proofs.Members.{number-in, number-filter, number-wide, some-shift}
 use Rattle.bits.proofs.Rows.{bit-union, meets-some}
 use Rattle.side_atoms.proofs.Atoms.{bit-of, number-small, atoms-bit}
-use Rattle.side_turned.specs.SideTable.{occurrenceSet, sideTable}
-use Rattle.side_turned.proofs.SideTable.{table-step, table-end, table-letter, table-null}
+use Rattle.side_tables.specs.SideTable.{occurrenceSet, sideTable}
+use Rattle.side_tables.proofs.SideTable.{table-step, table-end, table-letter, table-null}
 use Rattle.standings.specs.Steps.{nextSet, readers, enders, stepFrom, stepSet, endsSet, nullAt}
 
 -- a test over the occurrences of a word is the test over its members, counted from 0

@@ -1,4 +1,4 @@
--- One letter on, for a set of occurrences as a machine word, by the table of a side (`side_turned`'s `sideTable`): bit p - 1 for
+-- One letter on, for a set of occurrences as a machine word, by the table of a side (`side_tables`'s `sideTable`): bit p - 1 for
 -- occurrence p. (Document 01, "Standings".)
 -- Assumes nothing.
 use Prim.Native.Nat.{ℕ, _+_, _-_, _*_}

@@ -16,7 +16,7 @@ use borrow.Author.Tests.{eqb-true, eqb-false, ltb-true, leb-true, lt-ltb, le-ltb
 use Rattle.kat.specs.Lists.{upto}
 use Rattle.kat.proofs.Bools.{bool-cases, le-or-lt, and-left, and-right, and-both, bool-ext}
 use Rattle.kat.proofs.Sets.{at-upto, upto-length}
-use Rattle.words.specs.Memory.{words, between, changed}
+use Rattle.words.specs.Memory.{words, between, changed, copied}
 
 pub words-length : (n : ℕ) (f : ℕ → ℕ) → length (words n f) ≡ n
 unfolding words
@@ -150,3 +150,12 @@ module _ (g : ℕ → ℕ) (ws : List ℕ) where
 
   pub fill-end : (e i : ℕ) → length ws ≤ i → changed (λ k w. g k) ws i e ≡ ws
   fill-end e i h = changed-end (λ k w. g k) ws e i (omega arith)
+
+-- as many words as there are places
+pub copied-all : (from ws : List ℕ) → length from ≡ length ws → copied from ws ≡ from
+unfolding copied
+copied-all from ws e =
+    words-ext (changed (λ k w. getD from k 0) ws 0 (length from)) (length from) (λ k. getD from k 0)
+    (changed-length (λ k w. getD from k 0) ws (length from) 0 ∙ sym e)
+    (λ k h. changed-in (λ k w. getD from k 0) ws (length from) 0 k (omega arith) (omega arith) h)
+    ∙ sym (words-ext from (length from) (λ k. getD from k 0) refl (λ k h. refl))

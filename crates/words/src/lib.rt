@@ -1,8 +1,8 @@
-// Plain memory: a word at a place, a store, all words 0, and two small functions on places.
+// Plain memory: a word at a place, a store, all words 0, words copied, and two small functions on places.
 ghost use Prim.Native.Nat.{_-_, min};
 ghost use mathlib.Core.Path.{_≡_};
 ghost use lib.ListN.{length, getD, set};
-ghost use Rattle.words.specs.Memory.{zeros};
+ghost use Rattle.words.specs.Memory.{zeros, copied};
 
 // The word at a place, which past the end is 0.
 pub fn word(ws: &[u64], i: usize) -> u64
@@ -41,6 +41,18 @@ pub fn clear(out: &mut [u64])
     let mut i = 0;
     while i < out.len() {
         out[i] = 0;
+        i += 1;
+    }
+}
+
+// Words copied, as many as both have.
+pub fn copy(from: &[u64], to: &mut [u64])
+    ensures { λ r. ⌜ now (to .exit) ≡ copied (now (from .entry)) (now (to .entry)) ⌝ }
+{
+    let end = least(from.len(), to.len());
+    let mut i = 0;
+    while i < end {
+        to[i] = from[i];
         i += 1;
     }
 }

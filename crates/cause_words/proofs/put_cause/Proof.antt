@@ -12,115 +12,115 @@ slice-aggregate-put-text : tie.Need-slice-aggregate-put-text
 slice-aggregate-put-text c = refl
 
 put-text-requires : tie.Need-put-text-requires
-put-text-requires c κs = c .before .before .before .before .before .pre
+put-text-requires c κs = search needs
 
 slice-aggregate-put-text-2 : tie.Need-slice-aggregate-put-text-2
 slice-aggregate-put-text-2 c = refl
 
 put-text-requires-2 : tie.Need-put-text-requires-2
-put-text-requires-2 c κs = c .before .before .before .before .before .pre
+put-text-requires-2 c κs = search needs
 
 slice-aggregate-put-text-3 : tie.Need-slice-aggregate-put-text-3
 slice-aggregate-put-text-3 c = refl
 
 put-text-requires-3 : tie.Need-put-text-requires-3
-put-text-requires-3 c κs = c .before .before .before .before .before .pre
+put-text-requires-3 c κs = search needs
 
 slice-aggregate-put-text-4 : tie.Need-slice-aggregate-put-text-4
 slice-aggregate-put-text-4 c = refl
 
 put-text-requires-4 : tie.Need-put-text-requires-4
-put-text-requires-4 c κs = c .before .before .before .before .before .pre
+put-text-requires-4 c κs = search needs
 
 slice-aggregate-put-text-5 : tie.Need-slice-aggregate-put-text-5
 slice-aggregate-put-text-5 c = refl
 
 put-text-requires-5 : tie.Need-put-text-requires-5
-put-text-requires-5 c κs = c .before .before .before .before .before .pre
+put-text-requires-5 c κs = search needs
 
 slice-aggregate-put-text-6 : tie.Need-slice-aggregate-put-text-6
 slice-aggregate-put-text-6 c = refl
 
 put-text-requires-6 : tie.Need-put-text-requires-6
-put-text-requires-6 c κs = c .before .before .before .before .before .pre
+put-text-requires-6 c κs = search needs
 
 slice-aggregate-put-text-7 : tie.Need-slice-aggregate-put-text-7
 slice-aggregate-put-text-7 c = refl
 
 put-text-requires-7 : tie.Need-put-text-requires-7
-put-text-requires-7 c κs = c .before .before .before .before .before .pre
+put-text-requires-7 c κs = search needs
 
 slice-aggregate-put-text-8 : tie.Need-slice-aggregate-put-text-8
 slice-aggregate-put-text-8 c = refl
 
 put-text-requires-8 : tie.Need-put-text-requires-8
-put-text-requires-8 c κs = c .before .before .before .before .before .pre
+put-text-requires-8 c κs = search needs
 
 slice-aggregate-put-text-9 : tie.Need-slice-aggregate-put-text-9
 slice-aggregate-put-text-9 c = refl
 
 put-text-requires-9 : tie.Need-put-text-requires-9
-put-text-requires-9 c κs = c .before .before .before .before .before .pre
+put-text-requires-9 c κs = search needs
 
 slice-aggregate-put-text-10 : tie.Need-slice-aggregate-put-text-10
 slice-aggregate-put-text-10 c = refl
 
 put-text-requires-10 : tie.Need-put-text-requires-10
-put-text-requires-10 c κs = c .before .before .before .before .before .pre
+put-text-requires-10 c κs = search needs
 
 slice-aggregate-put-text-11 : tie.Need-slice-aggregate-put-text-11
 slice-aggregate-put-text-11 c = refl
 
 put-text-requires-11 : tie.Need-put-text-requires-11
-put-text-requires-11 c κs = c .before .before .before .before .before .pre
+put-text-requires-11 c κs = search needs
 
 slice-aggregate-put-text-12 : tie.Need-slice-aggregate-put-text-12
 slice-aggregate-put-text-12 c = refl
 
 put-text-requires-12 : tie.Need-put-text-requires-12
-put-text-requires-12 c κs = c .before .before .before .before .before .pre
+put-text-requires-12 c κs = search needs
 
 slice-aggregate-put-text-13 : tie.Need-slice-aggregate-put-text-13
 slice-aggregate-put-text-13 c = refl
 
 put-text-requires-13 : tie.Need-put-text-requires-13
-put-text-requires-13 c κs = c .before .before .before .before .before .pre
+put-text-requires-13 c κs = search needs
 
 slice-aggregate-put-text-14 : tie.Need-slice-aggregate-put-text-14
 slice-aggregate-put-text-14 c = refl
 
 put-text-requires-14 : tie.Need-put-text-requires-14
-put-text-requires-14 c κs = c .before .before .before .before .before .pre
+put-text-requires-14 c κs = search needs
 
 slice-aggregate-put-text-15 : tie.Need-slice-aggregate-put-text-15
 slice-aggregate-put-text-15 c = refl
 
 put-text-requires-15 : tie.Need-put-text-requires-15
-put-text-requires-15 c κs = c .before .before .before .before .before .pre
+put-text-requires-15 c κs = search needs
 
 slice-aggregate-put-text-16 : tie.Need-slice-aggregate-put-text-16
 slice-aggregate-put-text-16 c = refl
 
 put-text-requires-16 : tie.Need-put-text-requires-16
-put-text-requires-16 c κs = c .before .before .before .before .before .pre
+put-text-requires-16 c κs = search needs
 
 slice-aggregate-put-text-17 : tie.Need-slice-aggregate-put-text-17
 slice-aggregate-put-text-17 c = refl
 
 put-text-requires-17 : tie.Need-put-text-requires-17
-put-text-requires-17 c κs = c .before .before .before .before .before .pre
+put-text-requires-17 c κs = search needs
 
 slice-aggregate-put-text-18 : tie.Need-slice-aggregate-put-text-18
 slice-aggregate-put-text-18 c = refl
 
 put-text-requires-18 : tie.Need-put-text-requires-18
-put-text-requires-18 c κs = c .before .before .before .before .before .pre
+put-text-requires-18 c κs = search needs
 
 slice-aggregate-put-text-19 : tie.Need-slice-aggregate-put-text-19
 slice-aggregate-put-text-19 c = refl
 
 put-text-requires-19 : tie.Need-put-text-requires-19
-put-text-requires-19 c κs = c .before .before .before .before .before .pre
+put-text-requires-19 c κs = search needs
 
 same-length : tie.Need-same-length
 same-length c = search needs

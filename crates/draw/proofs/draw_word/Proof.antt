@@ -15,6 +15,12 @@ returns c =
     let a = c .before .before .before .before .args in
     draws-large (λ k. bytesOf (a .word .now) k (a .closed) (a .relations)) (a .out .now) _ _ (c .before .event-count .ensures) (c .if1 .taken)
 
+cast-graph-length : tie.Need-cast-graph-length
+cast-graph-length c = search needs
+
+cast-graph-length-2 : tie.Need-cast-graph-length-2
+cast-graph-length-2 c = search needs
+
 graph-length-requires : tie.Need-graph-length-requires
 graph-length-requires c κs = search needs
 
@@ -23,6 +29,12 @@ returns-2 c =
     let a = c .before .before .before .before .before .before .args in
     draws-short (λ k. bytesOf (a .word .now) k (a .closed) (a .relations)) (a .out .now) _ _ (c .before .before .before .event-count .ensures) (omega arith)
     _ (c .before .graph-length .ensures) (c .if2 .taken)
+
+cast-put-graph : tie.Need-cast-put-graph
+cast-put-graph c = search needs
+
+cast-put-graph-2 : tie.Need-cast-put-graph-2
+cast-put-graph-2 c = search needs
 
 put-graph-requires : tie.Need-put-graph-requires
 put-graph-requires c κs = search needs
@@ -43,8 +55,12 @@ draw-word-spec =
     (tie.spec
     event-count-requires
     returns
+    cast-graph-length
+    cast-graph-length-2
     graph-length-requires
     returns-2
+    cast-put-graph
+    cast-put-graph-2
     put-graph-requires
     same-length
     returns-3)

@@ -16,7 +16,7 @@ use Rattle.draw_bytes.proofs.graph_length.Tie as tie
 
 abbrev Inv-loop : tie.InvT-loop
 Inv-loop word n closed relations sum₀ r₀ sum r =
-    (r ≤ relations) × (sum ≤ 256 + 24576 * r)
+    (r ≤ relations) × (sum ≤ 1020 + 97920 * r)
     × (sum + length (joined (relationBytes word n closed) (upto r relations)) ≡ length (bytesOf word n closed relations))
 
 abbrev μ-loop : tie.MeasureT-loop

@@ -9,6 +9,7 @@ use Rattle.claims.specs.GraphWriting.{joined}
 use Rattle.draw_bytes.specs.Bytes.{relationBytes, edgesBytes}
 use Rattle.draw_fields.proofs.Pieces.{Left, range-more, range-end}
 use Rattle.draw_bytes.proofs.Relations.{edges-begin}
+use borrow.Author.Needs.{needs}
 use Rattle.draw_bytes.proofs.put_edges.Statement.{statement}
 use Rattle.draw_bytes.proofs.put_edges.Tie as tie
 
@@ -19,15 +20,16 @@ Inv-loop out₀ at word n closed relations to₀ r₀ out to r =
 abbrev μ-loop : tie.MeasureT-loop
 μ-loop out₀ at word n closed relations to₀ r₀ out to r = relations - r
 
+least-requires : tie.Need-least-requires Inv-loop μ-loop
+least-requires c κs = search needs
+
 loop-holds : tie.Need-loop-holds Inv-loop μ-loop
 loop-holds c =
-    let a = c .before .before .args in
-    (omega arith, edges-begin (a .out .now) (a .at) (a .word .now) (a .n) (a .closed) (a .relations) (c .before .before .pre .0))
+    let a = c .before .before .before .args in
+    (omega arith, edges-begin (a .out .now) (a .at) _ (a .word .now) (a .n) (a .closed) (a .relations) (c .least .ensures))
 
 put-relation-requires : tie.Need-put-relation-requires Inv-loop μ-loop
-put-relation-requires c κs =
-    let p = c .before .before .before .before .before .pre in
-    (c .before .before .loop .inv .1 .within, p .1, omega arith)
+put-relation-requires c κs = search needs
 
 add-r : tie.Need-add-r Inv-loop μ-loop
 add-r c = omega arith
@@ -38,7 +40,7 @@ loop-less c = omega arith
 loop-again : tie.Need-loop-again Inv-loop μ-loop
 loop-again c =
     let l = c .before .before .before .before .before .loop in
-    let a = c .before .before .before .before .before .before .before .before .args in (
+    let a = c .before .before .before .before .before .before .before .before .before .args in (
       omega arith,
       range-more (relationBytes (a .word .now) (a .n) (a .closed)) (l .r) (a .relations) (omega arith) (l .inv .1) _ refl
           (c .before .before .put-relation .ensures),
@@ -50,7 +52,7 @@ same-length c = c .before .loop .inv .1 .same-length
 returns : tie.Need-returns Inv-loop μ-loop
 returns c =
     let l = c .before .loop in
-    let a = c .before .before .before .before .args in
+    let a = c .before .before .before .before .before .args in
     range-end (relationBytes (a .word .now) (a .n) (a .closed)) (l .r) (a .relations) (omega arith) (l .inv .1)
 
 pub put-edges-spec : {M : Type 1} → statement M
@@ -59,6 +61,7 @@ put-edges-spec =
     (tie.spec
     Inv-loop
     μ-loop
+    least-requires
     loop-holds
     put-relation-requires
     add-r

@@ -8,9 +8,6 @@ use Rattle.draw_bytes.proofs.put_relation.Tie as tie
 member-requires : tie.Need-member-requires
 member-requires c κs = search needs
 
-slice-aggregate-relation-rows : tie.Need-slice-aggregate-relation-rows
-slice-aggregate-relation-rows c = search needs
-
 relation-rows-requires : tie.Need-relation-rows-requires
 relation-rows-requires c κs = search needs
 
@@ -25,9 +22,9 @@ same-length c = search needs
 
 returns : tie.Need-returns
 returns c =
-    let k = c .before .before .before .before .before .before in
-    let a = k .before .before .before .before .before .args in
-    puts-relation (a .word .now) (a .n) (a .closed) (a .r) _ _ (k .before .before .member .ensures) (k .relation-rows .ensures)
+    let k = c .before .before .before .before .before in
+    let a = k .before .before .before .before .args in
+    puts-relation (a .word .now) (a .n) (a .closed) (a .r) _ _ (k .before .member .ensures) (k .relation-rows .ensures)
     (c .before .before .put-rows .ensures)
 
 pub put-relation-spec : {M : Type 1} → statement M
@@ -35,7 +32,6 @@ put-relation-spec =
     tie.close
     (tie.spec
     member-requires
-    slice-aggregate-relation-rows
     relation-rows-requires
     slice-aggregate-put-rows
     put-rows-requires

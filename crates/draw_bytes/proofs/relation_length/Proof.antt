@@ -8,9 +8,6 @@ use Rattle.draw_bytes.proofs.relation_length.Tie as tie
 member-requires : tie.Need-member-requires
 member-requires c κs = search needs
 
-slice-aggregate-relation-rows : tie.Need-slice-aggregate-relation-rows
-slice-aggregate-relation-rows c = search needs
-
 relation-rows-requires : tie.Need-relation-rows-requires
 relation-rows-requires c κs = search needs
 
@@ -22,10 +19,10 @@ rows-length-requires c κs = search needs
 
 returns : tie.Need-returns
 returns c =
-    let k = c .before .before .before in
-    let a = k .before .before .before .before .args in (
+    let k = c .before .before in
+    let a = k .before .before .before .args in (
       c .rows-length .ensures .0,
-      relation-length (a .word .now) (a .n) (a .closed) (a .r) _ _ _ (k .before .before .member .ensures) (k .relation-rows .ensures)
+      relation-length (a .word .now) (a .n) (a .closed) (a .r) _ _ _ (k .before .member .ensures) (k .relation-rows .ensures)
           (c .rows-length .ensures .1 (a .r)),
     )
 
@@ -34,7 +31,6 @@ relation-length-spec =
     tie.close
     (tie.spec
     member-requires
-    slice-aggregate-relation-rows
     relation-rows-requires
     slice-aggregate-rows-length
     rows-length-requires

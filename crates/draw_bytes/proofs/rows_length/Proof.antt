@@ -25,6 +25,9 @@ loop-holds c =
     let a = c .before .args in
     (omega arith, omega arith, λ r. rows-count-begin r (a .n) (a .rows .now))
 
+cast-word : tie.Need-cast-word Inv-loop μ-loop
+cast-word c = omega arith
+
 word-requires : tie.Need-word-requires Inv-loop μ-loop
 word-requires c κs = search needs
 
@@ -63,6 +66,7 @@ rows-length-spec =
     Inv-loop
     μ-loop
     loop-holds
+    cast-word
     word-requires
     row-length-requires
     add-sum

@@ -6,15 +6,6 @@ use borrow.Author.Needs.{needs}
 use Rattle.draw_fields.proofs.put_edge.Statement.{statement}
 use Rattle.draw_fields.proofs.put_edge.Tie as tie
 
-cast-t7 : tie.Need-cast-t7
-cast-t7 c = search needs
-
-cast-t8 : tie.Need-cast-t8
-cast-t8 c = search needs
-
-cast-t9 : tie.Need-cast-t9
-cast-t9 c = search needs
-
 slice-aggregate-put-text : tie.Need-slice-aggregate-put-text
 slice-aggregate-put-text c = search needs
 
@@ -33,9 +24,6 @@ pub put-edge-spec : {M : Type 1} → statement M
 put-edge-spec =
     tie.close
     (tie.spec
-    cast-t7
-    cast-t8
-    cast-t9
     slice-aggregate-put-text
     put-text-requires
     same-length

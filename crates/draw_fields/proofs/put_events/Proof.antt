@@ -18,10 +18,16 @@ Inv-loop out₀ at word n to₀ i₀ out to i = (i ≤ n) × Left out₀ at (eve
 abbrev μ-loop : tie.MeasureT-loop
 μ-loop out₀ at word n to₀ i₀ out to i = n - i
 
+least-requires : tie.Need-least-requires Inv-loop μ-loop
+least-requires c κs = search needs
+
 loop-holds : tie.Need-loop-holds Inv-loop μ-loop
 loop-holds c =
-    let a = c .before .before .args in
-    (omega arith, events-begin (a .out .now) (a .at) (a .word .now) (a .n) (c .before .before .pre .0))
+    let a = c .before .before .before .args in
+    (omega arith, events-begin (a .out .now) (a .at) _ (a .word .now) (a .n) (c .least .ensures))
+
+cast-byte : tie.Need-cast-byte Inv-loop μ-loop
+cast-byte c = omega arith
 
 mul-byte : tie.Need-mul-byte Inv-loop μ-loop
 mul-byte c = search needs
@@ -30,7 +36,7 @@ byte-requires : tie.Need-byte-requires Inv-loop μ-loop
 byte-requires c κs = search needs
 
 put-event-requires : tie.Need-put-event-requires Inv-loop μ-loop
-put-event-requires c κs = c .before .before .before .loop .inv .1 .within
+put-event-requires c κs = search needs
 
 add-i : tie.Need-add-i Inv-loop μ-loop
 add-i c = omega arith
@@ -41,7 +47,7 @@ loop-less c = omega arith
 loop-again : tie.Need-loop-again Inv-loop μ-loop
 loop-again c =
     let l = c .before .before .before .before .before .before .loop in
-    let a = c .before .before .before .before .before .before .before .before .before .args in (
+    let a = c .before .before .before .before .before .before .before .before .before .before .args in (
       omega arith,
       range-more (anEvent (a .word .now)) (l .i) (a .n) (omega arith) (l .inv .1) _ (ap eventField (c .before .before .before .byte .ensures))
           (c .before .before .put-event .ensures),
@@ -53,7 +59,7 @@ same-length c = c .before .loop .inv .1 .same-length
 returns : tie.Need-returns Inv-loop μ-loop
 returns c =
     let l = c .before .loop in
-    let a = c .before .before .before .before .args in
+    let a = c .before .before .before .before .before .args in
     range-end (anEvent (a .word .now)) (l .i) (a .n) (omega arith) (l .inv .1)
 
 pub put-events-spec : {M : Type 1} → statement M
@@ -62,7 +68,9 @@ put-events-spec =
     (tie.spec
     Inv-loop
     μ-loop
+    least-requires
     loop-holds
+    cast-byte
     mul-byte
     byte-requires
     put-event-requires

@@ -23,18 +23,19 @@ abbrev μ-loop : tie.MeasureT-loop
 low : (c : tie.In-loop Inv-loop μ-loop) → Lowest 64 (c .before .loop .left)
 low c = lowest 64 (c .before .loop .left) (c .before .loop .inv .0) (c .loop-test .taken)
 
+least-requires : tie.Need-least-requires Inv-loop μ-loop
+least-requires c κs = search needs
+
 loop-holds : tie.Need-loop-holds Inv-loop μ-loop
 loop-holds c =
-    let a = c .before .args in
-    (search needs, row-begin (a .out .now) (a .at) (a .r) (a .x) (a .s) (c .before .pre .0))
+    let a = c .before .before .args in
+    (search needs, row-begin (a .out .now) (a .at) _ (a .r) (a .x) (a .s) (c .least .ensures))
 
 cast-y : tie.Need-cast-y Inv-loop μ-loop
 cast-y c = omega (arith, trailing-le 64 (c .before .loop .left))
 
 put-edge-requires : tie.Need-put-edge-requires Inv-loop μ-loop
-put-edge-requires c κs =
-    let p = c .before .before .before .before .pre in
-    (c .before .before .loop .inv .1 .within, omega arith, omega arith, omega (arith, low (c .before) .inside))
+put-edge-requires c κs = search needs
 
 sub-left : tie.Need-sub-left Inv-loop μ-loop
 sub-left c = omega arith
@@ -46,7 +47,7 @@ loop-again : tie.Need-loop-again Inv-loop μ-loop
 loop-again c =
     let k = c .before .before .before .before in
     let l = k .before .loop in
-    let a = k .before .before .before .args in
+    let a = k .before .before .before .before .args in
     (omega (arith, low k .less), set-more (anEdge (a .r) (a .x)) (low k) (l .inv .1) (c .before .before .put-edge .ensures))
 
 same-length : tie.Need-same-length Inv-loop μ-loop
@@ -55,7 +56,7 @@ same-length c = c .before .loop .inv .1 .same-length
 returns : tie.Need-returns Inv-loop μ-loop
 returns c =
     let l = c .before .loop in
-    let a = c .before .before .before .args in
+    let a = c .before .before .before .before .args in
     set-end (anEdge (a .r) (a .x)) (l .left) (c .loop-test .left) (l .inv .1)
 
 pub put-row-spec : {M : Type 1} → statement M
@@ -64,6 +65,7 @@ put-row-spec =
     (tie.spec
     Inv-loop
     μ-loop
+    least-requires
     loop-holds
     cast-y
     put-edge-requires

@@ -18,18 +18,22 @@ Inv-loop out₀ at r rows n to₀ x₀ out to x = (x ≤ n) × Left out₀ at (r
 abbrev μ-loop : tie.MeasureT-loop
 μ-loop out₀ at r rows n to₀ x₀ out to x = n - x
 
+least-requires : tie.Need-least-requires Inv-loop μ-loop
+least-requires c κs = search needs
+
 loop-holds : tie.Need-loop-holds Inv-loop μ-loop
 loop-holds c =
-    let a = c .before .before .args in
-    (omega arith, rows-begin (a .out .now) (a .at) (a .r) (a .n) (a .rows .now) (c .before .before .pre .0))
+    let a = c .before .before .before .args in
+    (omega arith, rows-begin (a .out .now) (a .at) _ (a .r) (a .n) (a .rows .now) (c .least .ensures))
+
+cast-word : tie.Need-cast-word Inv-loop μ-loop
+cast-word c = omega arith
 
 word-requires : tie.Need-word-requires Inv-loop μ-loop
 word-requires c κs = search needs
 
 put-row-requires : tie.Need-put-row-requires Inv-loop μ-loop
-put-row-requires c κs =
-    let p = c .before .before .before .before .before .before .pre in
-    (c .before .before .before .loop .inv .1 .within, p .1, omega arith)
+put-row-requires c κs = search needs
 
 add-x : tie.Need-add-x Inv-loop μ-loop
 add-x c = omega arith
@@ -40,7 +44,7 @@ loop-less c = omega arith
 loop-again : tie.Need-loop-again Inv-loop μ-loop
 loop-again c =
     let l = c .before .before .before .before .before .before .loop in
-    let a = c .before .before .before .before .before .before .before .before .before .args in (
+    let a = c .before .before .before .before .before .before .before .before .before .before .args in (
       omega arith,
       range-more (aRow (a .r) (a .rows .now)) (l .x) (a .n) (omega arith) (l .inv .1) _
           (ap (rowBytes (a .r) (l .x)) (c .before .before .before .word .ensures)) (c .before .before .put-row .ensures),
@@ -52,7 +56,7 @@ same-length c = c .before .loop .inv .1 .same-length
 returns : tie.Need-returns Inv-loop μ-loop
 returns c =
     let l = c .before .loop in
-    let a = c .before .before .before .before .args in
+    let a = c .before .before .before .before .before .args in
     range-end (aRow (a .r) (a .rows .now)) (l .x) (a .n) (omega arith) (l .inv .1)
 
 pub put-rows-spec : {M : Type 1} → statement M
@@ -61,7 +65,9 @@ put-rows-spec =
     (tie.spec
     Inv-loop
     μ-loop
+    least-requires
     loop-holds
+    cast-word
     word-requires
     put-row-requires
     add-x

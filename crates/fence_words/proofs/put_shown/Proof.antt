@@ -6,7 +6,7 @@ use mathlib.Core.Path.{refl}
 use mathlib.Core.List.{map}
 use lib.ListN.{length, take}
 use Rattle.print_line.specs.Puts.{Puts}
-use Rattle.print_line.proofs.Putting.{puts-length, puts-within}
+use Rattle.print_line.proofs.Putting.{puts-length}
 use Rattle.fence_words.specs.Sentences.{visible}
 use Rattle.fence_words.proofs.Pieces.{shown-none, shown-more, shown-whole}
 use borrow.Author.Needs.{needs}
@@ -29,7 +29,7 @@ shown-byte-requires : tie.Need-shown-byte-requires Inv-loop μ-loop
 shown-byte-requires c κs = search needs
 
 put-byte-requires : tie.Need-put-byte-requires Inv-loop μ-loop
-put-byte-requires c κs = puts-within (c .before .before .before .before .loop .inv .1)
+put-byte-requires c κs = search needs
 
 add-i : tie.Need-add-i Inv-loop μ-loop
 add-i c = search needs

@@ -3,22 +3,24 @@
 -- Assumes nothing.
 use Prim.Native.Nat.{_-_}
 use native.Mathlib.Omega.{arith}
-use lib.ListN.{length}
 use Rattle.graph_judge.proofs.Running.{Goes, goes-begin, goes-more, goes-end}
 use borrow.Author.Needs.{needs}
 use Rattle.graph_judge.proofs.run.Statement.{statement}
 use Rattle.graph_judge.proofs.run.Tie as tie
 
 abbrev Inv-loop : tie.InvT-loop
-Inv-loop listed mem₀ codes args t₀ i₀ mem t i = Goes listed codes args mem₀ t₀ mem t i
+Inv-loop listed mem₀ codes args t₀ n i₀ mem t i = Goes listed codes args mem₀ t₀ mem t i
 
 abbrev μ-loop : tie.MeasureT-loop
-μ-loop listed mem₀ codes args t₀ i₀ mem t i = length codes - i
+μ-loop listed mem₀ codes args t₀ n i₀ mem t i = n - i
+
+least-requires : tie.Need-least-requires Inv-loop μ-loop
+least-requires c κs = search needs
 
 loop-holds : tie.Need-loop-holds Inv-loop μ-loop
 loop-holds c =
-    let a = c .before .before .args in
-    goes-begin (a .listed .now) (a .codes .now) (a .args .now) (a .mem .now) (a .s) (omega arith) (omega arith) (omega arith)
+    let a = c .before .before .before .args in
+    goes-begin (a .listed .now) (a .codes .now) (a .args .now) (a .mem .now) (a .s) (omega arith) (omega arith)
 
 mul-perform : tie.Need-mul-perform Inv-loop μ-loop
 mul-perform c = search needs
@@ -35,7 +37,7 @@ shared-slice-read-perform-2 c = search needs
 perform-requires : tie.Need-perform-requires Inv-loop μ-loop
 perform-requires c κs =
     let g = c .before .before .before .before .loop .inv in
-    (g .bounds .few-waiting, g .bounds .few-events, omega (arith, g .bounds .few-lines, g .place))
+    (g .bounds .few-waiting, omega (arith, g .bounds .few-lines, g .place))
 
 add-i : tie.Need-add-i Inv-loop μ-loop
 add-i c = search needs
@@ -46,7 +48,7 @@ loop-less c = search needs
 loop-again : tie.Need-loop-again Inv-loop μ-loop
 loop-again c =
     let l = c .before .before .before .before .before .before .loop in
-    let a = c .before .before .before .before .before .before .before .before .before .args in
+    let a = c .before .before .before .before .before .before .before .before .before .before .args in
     goes-more (a .listed .now) (a .codes .now) (a .args .now) (a .mem .now) (a .s) (l .mem) (l .t) (l .i) _ _ (l .inv) (c .before .perform .kept .1 .0) (omega arith)
     (omega arith) (c .before .perform .ensures)
 
@@ -56,7 +58,7 @@ same-length c = c .before .loop .inv .size
 returns : tie.Need-returns Inv-loop μ-loop
 returns c =
     let l = c .before .loop in
-    let a = c .before .before .before .before .args in
+    let a = c .before .before .before .before .before .args in
     goes-end (a .listed .now) (a .codes .now) (a .args .now) (a .mem .now) (a .s) (l .mem) (l .t) (l .i) (l .inv) (omega arith)
 
 pub run-spec : {M : Type 1} → statement M
@@ -65,6 +67,7 @@ run-spec =
     (tie.spec
     Inv-loop
     μ-loop
+    least-requires
     loop-holds
     mul-perform
     shared-slice-read-perform

@@ -6,7 +6,7 @@ use mathlib.Core.Path.{refl}
 use lib.ListN.{length, take}
 use Rattle.claims.specs.Printed.{spaced}
 use Rattle.print_line.specs.Puts.{Puts}
-use Rattle.print_line.proofs.Putting.{puts-length, puts-within}
+use Rattle.print_line.proofs.Putting.{puts-length}
 use Rattle.print_line.proofs.Decimals.{puts-numbers-none, puts-numbers-more, puts-numbers-whole}
 use borrow.Author.Needs.{needs}
 use Rattle.print_line.proofs.put_numbers.Statement.{statement}
@@ -18,8 +18,11 @@ Inv-loop out₀ at ns to₀ i₀ out to i = (i ≤ length ns) × Puts out₀ at 
 abbrev μ-loop : tie.MeasureT-loop
 μ-loop out₀ at ns to₀ i₀ out to i = length ns - i
 
+least-requires : tie.Need-least-requires Inv-loop μ-loop
+least-requires c κs = search needs
+
 loop-holds : tie.Need-loop-holds Inv-loop μ-loop
-loop-holds c = (omega arith, puts-numbers-none _ _ (c .before .before .pre))
+loop-holds c = (omega arith, puts-numbers-none _ _ _ (c .least .ensures))
 
 shared-slice-read-wide : tie.Need-shared-slice-read-wide Inv-loop μ-loop
 shared-slice-read-wide c = search needs
@@ -28,7 +31,7 @@ wide-requires : tie.Need-wide-requires Inv-loop μ-loop
 wide-requires c κs = search needs
 
 put-number-requires : tie.Need-put-number-requires Inv-loop μ-loop
-put-number-requires c κs = puts-within (c .before .before .before .before .loop .inv .1)
+put-number-requires c κs = search needs
 
 add-i : tie.Need-add-i Inv-loop μ-loop
 add-i c = search needs
@@ -52,6 +55,7 @@ put-numbers-spec =
     (tie.spec
     Inv-loop
     μ-loop
+    least-requires
     loop-holds
     shared-slice-read-wide
     wide-requires

@@ -1,6 +1,6 @@
 -- `print_line::put_text` meets its contract. The bytes so far are put; the rest follows one by one.
 -- Assumes nothing.
-use Rattle.print_line.proofs.Putting.{puts-nothing, puts-more, puts-whole, puts-length, puts-within}
+use Rattle.print_line.proofs.Putting.{puts-start, puts-more, puts-whole, puts-length}
 use mathlib.Core.Path.{refl}
 use native.Mathlib.Omega.{arith}
 use Prim.Native.Nat.{_-_, _≤_}
@@ -16,14 +16,17 @@ Inv-loop out₀ at bytes to₀ i₀ out to i = (i ≤ length bytes) × Puts out�
 abbrev μ-loop : tie.MeasureT-loop
 μ-loop out₀ at bytes to₀ i₀ out to i = length bytes - i
 
+least-requires : tie.Need-least-requires Inv-loop μ-loop
+least-requires c κs = search needs
+
 loop-holds : tie.Need-loop-holds Inv-loop μ-loop
-loop-holds c = (omega arith, puts-nothing _ _ (c .before .before .pre))
+loop-holds c = (omega arith, puts-start _ _ _ (c .least .ensures))
 
 shared-slice-read-put-byte : tie.Need-shared-slice-read-put-byte Inv-loop μ-loop
 shared-slice-read-put-byte c = search needs
 
 put-byte-requires : tie.Need-put-byte-requires Inv-loop μ-loop
-put-byte-requires c κs = puts-within (c .before .before .before .loop .inv .1)
+put-byte-requires c κs = search needs
 
 add-i : tie.Need-add-i Inv-loop μ-loop
 add-i c = search needs
@@ -46,6 +49,7 @@ put-text-spec =
     (tie.spec
     Inv-loop
     μ-loop
+    least-requires
     loop-holds
     shared-slice-read-put-byte
     put-byte-requires

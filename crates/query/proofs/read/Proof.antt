@@ -1,9 +1,18 @@
 -- `query::read` meets its contract: each way out is what document 01's reading says.
 -- Assumes nothing.
+use Rattle.query.proofs.Outcomes.{refused-way, over-way, within-way}
+use Rattle.words.specs.Memory.{zeros}
+use mathlib.Core.Path.{_∙_, ap}
 use borrow.Author.Needs.{needs}
-use Rattle.query.proofs.Outcomes.{refused-way, accepted-room, accepted-way}
 use Rattle.query.proofs.read.Statement.{statement}
 use Rattle.query.proofs.read.Tie as tie
+use Rattle.query.proofs.read.Reads as reads
+use Rattle.query.proofs.read.Lts as lts
+use Rattle.query.proofs.facts_by.Reads as facts-by-reads
+use Rattle.query.proofs.within.Reads as within-reads
+use Rattle.read_text.proofs.read.Reads as read-reads
+use Rattle.side_build.proofs.build.Reads as build-reads
+use Rattle.words.proofs.clear.Reads as clear-reads
 
 clear-requires : tie.Need-clear-requires
 clear-requires c κs = search needs
@@ -20,28 +29,32 @@ enum-known-r c = search needs
 enum-known-r-2 : tie.Need-enum-known-r-2
 enum-known-r-2 c = search needs
 
-limited-requires : tie.Need-limited-requires
-limited-requires c κs =
-    let t = c .before .before .before .before .before .before in
-    accepted-room _ (t .read .result) _ (t .read .ensures .0) (t .read .ensures .1) _ (c .before .before .before .before .r2 .given .1)
-    (c .before .before .limited-arg .given .0 .1)
+within-requires : tie.Need-within-requires
+within-requires c κs = search needs
+
+clear-requires-3 : tie.Need-clear-requires-3
+clear-requires-3 c κs = search needs
 
 returns : tie.Need-returns
 returns c =
-    let t = c .before .before .before in
-    let s = t .before .before in
-    let u = s .before .before in
-    refused-way _ (t .read .result) _ (t .read .ensures .0) (t .read .ensures .1) _ _ (c .before .r .given .1) _ _ _ _
-    (u .before .clear-arg .given .0 .1) (u .clear .ensures) (s .before .clear-arg2 .given .0 .1) (s .clear2 .ensures)
+    over-way _ (c .before .before .before .before .before .before .before .before .before .read .result) _ (c .before .before .before .before .before .before .before .before .before .read .ensures .0) (c .before .before .before .before .before .before .before .before .before .read .ensures .1) _ (c .before .before .before .before .before .before .before .r2 .given .1) (c .before .before .before .before .within-arg2 .given .0) _ (c .before .before .before .within .ensures) (c .before .before .if1 .taken) _ _ _ (c .clear3 .ensures)
+    (c .before .before .before .before .before .before .before .before .before .before .before .before .before .clear .ensures ∙ ap zeros (c .before .before .before .before .before .before .before .before .before .before .before .before .before .before .clear-arg .given .0 .1)) (c .before .before .before .before .before .before .before .before .before .before .before .clear2 .ensures ∙ ap zeros (c .before .before .before .before .before .before .before .before .before .before .before .before .clear-arg2 .given .0 .1))
+
+build-requires : tie.Need-build-requires
+build-requires c κs = (c .before .before .before .before .before .before .before .before .before .before .before .before .before .before .before .clear .ensures ∙ ap zeros (c .before .before .before .before .before .before .before .before .before .before .before .before .before .before .before .before .clear-arg .given .0 .1), c .before .before .before .before .before .before .before .before .before .before .before .before .before .clear2 .ensures ∙ ap zeros (c .before .before .before .before .before .before .before .before .before .before .before .before .before .before .clear-arg2 .given .0 .1))
+
+facts-by-requires : tie.Need-facts-by-requires
+facts-by-requires c κs = search needs
 
 returns-2 : tie.Need-returns-2
 returns-2 c =
-    let t = c .before .before .before .before .before .before .before in
-    let s = t .before .before in
-    let u = s .before .before in
-    accepted-way _ (t .read .result) _ (t .read .ensures .0) (t .read .ensures .1) _ (c .before .before .before .before .before .r2 .given .1)
-    (c .before .before .before .limited-arg .given .0 .1) _ _ _ _
-    (u .before .clear-arg .given .0 .1) (u .clear .ensures) (s .before .clear-arg2 .given .0 .1) (s .clear2 .ensures) _ _ _ _ (c .limited .ensures)
+    refused-way _ (c .before .before .before .read .result) _ (c .before .before .before .read .ensures .0) (c .before .before .before .read .ensures .1) _ _ (c .before .r .given .1) _ _
+    (c .before .before .before .before .before .before .before .clear .ensures ∙ ap zeros (c .before .before .before .before .before .before .before .before .clear-arg .given .0 .1)) (c .before .before .before .before .before .clear2 .ensures ∙ ap zeros (c .before .before .before .before .before .before .clear-arg2 .given .0 .1))
+
+returns-3 : tie.Need-returns-3
+returns-3 c =
+    within-way _ (c .before .before .before .before .before .before .before .before .before .before .before .before .before .read .result) _ (c .before .before .before .before .before .before .before .before .before .before .before .before .before .read .ensures .0) (c .before .before .before .before .before .before .before .before .before .before .before .before .before .read .ensures .1) _ (c .before .before .before .before .before .before .before .before .before .before .before .r2 .given .1) (c .before .before .before .before .before .before .before .before .within-arg2 .given .0) _ (c .before .before .before .before .before .before .before .within .ensures) (c .before .before .before .before .before .before .if1 .left) _ _ _ _
+    (c .before .build .ensures) (c .facts-by .ensures)
 
 pub read-spec : {M : Type 1} → statement M
 read-spec =
@@ -52,6 +65,10 @@ read-spec =
     read-requires
     enum-known-r
     enum-known-r-2
-    limited-requires
+    within-requires
+    clear-requires-3
     returns
-    returns-2)
+    build-requires
+    facts-by-requires
+    returns-2
+    returns-3)

@@ -26,7 +26,7 @@ word-requires : tie.Need-word-requires Inv-loop μ-loop
 word-requires c κs = search needs
 
 join-where-requires : tie.Need-join-where-requires Inv-loop μ-loop
-join-where-requires c κs = omega arith
+join-where-requires c κs = search needs
 
 add-k : tie.Need-add-k Inv-loop μ-loop
 add-k c = omega arith

@@ -13,14 +13,17 @@ use Rattle.rows.proofs.join_where.Statement.{statement}
 use Rattle.rows.proofs.join_where.Tie as tie
 
 abbrev Inv-loop : tie.InvT-loop
-Inv-loop t₀ c k n x₀ t x = (length t ≡ length t₀) × (x ≤ n) × (changed (merge c k) t x n ≡ joinedWhere t₀ c k n)
+Inv-loop t₀ c k n m x₀ t x = (length t ≡ length t₀) × (x ≤ m) × (changed (merge c k) t x n ≡ joinedWhere t₀ c k n)
 
 abbrev μ-loop : tie.MeasureT-loop
-μ-loop t₀ c k n x₀ t x = n - x
+μ-loop t₀ c k n m x₀ t x = m - x
+
+least-requires : tie.Need-least-requires Inv-loop μ-loop
+least-requires c κs = search needs
 
 loop-holds : tie.Need-loop-holds Inv-loop μ-loop
 loop-holds c =
-    let a = c .before .args in
+    let a = c .before .before .args in
     (search needs, omega arith, where-begin (a .c) (a .k) (a .t .now) (a .n))
 
 mul-merged : tie.Need-mul-merged Inv-loop μ-loop
@@ -47,7 +50,7 @@ loop-less c = omega arith
 loop-again : tie.Need-loop-again Inv-loop μ-loop
 loop-again c =
     let l = c .before .before .before .loop in
-    let a = c .before .before .before .before .before .args in (
+    let a = c .before .before .before .before .before .before .args in (
       length-set (l .t) (l .x) (c .merged .result) ∙ l .inv .0,
       omega arith,
       where-more (a .c) (a .k) (l .t) (a .n) (l .x) (c .merged .result) (omega arith) (omega arith) (c .merged .ensures) ∙ l .inv .2,
@@ -59,7 +62,7 @@ same-length c = omega arith
 returns : tie.Need-returns Inv-loop μ-loop
 returns c =
     let l = c .before .loop in
-    let a = c .before .before .before .args in
+    let a = c .before .before .before .before .args in
     sym (where-end (a .c) (a .k) (l .t) (a .n) (l .x) (omega arith)) ∙ l .inv .2
 
 pub join-where-spec : {M : Type 1} → statement M
@@ -68,6 +71,7 @@ join-where-spec =
     (tie.spec
     Inv-loop
     μ-loop
+    least-requires
     loop-holds
     mul-merged
     slice-read-merged

@@ -1,12 +1,8 @@
 -- `sheet::answer` meets its contract: one law for each way out.
 -- Assumes nothing.
-use borrow.Author.Needs.{needs}
 use Rattle.sheet.proofs.Ended.{ended-followed, ended-proved, ended-refuted, ended-failed}
 use Rattle.sheet.proofs.answer.Statement.{statement}
 use Rattle.sheet.proofs.answer.Tie as tie
-
-add-t8 : tie.Need-add-t8
-add-t8 c = search needs
 
 returns : tie.Need-returns
 returns c = ended-followed _ _ _ _ _ (c .if1 .taken)
@@ -21,4 +17,4 @@ returns-4 : tie.Need-returns-4
 returns-4 c = ended-failed _ _ _ _ _ (c .before .if1 .left) (c .if2 .left)
 
 pub answer-spec : {M : Type 1} → statement M
-answer-spec = tie.close (tie.spec add-t8 returns returns-2 returns-3 returns-4)
+answer-spec = tie.close (tie.spec returns returns-2 returns-3 returns-4)

@@ -1,35 +1,51 @@
--- The proof of `build`: of no more than 4,096 codes all count, and else the first 4,096.
+-- `side_build::build` meets its contract: as many codes count as there are.
 -- Assumes nothing.
+use Rattle.side_build.proofs.Assembled.{first-codes, built-of}
+use lib.Seq.{length-take-le}
+use lib.ListN.{length}
+use Prim.Native.Nat.{min}
+use mathlib.Core.Path.{sym, _∙_, ap}
 use native.Mathlib.Omega.{arith}
-use mathlib.Core.Path.{sym}
-use lib.Seq.{length-take-le, take-all}
 use borrow.Author.Needs.{needs}
 use Rattle.side_build.proofs.build.Statement.{statement}
 use Rattle.side_build.proofs.build.Tie as tie
+use Rattle.side_build.proofs.build.Reads as reads
+use Rattle.side_build.proofs.build.Lts as lts
+use Rattle.side_build.proofs.build_long.Reads as build-long-reads
+use Rattle.side_build.proofs.build_short.Reads as build-short-reads
+use Rattle.words.proofs.least.Reads as least-reads
 
-build-within-requires : tie.Need-build-within-requires
-build-within-requires c κs = search needs
+least-requires : tie.Need-least-requires
+least-requires c κs = search needs
+
+least-requires-2 : tie.Need-least-requires-2
+least-requires-2 c κs = search needs
+
+slice-aggregate-part : tie.Need-slice-aggregate-part
+slice-aggregate-part c = sym (length-take-le _ _ (omega (arith, c .before .before .least .ensures, c .before .least2 .ensures)))
+
+build-short-requires : tie.Need-build-short-requires
+build-short-requires c κs = (omega (arith, length-take-le (c .before .before .before .before .least2 .result) (c .before .before .before .before .before .before .before .args .codes .now) (omega (arith, c .before .before .before .before .least2 .ensures)), c .before .before .if1 .taken), c .before .before .before .before .before .before .before .pre .0, c .before .before .before .before .before .before .before .pre .1)
 
 returns : tie.Need-returns
 returns c =
-    let h = c .before .before .before .if1 .taken in
-    rw (take-all 4096 (c .before .before .before .before .before .args .codes .now) h) (c .build-within .ensures)
+    built-of (c .before .before .before .before .before .before .before .before .args .tests) _ _ _ _ _ (first-codes (min (c .before .before .before .before .before .before .before .before .args .n) 4096) _ (c .before .before .before .before .before .before .before .before .args .codes .now) (c .before .before .before .before .before .least2 .ensures ∙ ap (λ k. min k (length (c .before .before .before .before .before .before .before .before .args .codes .now))) (c .before .before .before .before .before .before .least .ensures))) (c .build-short .ensures)
 
-slice-aggregate-build-within : tie.Need-slice-aggregate-build-within
-slice-aggregate-build-within c = sym (length-take-le 4096 (c .before .before .before .args .codes .now) (omega arith))
-
-build-within-requires-2 : tie.Need-build-within-requires-2
-build-within-requires-2 c κs = omega (arith, length-take-le 4096 (c .before .before .before .before .before .args .codes .now) (omega arith))
+build-long-requires : tie.Need-build-long-requires
+build-long-requires c κs = (omega (arith, length-take-le (c .before .before .before .before .least2 .result) (c .before .before .before .before .before .before .before .args .codes .now) (omega (arith, c .before .before .before .before .least2 .ensures)), c .before .before .before .before .before .least .ensures, c .before .before .before .before .least2 .ensures), c .before .before .before .before .before .before .before .pre .0, c .before .before .before .before .before .before .before .pre .1)
 
 returns-2 : tie.Need-returns-2
-returns-2 c = c .build-within2 .ensures
+returns-2 c =
+    built-of (c .before .before .before .before .before .before .before .before .args .tests) _ _ _ _ _ (first-codes (min (c .before .before .before .before .before .before .before .before .args .n) 4096) _ (c .before .before .before .before .before .before .before .before .args .codes .now) (c .before .before .before .before .before .least2 .ensures ∙ ap (λ k. min k (length (c .before .before .before .before .before .before .before .before .args .codes .now))) (c .before .before .before .before .before .before .least .ensures))) (c .build-long .ensures)
 
 pub build-spec : {M : Type 1} → statement M
 build-spec =
     tie.close
     (tie.spec
-    build-within-requires
+    least-requires
+    least-requires-2
+    slice-aggregate-part
+    build-short-requires
     returns
-    slice-aggregate-build-within
-    build-within-requires-2
+    build-long-requires
     returns-2)

@@ -1,65 +1,41 @@
--- The proof of `build_in`, from what the functions ensure that it calls one after another.
+-- `side_build::build_in` meets its contract.
 -- Assumes nothing.
-use native.Mathlib.Omega.{arith}
-use mathlib.Core.Path.{sym, _∙_}
 use Rattle.side_build.proofs.Assembled.{all-built}
 use borrow.Author.Needs.{needs}
 use Rattle.side_build.proofs.build_in.Statement.{statement}
 use Rattle.side_build.proofs.build_in.Tie as tie
+use Rattle.side_build.proofs.build_in.Reads as reads
+use Rattle.side_build.proofs.build_in.Lts as lts
+use Rattle.side_build.proofs.fill_sides.Reads as fill-sides-reads
+use Rattle.side_build.proofs.live_of.Reads as live-of-reads
+use Rattle.side_build.proofs.prepare.Reads as prepare-reads
+use Rattle.side_claim.proofs.claimed_in.Reads as claimed-in-reads
 
 prepare-requires : tie.Need-prepare-requires
-prepare-requires c κs = search needs
+prepare-requires c κs = (c .before .before .before .pre .0, c .before .before .before .pre .1)
 
-fill-left-requires : tie.Need-fill-left-requires
-fill-left-requires c κs =
-    let q = c .before .before .before .before .before .before .before .before .before .before .before .before .before in
-    let p = q .before .before .before .before .before .before .before .before .before .before .before .pre in
-    let k = q .prepare .kept .1 .1 in
-    let n = k .1 .1 .0 ∙ p .0 .next in
-    (sym n, (k .0 ∙ p .0 .ops) ∙ sym n, (k .1 .0 ∙ p .0 .args) ∙ sym n, omega (arith, n, p .1), q .prepare .ensures .2)
+claimed-in-requires : tie.Need-claimed-in-requires
+claimed-in-requires c κs = search needs
 
-fill-right-requires : tie.Need-fill-right-requires
-fill-right-requires c κs =
-    let q = c .before .before .before .before .before .before .before .before .before .before .before .before .before .before .before .before .before .before .before in
-    let p = q .before .before .before .before .before .before .before .before .before .before .before .pre in
-    let k = q .prepare .kept .1 .1 in
-    let n = k .1 .1 .0 ∙ p .0 .next in
-    (sym n, (k .0 ∙ p .0 .ops) ∙ sym n, (k .1 .0 ∙ p .0 .args) ∙ sym n, omega (arith, n, p .1), q .prepare .ensures .2)
+fill-sides-requires : tie.Need-fill-sides-requires
+fill-sides-requires c κs = (c .before .before .before .before .before .before .before .before .before .before .pre .2, c .before .before .before .before .before .before .before .before .before .before .pre .3)
 
 live-of-requires : tie.Need-live-of-requires
-live-of-requires c κs =
-    let q = c .before .before .before .before .before .before .before .before .before .before .before .before .before .before .before .before .before .before .before .before .before in
-    (q .prepare .ensures .0, q .prepare .kept .1 .0 ∙ q .before .before .before .before .before .before .before .before .before .before .before .pre .0 .needed)
+live-of-requires c κs = search needs
 
 same-length : tie.Need-same-length
-same-length c = c .before .before .before .before .before .before .before .before .before .before .before .before .before .before .before .before .before .before .before .before .before .before .prepare .kept .1 .0
-
-same-length-2 : tie.Need-same-length-2
-same-length-2 c = c .before .before .before .before .before .before .before .before .before .before .before .before .before .before .before .before .before .before .before .before .before .before .prepare .kept .1 .1 .0
-
-same-length-3 : tie.Need-same-length-3
-same-length-3 c = c .before .before .before .before .before .before .before .before .before .before .before .before .before .before .before .before .before .before .before .before .before .before .prepare .kept .1 .1 .1 .0
-
-same-length-4 : tie.Need-same-length-4
-same-length-4 c = c .before .before .before .before .before .before .before .before .before .before .before .before .before .before .before .before .before .before .before .before .before .before .prepare .kept .1 .1 .1 .1 .0
+same-length c = search needs
 
 returns : tie.Need-returns
-returns c =
-    let r = c .before .before in
-    let l = r .before .before .before .before .before .before in
-    let q = l .before .before .before .before .before .before .before .before .before .before .before .before .before .before .prepare .ensures in
-    all-built _ _ (q .1) _ _ _ _ _ _ (l .fill-left .ensures (q .3)) (r .fill-right .ensures (q .3)) (c .live-of .ensures)
+returns c = all-built (c .before .before .before .before .before .before .before .before .before .before .before .before .before .args .codes .now) _ _ _ (c .before .before .before .before .before .before .before .before .before .before .before .before .before .args .tests) _ _ _ (c .before .before .before .before .before .before .before .before .before .prepare .ensures) (c .before .before .before .before .before .before .claimed-in .ensures) (c .before .before .fill-sides .ensures) (c .live-of .ensures)
 
 pub build-in-spec : {M : Type 1} → statement M
 build-in-spec =
     tie.close
     (tie.spec
     prepare-requires
-    fill-left-requires
-    fill-right-requires
+    claimed-in-requires
+    fill-sides-requires
     live-of-requires
     same-length
-    same-length-2
-    same-length-3
-    same-length-4
     returns)

@@ -1,47 +1,76 @@
--- The proof of `prepare`, from what the functions ensure that it calls one after another.
+-- `side_build::prepare` meets its contract.
 -- Assumes nothing.
-use Rattle.side_build.proofs.Assembled.{relations-found, jumps-found}
+use Rattle.side_build.proofs.Assembled.{half-length, half-args, args-length, sets-length, prepared, prepared-length}
+use lib.ListN.{length}
+use lib.Seq.{length-take-le}
+use mathlib.Core.Path.{sym, refl, ap, _∙_}
+use native.Mathlib.Omega.{arith}
 use borrow.Author.Needs.{needs}
 use Rattle.side_build.proofs.prepare.Statement.{statement}
 use Rattle.side_build.proofs.prepare.Tie as tie
+use Rattle.side_build.proofs.prepare.Reads as reads
+use Rattle.side_build.proofs.prepare.Lts as lts
+use Rattle.side_items.proofs.find_args.Reads as find-args-reads
+use Rattle.side_relations.proofs.relation_sets.Reads as relation-sets-reads
+use Rattle.words.proofs.copy.Reads as copy-reads
+
+slice-relend-prefix-find-args : tie.Need-slice-relend-prefix-find-args
+slice-relend-prefix-find-args c = search needs
+
+slice-aggregate-find-args : tie.Need-slice-aggregate-find-args
+slice-aggregate-find-args c = sym (length-take-le _ _ (omega (arith, c .before .before .before .pre .0)))
 
 find-args-requires : tie.Need-find-args-requires
-find-args-requires c κs = search needs
+find-args-requires c κs = (length-take-le _ _ (omega (arith, c .before .before .before .before .pre .0)), c .before .before .before .before .pre .1, refl)
+
+slice-reshare-prefix-relation-sets : tie.Need-slice-reshare-prefix-relation-sets
+slice-reshare-prefix-relation-sets c = search needs
+
+slice-aggregate-relation-sets : tie.Need-slice-aggregate-relation-sets
+slice-aggregate-relation-sets c = sym (ap length (half-args (c .before .before .before .before .before .before .before .before .args .codes .now) _ (c .before .before .before .before .before .before .before .before .args .needs .now) (c .before .before .before .find-args .ensures) (c .before .before .before .before .before .before .before .before .pre .0)) ∙ args-length (c .before .before .before .before .before .before .before .before .args .codes .now))
 
 relation-sets-requires : tie.Need-relation-sets-requires
-relation-sets-requires c κs = search needs
+relation-sets-requires c κs = ap length (half-args (c .before .before .before .before .before .before .before .before .before .args .codes .now) _ (c .before .before .before .before .before .before .before .before .before .args .needs .now) (c .before .before .before .before .find-args .ensures) (c .before .before .before .before .before .before .before .before .before .pre .0)) ∙ args-length (c .before .before .before .before .before .before .before .before .before .args .codes .now)
 
-find-jumps-requires : tie.Need-find-jumps-requires
-find-jumps-requires c κs = search needs
+slice-aggregate-copy : tie.Need-slice-aggregate-copy
+slice-aggregate-copy c = sym (ap length (c .before .relation-sets .ensures) ∙ sets-length _)
+
+mul-copy : tie.Need-mul-copy
+mul-copy c = omega (arith, half-length (c .before .before .before .before .before .before .before .before .before .before .before .args .codes .now) _ (c .before .before .before .before .before .before .before .before .before .before .before .args .needs .now) (c .before .before .before .before .before .before .find-args .ensures) (c .before .before .before .before .before .before .before .before .before .before .before .pre .0))
+
+sub-copy : tie.Need-sub-copy
+sub-copy c = omega (arith, half-length (c .before .before .before .before .before .before .before .before .before .before .before .args .codes .now) _ (c .before .before .before .before .before .before .before .before .before .before .before .args .needs .now) (c .before .before .before .before .before .before .find-args .ensures) (c .before .before .before .before .before .before .before .before .before .before .before .pre .0))
+
+part-copy-start : tie.Need-part-copy-start
+part-copy-start c = omega (arith, half-length (c .before .before .before .before .before .before .before .before .before .before .before .args .codes .now) _ (c .before .before .before .before .before .before .before .before .before .before .before .args .needs .now) (c .before .before .before .before .before .before .find-args .ensures) (c .before .before .before .before .before .before .before .before .before .before .before .pre .0))
+
+part-copy-end : tie.Need-part-copy-end
+part-copy-end c = omega (arith, half-length (c .before .before .before .before .before .before .before .before .before .before .before .args .codes .now) _ (c .before .before .before .before .before .before .before .before .before .before .before .args .needs .now) (c .before .before .before .before .before .before .find-args .ensures) (c .before .before .before .before .before .before .before .before .before .before .before .pre .0))
+
+copy-requires : tie.Need-copy-requires
+copy-requires c κs = search needs
 
 same-length : tie.Need-same-length
-same-length c = search needs
-
-same-length-2 : tie.Need-same-length-2
-same-length-2 c = search needs
-
-same-length-3 : tie.Need-same-length-3
-same-length-3 c = search needs
-
-same-length-4 : tie.Need-same-length-4
-same-length-4 c = search needs
+same-length c = prepared-length (c .before .before .before .before .before .before .before .before .before .before .before .before .before .before .before .args .codes .now) _ (c .before .before .before .before .before .before .before .before .before .before .before .before .before .before .before .args .needs .now) (c .before .before .before .before .before .before .before .before .before .before .find-args .ensures) (c .before .before .before .before .before .before .before .before .before .before .before .before .before .before .before .pre .0) _ _ (c .before .before .before .before .before .relation-sets .ensures) (c .before .before .copy .ensures)
 
 returns : tie.Need-returns
-returns c =
-    let j = c .before .before .before .before .before .before .find-jumps .ensures in
-    let s = c .before .before .before .before .before .before .before .before .before .before .before in
-    let e = s .before .before .before .before .before .find-args .ensures in
-    (e, relations-found _ _ e _ (s .relation-sets .ensures), j .0, jumps-found _ _ e _ _ _ (j .1))
+returns c = prepared (c .before .before .before .before .before .before .before .before .before .before .before .before .before .before .before .args .codes .now) _ (c .before .before .before .before .before .before .before .before .before .before .before .before .before .before .before .args .needs .now) (c .before .before .before .before .before .before .before .before .before .before .find-args .ensures) (c .before .before .before .before .before .before .before .before .before .before .before .before .before .before .before .pre .0) _ _ (c .before .before .before .before .before .relation-sets .ensures) (c .before .before .copy .ensures)
 
 pub prepare-spec : {M : Type 1} → statement M
 prepare-spec =
     tie.close
     (tie.spec
+    slice-relend-prefix-find-args
+    slice-aggregate-find-args
     find-args-requires
+    slice-reshare-prefix-relation-sets
+    slice-aggregate-relation-sets
     relation-sets-requires
-    find-jumps-requires
+    slice-aggregate-copy
+    mul-copy
+    sub-copy
+    part-copy-start
+    part-copy-end
+    copy-requires
     same-length
-    same-length-2
-    same-length-3
-    same-length-4
     returns)

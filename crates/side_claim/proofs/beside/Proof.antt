@@ -1,48 +1,45 @@
--- The proof of `beside`, by the kind of the claim.
+-- `side_claim::beside` meets its contract: a ring claim, an inclusion, an empty claim.
 -- Assumes nothing.
-use Rattle.side_claim.proofs.SidesInMemory.{beside-ring, beside-inclusion, beside-empty}
+use Rattle.side_claim.proofs.SidesInMemory.{beside-ring, beside-include, beside-empty}
 use borrow.Author.Needs.{needs}
 use Rattle.side_claim.proofs.beside.Statement.{statement}
 use Rattle.side_claim.proofs.beside.Tie as tie
+use Rattle.side_claim.proofs.beside.Reads as reads
+use Rattle.side_claim.proofs.beside.Lts as lts
+use Rattle.side_claim.proofs.is_ring.Reads as is-ring-reads
+use Rattle.side_parts.proofs.give.Reads as give-reads
+use Rattle.side_runs.proofs.run_from.Reads as run-from-reads
+use Rattle.side_runs.proofs.run_union.Reads as run-union-reads
 
-claim-kind-requires : tie.Need-claim-kind-requires
-claim-kind-requires c κs = search needs
+is-ring-requires : tie.Need-is-ring-requires
+is-ring-requires c κs = search needs
 
 run-union-requires : tie.Need-run-union-requires
-run-union-requires c κs = c .before .before .before .before .before .before .before .before .before .before .before .pre
+run-union-requires c κs = search needs
 
 returns : tie.Need-returns
-returns c =
-    let d = c .before .before .before .before .before .before in
-    let u = c .run-union .ensures in
-    (u .0, λ j. beside-ring _ _ _ (d .before .claim-kind .ensures) _ _ (d .if1 .taken) (u .1 _ j))
+returns c = beside-ring (c .before .before .before .before .before .before .before .args .codes .now) (c .before .before .before .before .before .before .before .args .needs .now) (c .before .before .before .before .before .before .before .args .d) _ _ _ (c .before .before .before .before .is-ring .ensures) (c .before .before .before .if1 .taken) (c .run-union .ensures)
 
-run-kind-requires : tie.Need-run-kind-requires
-run-kind-requires c κs = c .before .before .before .before .before .before .before .before .before .before .before .before .pre
+run-from-requires : tie.Need-run-from-requires
+run-from-requires c κs = search needs
 
 returns-2 : tie.Need-returns-2
-returns-2 c =
-    let d = c .before .before .before .before .before .before .before in
-    let u = c .before .run-kind .ensures in
-    (u .0, λ j. beside-inclusion _ _ _ (d .before .before .claim-kind .ensures) _ _ (d .before .if1 .left) (d .if2 .taken) (u .2 _ j))
+returns-2 c = beside-include (c .before .before .before .before .before .before .before .before .before .args .codes .now) (c .before .before .before .before .before .before .before .before .before .args .needs .now) (c .before .before .before .before .before .before .before .before .before .args .d) _ _ _ (c .before .before .before .before .before .before .is-ring .ensures) (c .before .before .before .before .before .if1 .left) (c .before .before .before .if2 .taken) (c .run-from .ensures)
 
-step-requires : tie.Need-step-requires
-step-requires c κs = c .before .before .before .before .before .before .before .before .before .before .before .before .pre .0
+give-requires : tie.Need-give-requires
+give-requires c κs = search needs
 
 returns-3 : tie.Need-returns-3
-returns-3 c =
-    let d = c .before .before .before .before .before .before in
-    let u = c .step .ensures in
-    (u .0, λ j. beside-empty _ _ _ (d .before .before .claim-kind .ensures) _ _ (d .before .if1 .left) (d .if2 .left) (u .1))
+returns-3 c = beside-empty (c .before .before .before .before .before .before .before .before .args .codes .now) (c .before .before .before .before .before .before .before .before .args .needs .now) (c .before .before .before .before .before .before .before .before .args .d) _ _ _ (c .before .before .before .before .before .is-ring .ensures) (c .before .before .before .before .if1 .left) (c .before .before .if2 .left) (c .give .ensures _)
 
 pub beside-spec : {M : Type 1} → statement M
 beside-spec =
     tie.close
     (tie.spec
-    claim-kind-requires
+    is-ring-requires
     run-union-requires
     returns
-    run-kind-requires
+    run-from-requires
     returns-2
-    step-requires
+    give-requires
     returns-3)

@@ -1,43 +1,30 @@
--- The proof of `inside`: the union alone in a ring claim, and with the set of zero in a path claim.
+-- `side_claim::inside` meets its contract: a path claim, a ring claim.
 -- Assumes nothing.
-use Rattle.side_claim.proofs.SidesInMemory.{between-ring, between-path}
+use Rattle.side_claim.proofs.SidesInMemory.{inside-path, inside-ring}
 use borrow.Author.Needs.{needs}
 use Rattle.side_claim.proofs.inside.Statement.{statement}
 use Rattle.side_claim.proofs.inside.Tie as tie
+use Rattle.side_claim.proofs.inside.Reads as reads
+use Rattle.side_claim.proofs.inside.Lts as lts
+use Rattle.side_parts.proofs.give.Reads as give-reads
+use Rattle.side_parts.proofs.unite.Reads as unite-reads
+use Rattle.side_runs.proofs.run_union.Reads as run-union-reads
 
 run-union-requires : tie.Need-run-union-requires
-run-union-requires c κs = c .before .before .before .before .before .before .before .before .before .pre
+run-union-requires c κs = search needs
 
-claim-kind-requires : tie.Need-claim-kind-requires
-claim-kind-requires c κs = search needs
+give-requires : tie.Need-give-requires
+give-requires c κs = search needs
+
+unite-requires : tie.Need-unite-requires
+unite-requires c κs = search needs
 
 returns : tie.Need-returns
-returns c =
-    let u = c .before .before .run-union .ensures in
-    (u .0, λ j z. between-ring _ _ _ (c .before .claim-kind .ensures) _ _ (u .1 _ j) (c .if1 .taken))
-
-step-requires : tie.Need-step-requires
-step-requires c κs = c .before .before .before .before .before .before .before .run-union .ensures .0
-
-step-requires-2 : tie.Need-step-requires-2
-step-requires-2 c κs = c .before .before .before .before .before .step .ensures .0
+returns c = inside-path (c .before .before .before .before .before .before .before .before .before .before .args .codes .now) (c .before .before .before .before .before .before .before .before .before .before .args .needs .now) (c .before .before .before .before .before .before .before .before .before .before .args .ring) (c .before .before .before .before .before .before .before .before .before .before .args .zero) _ _ _ _ (c .before .before .before .before .if1 .taken) (c .before .before .before .before .before .run-union .ensures) (c .before .before .give .ensures _) (c .unite .ensures _)
 
 returns-2 : tie.Need-returns-2
-returns-2 c =
-    let s = c .before .before .before .before .before .before in
-    let d = s .before .before .before .before .before .before in
-    let u = d .before .before .run-union .ensures in (
-      c .step2 .ensures .0,
-      λ j z. between-path _ _ _ (d .before .claim-kind .ensures) _ _ (u .1 _ j) (d .if1 .left) _ _ _ z (s .step .ensures .1) (c .step2 .ensures .1),
-    )
+returns-2 c = inside-ring (c .before .before .before .before .before .before .args .codes .now) (c .before .before .before .before .before .before .args .needs .now) (c .before .before .before .before .before .before .args .ring) (c .before .before .before .before .before .before .args .zero) _ _ (c .if1 .left) (c .before .run-union .ensures)
 
 pub inside-spec : {M : Type 1} → statement M
 inside-spec =
-    tie.close
-    (tie.spec
-    run-union-requires
-    claim-kind-requires
-    returns
-    step-requires
-    step-requires-2
-    returns-2)
+    tie.close (tie.spec run-union-requires give-requires unite-requires returns returns-2)

@@ -1,10 +1,14 @@
--- `side_parts::add_relation` meets its contract: the sets of relation r stand 16 places apart, and r alone is the set 2 ^ r.
+-- `side_parts::add_relation` meets its contract.
 -- Assumes nothing.
-use Rattle.side_parts.specs.Memory.{machineIn}
-use Rattle.side_parts.proofs.Stepping.{relation-made}
+use Rattle.side_parts.proofs.MachineInMemory.{relation-made}
 use borrow.Author.Needs.{needs}
 use Rattle.side_parts.proofs.add_relation.Statement.{statement}
 use Rattle.side_parts.proofs.add_relation.Tie as tie
+use Rattle.side_parts.proofs.add_relation.Reads as reads
+use Rattle.side_parts.proofs.add_relation.Lts as lts
+use Rattle.bits.proofs.with.Reads as with-reads
+use Rattle.side_parts.proofs.add_fresh.Reads as add-fresh-reads
+use Rattle.words.proofs.word.Reads as word-reads
 
 word-requires : tie.Need-word-requires
 word-requires c κs = search needs
@@ -28,13 +32,7 @@ add-fresh-requires : tie.Need-add-fresh-requires
 add-fresh-requires c κs = search needs
 
 returns : tie.Need-returns
-returns c =
-    let d = c .before .before .before .before .before .before in
-    let w = d .before .before .before in
-    let a = w .before .before .before .before .args in
-    let m = machineIn (a .first .now) (a .last .now) (a .follow .now) (a .letters .now) (a .parts .now) (a .top) in
-    relation-made (a .rels .now) _ _ _ _ _ m _ _ _ _ _ _ (w .before .before .before .before .pre .0) (w .before .before .word .ensures) (w .word2 .ensures)
-    (d .before .word3 .ensures) (d .with .ensures) (c .add-fresh .ensures)
+returns c = relation-made (c .before .before .before .before .before .before .before .before .args .rels .now) (c .before .before .before .before .before .before .before .before .args .r) _ _ _ _ _ _ (c .before .before .before .before .before .before .before .before .pre) (c .before .before .before .before .before .before .word .ensures) (c .before .before .before .before .before .word2 .ensures) (c .before .before .before .before .word3 .ensures) (c .before .before .before .with .ensures) (c .add-fresh .ensures)
 
 pub add-relation-spec : {M : Type 1} → statement M
 add-relation-spec =

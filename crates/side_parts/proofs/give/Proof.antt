@@ -1,19 +1,25 @@
--- `side_parts::give` meets its contract: the part that is put on top has no occurrence.
+-- `side_parts::give` meets its contract.
 -- Assumes nothing.
-use mathlib.Core.Path.{refl}
-use Rattle.side_parts.proofs.MachineInMemory.{given-in}
+use Rattle.side_parts.proofs.MachineInMemory.{given-made}
+use Rattle.side_stack.specs.Stack.{usedIn}
+use native.Mathlib.Omega.{arith}
 use borrow.Author.Needs.{needs}
 use Rattle.side_parts.proofs.give.Statement.{statement}
 use Rattle.side_parts.proofs.give.Tie as tie
+use Rattle.side_parts.proofs.give.Reads as reads
+use Rattle.side_parts.proofs.give.Lts as lts
+use Rattle.side_stack.proofs.push.Reads as push-reads
+use Rattle.side_stack.proofs.used.Reads as used-reads
+
+used-requires : tie.Need-used-requires
+used-requires c κs = search needs
 
 push-requires : tie.Need-push-requires
-push-requires c κs = search needs
-
-same-length : tie.Need-same-length
-same-length c = search needs
+unfolding usedIn
+push-requires c κs = omega (arith, c .before .used .ensures)
 
 returns : tie.Need-returns
-returns c = (c .before .before .push .ensures .0, refl, λ f l w t. given-in f l w t _ _ _ _ _ (c .before .before .push .ensures .1))
+returns c = λ t. given-made t (c .before .before .before .before .args .parts .now) _ _ (c .before .before .before .before .args .x) (c .before .before .used .ensures) (c .push .ensures .0) (c .push .ensures .1)
 
 pub give-spec : {M : Type 1} → statement M
-give-spec = tie.close (tie.spec push-requires same-length returns)
+give-spec = tie.close (tie.spec used-requires push-requires returns)

@@ -1,31 +1,22 @@
--- `side_parts::make_optional` meets its contract: each atom is a word of the part on top.
+-- `side_parts::make_optional` meets its contract.
 -- Assumes nothing.
-use mathlib.Core.Path.{refl}
-use Rattle.side_parts.proofs.MachineInMemory.{optional-in}
+use Rattle.side_parts.proofs.MachineInMemory.{optional-made}
 use borrow.Author.Needs.{needs}
 use Rattle.side_parts.proofs.make_optional.Statement.{statement}
 use Rattle.side_parts.proofs.make_optional.Tie as tie
+use Rattle.side_parts.proofs.make_optional.Reads as reads
+use Rattle.side_parts.proofs.make_optional.Lts as lts
+use Rattle.side_stack.proofs.replace.Reads as replace-reads
+use Rattle.side_stack.proofs.top.Reads as top-reads
 
-low-at-requires : tie.Need-low-at-requires
-low-at-requires c κs = search needs
+top-requires : tie.Need-top-requires
+top-requires c κs = search needs
 
-less-requires : tie.Need-less-requires
-less-requires c κs = search needs
-
-push-requires : tie.Need-push-requires
-push-requires c κs = search needs
-
-same-length : tie.Need-same-length
-same-length c = search needs
+replace-requires : tie.Need-replace-requires
+replace-requires c κs = search needs
 
 returns : tie.Need-returns
-returns c = (
-  c .before .before .push .ensures .0,
-  refl,
-  λ f l w t. optional-in f l w t _ _ _ _ _ _ (c .before .before .before .less .ensures) (c .before .before .before .before .before .low-at .ensures)
-      (c .before .before .push .ensures .1),
-)
+returns c = λ t. optional-made t (c .before .before .before .before .args .parts .now) _ _ (c .before .before .top .ensures .0) (c .replace .ensures .0) (c .replace .ensures .1)
 
 pub make-optional-spec : {M : Type 1} → statement M
-make-optional-spec =
-    tie.close (tie.spec low-at-requires less-requires push-requires same-length returns)
+make-optional-spec = tie.close (tie.spec top-requires replace-requires returns)

@@ -1,21 +1,23 @@
--- `side_parts::nothing` meets its contract: the tables are cleared, and the height is 0.
+-- `side_parts::nothing` meets its contract.
 -- Assumes nothing.
-use mathlib.Core.Path.{refl}
-use Rattle.side_parts.proofs.MachineInMemory.{nothing-in, nothing-fits}
+use Rattle.side_parts.proofs.MachineInMemory.{nothing-made}
+use native.Mathlib.Omega.{arith}
 use borrow.Author.Needs.{needs}
 use Rattle.side_parts.proofs.nothing.Statement.{statement}
 use Rattle.side_parts.proofs.nothing.Tie as tie
+use Rattle.side_parts.proofs.nothing.Reads as reads
+use Rattle.side_parts.proofs.nothing.Lts as lts
+use Rattle.side_stack.proofs.empty.Reads as empty-reads
+use Rattle.words.proofs.clear.Reads as clear-reads
 
-clear-tables-requires : tie.Need-clear-tables-requires
-clear-tables-requires c κs = search needs
+clear-requires : tie.Need-clear-requires
+clear-requires c κs = search needs
+
+empty-requires : tie.Need-empty-requires
+empty-requires c κs = search needs
 
 returns : tie.Need-returns
-returns c =
-    let e = c .clear-tables .ensures in (
-      refl,
-      λ parts s h. nothing-fits _ _ _ _ parts _ (e .0) (e .1) (e .2) (e .3) s h,
-      λ parts. nothing-in _ _ _ _ parts _ (e .0) (e .1) (e .2) (e .3),
-    )
+returns c = nothing-made _ _ _ (c .before .before .clear .ensures) (omega arith) (c .empty .ensures .0) (c .empty .ensures .1)
 
 pub nothing-spec : {M : Type 1} → statement M
-nothing-spec = tie.close (tie.spec clear-tables-requires returns)
+nothing-spec = tie.close (tie.spec clear-requires empty-requires returns)

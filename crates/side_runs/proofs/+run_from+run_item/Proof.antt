@@ -1,12 +1,13 @@
 -- The proof of running a line of items and of one item, which call each other for a let. The measure is the place where the line starts,
 -- and then which of the two it is: a let is entered only at a place before. The laws are those of `Running`; here they are cited.
 -- Assumes nothing.
-use Prim.Native.Nat.{ℕ, _+_, _-_, _*_, _<_}
-use mathlib.Core.Path.{refl}
+use Rattle.side_runs.proofs.Running.{Left, left-all, left-next, left-end, left-none, sets-part, item-below, item-above, item-let, item-late, step-args}
+use Rattle.side_parts.specs.Machine.{machineIn, stepped}
+use lib.ListN.{length, getD}
+use mathlib.Core.Path.{refl, _∙_, ap}
 use native.Mathlib.Omega.{arith}
-use lib.ListN.{length}
-use Rattle.side_parts.specs.Memory.{Fits, machineIn}
-use Rattle.side_runs.proofs.Running.{fits-bounded, Left, left-all, left-next, left-end, left-none, item-below, item-above, item-let, item-late}
+use borrow.Author.Needs.{needs}
+use Prim.Native.Nat.{ℕ, _<_, _+_, _-_, _*_}
 use borrow.Fn.Kinds.{In}
 use borrow.Fn.PlainCycle.{Measures, is, falls, and}
 use Rattle.side_runs.proofs.run_from.Reads as run-from
@@ -16,182 +17,158 @@ use Rattle.side_runs.proofs.run_item.Reads as run-item
 use Rattle.side_runs.proofs.run_item.Kinds as run-item-kinds
 use Rattle.side_runs.proofs.+run_from+run_item.Lts-run_item as run-item-lts
 use Rattle.side_parts.proofs.step.Reads as step-reads
+use Rattle.side_runs.proofs.skip_tests.Reads as skip-tests-reads
+use Rattle.words.proofs.least.Reads as least-reads
+use Rattle.words.proofs.word.Reads as word-reads
 use Rattle.side_runs.proofs.+run_from+run_item.{statement}
 use Rattle.side_runs.proofs.+run_from+run_item.Tie.{close}
 
-abbrev μ-run-from : Measures 9 run-from-kinds.ps ℕ
-μ-run-from κs a = a .1 .1 .1 .1 .1 .1 .1 .1 .1 .0 * 2 + 1
+abbrev μ-run-from : Measures 4 run-from-kinds.ps ℕ
+μ-run-from κs a = a .1 .1 .1 .1 .0 * 2 + 1
 
-abbrev μ-run-item : Measures 9 run-item-kinds.ps ℕ
-μ-run-item κs a = a .1 .1 .1 .1 .1 .1 .1 .1 .1 .0 * 2
+abbrev μ-run-item : Measures 4 run-item-kinds.ps ℕ
+μ-run-item κs a = a .1 .1 .1 .1 .0 * 2
 
-abbrev run-from-at : ℕ → In 9 run-from-kinds.ps
-run-from-at t = and 9 run-from-kinds.ps (is 9 run-from-kinds.ps μ-run-from t) run-from.Pre
+abbrev run-from-at : ℕ → In 4 run-from-kinds.ps
+run-from-at t = and 4 run-from-kinds.ps (is 4 run-from-kinds.ps μ-run-from t) run-from.Pre
 
-abbrev run-from-below : ℕ → In 9 run-from-kinds.ps
+abbrev run-from-below : ℕ → In 4 run-from-kinds.ps
 run-from-below t =
-    and 9 run-from-kinds.ps (falls 9 run-from-kinds.ps _<_ μ-run-from t) run-from.Pre
+    and 4 run-from-kinds.ps (falls 4 run-from-kinds.ps _<_ μ-run-from t) run-from.Pre
 
-abbrev run-item-at : ℕ → In 9 run-item-kinds.ps
-run-item-at t = and 9 run-item-kinds.ps (is 9 run-item-kinds.ps μ-run-item t) run-item.Pre
+abbrev run-item-at : ℕ → In 4 run-item-kinds.ps
+run-item-at t = and 4 run-item-kinds.ps (is 4 run-item-kinds.ps μ-run-item t) run-item.Pre
 
-abbrev run-item-below : ℕ → In 9 run-item-kinds.ps
+abbrev run-item-below : ℕ → In 4 run-item-kinds.ps
 run-item-below t =
-    and 9 run-item-kinds.ps (falls 9 run-item-kinds.ps _<_ μ-run-item t) run-item.Pre
+    and 4 run-item-kinds.ps (falls 4 run-item-kinds.ps _<_ μ-run-item t) run-item.Pre
 
 abbrev run-from-Inv-loop : run-from-lts.InvT-loop
-run-from-Inv-loop ops xs next rels first₀ last₀ follow₀ letters₀ parts₀ from t₀ pc₀ first last follow letters parts t pc =
-    Fits first last follow letters parts t
-    × Left ops xs next rels from (machineIn first₀ last₀ follow₀ letters₀ parts₀ t₀) pc (machineIn first last follow letters parts t)
+run-from-Inv-loop codes needs table₀ parts₀ from pc₀ table parts pc = Left codes needs from (machineIn table₀ parts₀) pc (machineIn table parts)
 
 abbrev run-from-μ-loop : run-from-lts.MeasureT-loop
-run-from-μ-loop ops xs next rels first₀ last₀ follow₀ letters₀ parts₀ from t₀ pc₀ first last follow letters parts t pc =
-    length ops - pc
+run-from-μ-loop codes needs table₀ parts₀ from pc₀ table parts pc = length codes - pc
 
 -- what `run-from` knows of the functions that it calls
 abbrev run-from-calls : ℕ → run-from-lts.Claims
-run-from-calls t = (run-item-below t, run-item.Post)
+run-from-calls t = (skip-tests-reads.Asked, skip-tests-reads.Learnt, run-item-below t, run-item.Post)
 
 -- what `run-item` knows of the functions that it calls
 abbrev run-item-calls : ℕ → run-item-lts.Claims
-run-item-calls t = (step-reads.Asked, step-reads.Learnt, run-from-below t, run-from.Post)
+run-item-calls t = (word-reads.Asked, word-reads.Learnt, least-reads.Asked, least-reads.Learnt, step-reads.Asked, step-reads.Learnt, run-from-below t, run-from.Post)
+
+run-from-skip-tests-requires : (t : ℕ) → run-from-lts.Need-skip-tests-requires (run-from-calls t) (run-from-at t) run-from.Post run-from-Inv-loop run-from-μ-loop
+run-from-skip-tests-requires t c κs = search needs
 
 run-from-loop-holds : (t : ℕ) → run-from-lts.Need-loop-holds (run-from-calls t) (run-from-at t) run-from.Post run-from-Inv-loop run-from-μ-loop
-run-from-loop-holds t c = (c .before .before .before .pre .1 .0, left-all _ _ _ _ _ _)
+run-from-loop-holds t c = left-all (c .before .before .before .args .codes .now) (c .before .before .before .args .needs .now) (c .before .before .before .args .from) _ (machineIn (c .before .before .before .args .table .now) (c .before .before .before .args .parts .now)) (c .skip-tests .ensures)
 
 run-from-mul-if1 : (t : ℕ) → run-from-lts.Need-mul-if1 (run-from-calls t) (run-from-at t) run-from.Post run-from-Inv-loop run-from-μ-loop
-run-from-mul-if1 t c = omega (arith, c .before .before .before .before .before .pre .1 .1, c .before .before .before .before .before .pre .1 .3)
+run-from-mul-if1 t c = omega arith
 
 run-from-shared-slice-read-if1 : (t : ℕ) → run-from-lts.Need-shared-slice-read-if1 (run-from-calls t) (run-from-at t) run-from.Post run-from-Inv-loop run-from-μ-loop
 run-from-shared-slice-read-if1 t c = c .before .loop-test .taken
 
 run-from-returns : (t : ℕ) → run-from-lts.Need-returns (run-from-calls t) (run-from-at t) run-from.Post run-from-Inv-loop run-from-μ-loop
-run-from-returns t c =
-    let inv = c .before .before .before .loop .inv in
-    (inv .0, left-end _ _ _ _ _ _ _ _ (inv .1) (fits-bounded (inv .0)) (c .before .before .loop-test .taken) (c .if1 .taken))
+run-from-returns t c = left-end (c .before .before .before .before .before .before .before .args .codes .now) (c .before .before .before .before .before .before .before .args .needs .now) (c .before .before .before .before .before .before .before .args .from) _ (c .before .before .before .loop .pc) _ (c .before .before .before .loop .inv) (c .before .before .loop-test .taken) (c .if1 .taken)
 
 run-from-run-item-requires : (t : ℕ) → run-from-lts.Need-run-item-requires (run-from-calls t) (run-from-at t) run-from.Post run-from-Inv-loop run-from-μ-loop
-run-from-run-item-requires t c κs =
-    let b = c .before .before .before .before in
-    let l = b .before .before .before .before in
-    let p = l .before .before .before .before .pre in (
-      omega (arith, p .0),
-      (l .loop .inv .0, p .1 .1, p .1 .2, p .1 .3, p .1 .4, omega (arith, p .1 .1, b .before .before .before .loop-test .taken)),
-    )
+run-from-run-item-requires t c κs = (omega (arith, c .before .before .before .before .before .before .before .before .before .pre .0), c .before .before .before .before .loop-test .taken)
 
-run-from-mul-pc : (t : ℕ) → run-from-lts.Need-mul-pc (run-from-calls t) (run-from-at t) run-from.Post run-from-Inv-loop run-from-μ-loop
-run-from-mul-pc t c =
-    let l = c .before .before .before .before .before .before .before .before .before in
-    let p = l .before .before .before .before .pre in
-    omega (arith, p .1 .1, p .1 .3, c .before .before .before .before .before .before .before .before .loop-test .taken)
+run-from-add-skip-tests : (t : ℕ) → run-from-lts.Need-add-skip-tests (run-from-calls t) (run-from-at t) run-from.Post run-from-Inv-loop run-from-μ-loop
+run-from-add-skip-tests t c = omega arith
 
-run-from-shared-slice-read-pc : (t : ℕ) → run-from-lts.Need-shared-slice-read-pc (run-from-calls t) (run-from-at t) run-from.Post run-from-Inv-loop run-from-μ-loop
-run-from-shared-slice-read-pc t c =
-    let l = c .before .before .before .before .before .before .before .before .before .before in
-    let p = l .before .before .before .before .pre in
-    omega (arith, p .1 .1, c .before .before .before .before .before .before .before .before .before .loop-test .taken)
+run-from-skip-tests-requires-2 : (t : ℕ) → run-from-lts.Need-skip-tests-requires-2 (run-from-calls t) (run-from-at t) run-from.Post run-from-Inv-loop run-from-μ-loop
+run-from-skip-tests-requires-2 t c κs = search needs
 
 run-from-loop-less : (t : ℕ) → run-from-lts.Need-loop-less (run-from-calls t) (run-from-at t) run-from.Post run-from-Inv-loop run-from-μ-loop
-run-from-loop-less t c =
-    let l = c .before .before .before .before .before .before .before .before .before .before in
-    let p = l .before .before .before .before .pre in
-    let h = c .before .before .before .before .before .before .before .before .before .loop-test .taken in
-    let on = p .1 .4 (l .loop .pc) (omega (arith, p .1 .1)) in
-    omega (arith, p .1 .1, on .0)
+run-from-loop-less t c = omega (arith, c .skip-tests2 .ensures .0)
 
 run-from-loop-again : (t : ℕ) → run-from-lts.Need-loop-again (run-from-calls t) (run-from-at t) run-from.Post run-from-Inv-loop run-from-μ-loop
 run-from-loop-again t c =
-    let l = c .before .before .before .before .before .before .before .before .before .before in
-    let h = c .before .before .before .before .before .before .before .before .before .loop-test .taken in
-    let e = c .before .run-item .ensures in
-    let inside = c .before .before .before .before .before .before .before .if1 .left in
-    (e .0, left-next _ _ _ _ _ _ _ _ (l .loop .inv .1) (fits-bounded (l .loop .inv .0)) h inside _ (e .1))
+    left-next (c .before .before .before .before .before .before .before .before .before .before .before .args .codes .now) (c .before .before .before .before .before .before .before .before .before .before .before .args .needs .now) (c .before .before .before .before .before .before .before .before .before .before .before .args .from) _ (c .before .before .before .before .before .before .before .loop .pc) _ (c .before .before .before .before .before .before .before .loop .inv) (c .before .before .before .before .before .before .loop-test .taken) (c .before .before .before .before .if1 .left) _ (c .before .run-item .ensures) _ (c .skip-tests2 .ensures)
 
 run-from-returns-2 : (t : ℕ) → run-from-lts.Need-returns-2 (run-from-calls t) (run-from-at t) run-from.Post run-from-Inv-loop run-from-μ-loop
-run-from-returns-2 t c =
-    let inv = c .before .loop .inv in
-    (inv .0, left-none _ _ _ _ _ _ _ _ (inv .1) (c .loop-test .left))
+run-from-returns-2 t c = left-none (c .before .before .before .before .before .args .codes .now) (c .before .before .before .before .before .args .needs .now) (c .before .before .before .before .before .args .from) _ (c .before .loop .pc) _ (c .before .loop .inv) (c .loop-test .left)
 
 run-item-mul-code : (t : ℕ) → run-item-lts.Need-mul-code (run-item-calls t) (run-item-at t) run-item.Post
-run-item-mul-code t c =
-    let p = c .before .before .before .pre .1 in
-    omega (arith, p .3, p .5)
+run-item-mul-code t c = search needs
 
 run-item-shared-slice-read-code : (t : ℕ) → run-item-lts.Need-shared-slice-read-code (run-item-calls t) (run-item-at t) run-item.Post
-run-item-shared-slice-read-code t c =
-    let p = c .before .before .before .before .pre .1 in
-    omega (arith, p .1, p .5)
+run-item-shared-slice-read-code t c = c .before .before .before .pre .1
 
-run-item-mul-arg : (t : ℕ) → run-item-lts.Need-mul-arg (run-item-calls t) (run-item-at t) run-item.Post
-run-item-mul-arg t c =
-    let p = c .before .before .before .before .pre .1 in
-    omega (arith, p .3, p .5)
+run-item-word-requires : (t : ℕ) → run-item-lts.Need-word-requires (run-item-calls t) (run-item-at t) run-item.Post
+run-item-word-requires t c κs = search needs
 
-run-item-shared-slice-read-arg : (t : ℕ) → run-item-lts.Need-shared-slice-read-arg (run-item-calls t) (run-item-at t) run-item.Post
-run-item-shared-slice-read-arg t c =
-    let p = c .before .before .before .before .before .pre .1 in
-    omega (arith, p .2, p .5)
+run-item-least-requires : (t : ℕ) → run-item-lts.Need-least-requires (run-item-calls t) (run-item-at t) run-item.Post
+run-item-least-requires t c κs = search needs
+
+run-item-mul-step : (t : ℕ) → run-item-lts.Need-mul-step (run-item-calls t) (run-item-at t) run-item.Post
+run-item-mul-step t c = omega (arith, c .before .least .ensures)
+
+run-item-sub-step : (t : ℕ) → run-item-lts.Need-sub-step (run-item-calls t) (run-item-at t) run-item.Post
+run-item-sub-step t c = omega (arith, c .before .least .ensures)
+
+run-item-part-step-start : (t : ℕ) → run-item-lts.Need-part-step-start (run-item-calls t) (run-item-at t) run-item.Post
+run-item-part-step-start t c = omega (arith, c .before .least .ensures)
+
+run-item-part-step-end : (t : ℕ) → run-item-lts.Need-part-step-end (run-item-calls t) (run-item-at t) run-item.Post
+run-item-part-step-end t c = omega (arith, c .before .least .ensures)
 
 run-item-step-requires : (t : ℕ) → run-item-lts.Need-step-requires (run-item-calls t) (run-item-at t) run-item.Post
-run-item-step-requires t c κs =
-    let b = c .before .before .before .before .before in
-    let p = b .before .before .before .before .before .before .pre .1 in
-    p .0
+run-item-step-requires t c κs = search needs
 
 run-item-returns : (t : ℕ) → run-item-lts.Need-returns (run-item-calls t) (run-item-at t) run-item.Post
 run-item-returns t c =
-    let b = c .before .before .before .before .before .before in
-    let a = b .before .before .before .before .before .before .args in
-    (c .step .ensures .0, item-below (a .ops .now) (a .xs .now) (a .next .now) (a .rels .now) (a .from) (a .pc) _ _ (b .if1 .taken) (c .step .ensures .1))
+    item-below (c .before .before .before .before .before .before .before .before .before .before .args .codes .now) (c .before .before .before .before .before .before .before .before .before .before .args .needs .now) (c .before .before .before .before .before .before .before .before .before .before .args .from) (c .before .before .before .before .before .before .before .before .before .before .args .pc) (machineIn (c .before .before .before .before .before .before .before .before .before .before .args .table .now) (c .before .before .before .before .before .before .before .before .before .before .args .parts .now)) _ (c .before .before .before .before .if1 .taken)
+    (c .step .ensures ∙ step-args (c .before .before .before .before .before .before .before .before .before .before .args .codes .now) (c .before .before .before .before .before .before .before .before .before .before .args .needs .now) (getD (c .before .before .before .before .before .before .before .before .before .before .args .codes .now) (c .before .before .before .before .before .before .before .before .before .before .args .pc) 0) _ _ _ _ (c .before .before .before .before .before .before .word .ensures) (c .before .before .before .before .before .least .ensures))
+
+run-item-mul-step-2 : (t : ℕ) → run-item-lts.Need-mul-step-2 (run-item-calls t) (run-item-at t) run-item.Post
+run-item-mul-step-2 t c = omega (arith, c .before .before .least .ensures)
+
+run-item-sub-step-2 : (t : ℕ) → run-item-lts.Need-sub-step-2 (run-item-calls t) (run-item-at t) run-item.Post
+run-item-sub-step-2 t c = omega (arith, c .before .before .least .ensures)
+
+run-item-part-step-start-2 : (t : ℕ) → run-item-lts.Need-part-step-start-2 (run-item-calls t) (run-item-at t) run-item.Post
+run-item-part-step-start-2 t c = omega (arith, c .before .before .least .ensures)
+
+run-item-part-step-end-2 : (t : ℕ) → run-item-lts.Need-part-step-end-2 (run-item-calls t) (run-item-at t) run-item.Post
+run-item-part-step-end-2 t c = omega (arith, c .before .before .least .ensures)
 
 run-item-step-requires-2 : (t : ℕ) → run-item-lts.Need-step-requires-2 (run-item-calls t) (run-item-at t) run-item.Post
-run-item-step-requires-2 t c κs =
-    let b = c .before .before .before .before .before in
-    let p = b .before .before .before .before .before .before .before .pre .1 in
-    p .0
+run-item-step-requires-2 t c κs = search needs
 
 run-item-returns-2 : (t : ℕ) → run-item-lts.Need-returns-2 (run-item-calls t) (run-item-at t) run-item.Post
 run-item-returns-2 t c =
-    let b = c .before .before .before .before .before .before in
-    let a = b .before .before .before .before .before .before .before .args in
-    (c .step2 .ensures .0, item-above (a .ops .now) (a .xs .now) (a .next .now) (a .rels .now) (a .from) (a .pc) _ _ (b .if2 .taken) (c .step2 .ensures .1))
+    item-above (c .before .before .before .before .before .before .before .before .before .before .before .args .codes .now) (c .before .before .before .before .before .before .before .before .before .before .before .args .needs .now) (c .before .before .before .before .before .before .before .before .before .before .before .args .from) (c .before .before .before .before .before .before .before .before .before .before .before .args .pc) (machineIn (c .before .before .before .before .before .before .before .before .before .before .before .args .table .now) (c .before .before .before .before .before .before .before .before .before .before .before .args .parts .now)) _ (c .before .before .before .before .if2 .taken)
+    (c .step2 .ensures ∙ step-args (c .before .before .before .before .before .before .before .before .before .before .before .args .codes .now) (c .before .before .before .before .before .before .before .before .before .before .before .args .needs .now) (getD (c .before .before .before .before .before .before .before .before .before .before .before .args .codes .now) (c .before .before .before .before .before .before .before .before .before .before .before .args .pc) 0) _ _ _ _ (c .before .before .before .before .before .before .before .word .ensures) (c .before .before .before .before .before .before .least .ensures))
 
 run-item-returns-3 : (t : ℕ) → run-item-lts.Need-returns-3 (run-item-calls t) (run-item-at t) run-item.Post
 run-item-returns-3 t c =
-    let s = c .before .before .before .before .before .before .before .before in
-    let a = s .args in (
-      s .pre .1 .0,
-      item-late (a .ops .now) (a .xs .now) (a .next .now) (a .rels .now) (a .from) (a .pc) _ _ (c .before .before .if1 .left)
-          (c .before .if2 .left) (c .if3 .taken) refl,
-    )
+    item-late (c .before .before .before .before .before .before .before .before .args .codes .now) (c .before .before .before .before .before .before .before .before .args .needs .now) (c .before .before .before .before .before .before .before .before .args .from) (c .before .before .before .before .before .before .before .before .args .pc) (machineIn (c .before .before .before .before .before .before .before .before .args .table .now) (c .before .before .before .before .before .before .before .before .args .parts .now)) _ (c .before .before .if1 .left) (c .before .if2 .left) _ (c .before .before .before .before .word .ensures)
+    (c .if3 .taken) refl
 
 run-item-run-from-requires : (t : ℕ) → run-item-lts.Need-run-from-requires (run-item-calls t) (run-item-at t) run-item.Post
-run-item-run-from-requires t c κs =
-    let b = c .before .before .before .before .before in
-    let p = b .before .before .before .before .before .before .before .before .pre in
-    (omega (arith, p .0, b .if3 .left), (p .1 .0, p .1 .1, p .1 .2, p .1 .3, p .1 .4))
+run-item-run-from-requires t c κs = (omega (arith, c .before .before .before .before .before .before .before .before .before .before .pre .0, c .before .before .if3 .left), tt)
 
 run-item-returns-4 : (t : ℕ) → run-item-lts.Need-returns-4 (run-item-calls t) (run-item-at t) run-item.Post
 run-item-returns-4 t c =
-    let b = c .before .before .before .before .before .before in
-    let a = b .before .before .before .before .before .before .before .before .args in (
-      c .run-from .ensures .0,
-      item-let (a .ops .now) (a .xs .now) (a .next .now) (a .rels .now) (a .from) (a .pc) _ _ (b .before .before .if1 .left)
-          (b .before .if2 .left) (b .if3 .left) (c .run-from .ensures .1),
-    )
+    item-let (c .before .before .before .before .before .before .before .before .before .before .before .args .codes .now) (c .before .before .before .before .before .before .before .before .before .before .before .args .needs .now) (c .before .before .before .before .before .before .before .before .before .before .before .args .from) (c .before .before .before .before .before .before .before .before .before .before .before .args .pc) (machineIn (c .before .before .before .before .before .before .before .before .before .before .before .args .table .now) (c .before .before .before .before .before .before .before .before .before .before .before .args .parts .now)) _ (c .before .before .before .before .before .if1 .left) (c .before .before .before .before .if2 .left) _ (c .before .before .before .before .before .before .before .word .ensures)
+    (c .before .before .before .if3 .left) (c .run-from .ensures)
 
 pub +run-from+run-item-spec : {M : Type 1} → statement M
 +run-from+run-item-spec = close μ-run-from μ-run-item (λ t. run-from-lts.spec (run-from-calls t) (run-from-at t)
     run-from.Post
     run-from-Inv-loop
     run-from-μ-loop
+    (run-from-skip-tests-requires t)
     (run-from-loop-holds t)
     (run-from-mul-if1 t)
     (run-from-shared-slice-read-if1 t)
     (run-from-returns t)
     (run-from-run-item-requires t)
-    (run-from-mul-pc t)
-    (run-from-shared-slice-read-pc t)
+    (run-from-add-skip-tests t)
+    (run-from-skip-tests-requires-2 t)
     (run-from-loop-less t)
     (run-from-loop-again t)
     (run-from-returns-2 t))
@@ -199,10 +176,18 @@ pub +run-from+run-item-spec : {M : Type 1} → statement M
     run-item.Post
     (run-item-mul-code t)
     (run-item-shared-slice-read-code t)
-    (run-item-mul-arg t)
-    (run-item-shared-slice-read-arg t)
+    (run-item-word-requires t)
+    (run-item-least-requires t)
+    (run-item-mul-step t)
+    (run-item-sub-step t)
+    (run-item-part-step-start t)
+    (run-item-part-step-end t)
     (run-item-step-requires t)
     (run-item-returns t)
+    (run-item-mul-step-2 t)
+    (run-item-sub-step-2 t)
+    (run-item-part-step-start-2 t)
+    (run-item-part-step-end-2 t)
     (run-item-step-requires-2 t)
     (run-item-returns-2 t)
     (run-item-returns-3 t)

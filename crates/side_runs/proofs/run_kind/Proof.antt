@@ -1,91 +1,81 @@
--- The proof of `run_kind`: what is left of the expressions, run on the machine now, is all of them run on the machine at the start.
+-- `side_runs::run_kind` meets its contract. The invariant: what is left of the expressions, run on the machine now, is all of them run on the
+-- machine at the start. The measure is what is left of the codes.
 -- Assumes nothing.
-use Prim.Native.Nat.{_-_, _≤_}
-use native.Mathlib.Omega.{arith}
+use Rattle.side_runs.proofs.RunningAll.{Rest, rest-all, rest-inside, rest-other, rest-found, rest-count, rest-done, is-test, is-none}
+use Rattle.side_parts.specs.Machine.{machineIn}
 use lib.ListN.{length}
-use Rattle.side_parts.specs.Memory.{Fits, machineIn}
-use Rattle.side_runs.proofs.RunningAll.{Rest, rest-all, rest-inside, rest-other, rest-found, rest-count, rest-done}
+use mathlib.Core.Path.{sym, _∙_}
+use native.Mathlib.Omega.{arith}
+use Prim.Native.Nat.{_-_, _≤_}
+use borrow.Author.Needs.{needs}
 use Rattle.side_runs.proofs.run_kind.Statement.{statement}
 use Rattle.side_runs.proofs.run_kind.Tie as tie
+use Rattle.side_runs.proofs.run_kind.Reads as reads
+use Rattle.side_runs.proofs.run_kind.Lts as lts
+use Rattle.side_runs.proofs.is_one.Reads as is-one-reads
+use Rattle.side_runs.proofs.run_from.Reads as run-from-reads
 
 abbrev Inv-loop : tie.InvT-loop
-Inv-loop codes ops xs next rels first₀ last₀ follow₀ letters₀ parts₀ kind t₀ count₀ start₀ i₀ first last follow letters parts t count start i =
-    Fits first last follow letters parts t × (start ≤ i) × (i ≤ length codes) × (count ≤ i)
-    × Rest kind codes ops xs next rels (machineIn first₀ last₀ follow₀ letters₀ parts₀ t₀) i start count
-    (machineIn first last follow letters parts t)
+Inv-loop codes needs kind table₀ parts₀ count₀ line₀ start₀ i₀ table parts count line start i = (i ≤ length codes) × (line ≤ i) × (count ≤ i) × Rest kind codes needs (machineIn table₀ parts₀) i start line count (machineIn table parts)
 
 abbrev μ-loop : tie.MeasureT-loop
-μ-loop codes ops xs next rels first₀ last₀ follow₀ letters₀ parts₀ kind t₀ count₀ start₀ i₀ first last follow letters parts t count start i =
-    length codes - i
+μ-loop codes needs kind table₀ parts₀ count₀ line₀ start₀ i₀ table parts count line start i = length codes - i
 
 loop-holds : tie.Need-loop-holds Inv-loop μ-loop
-loop-holds c = (c .before .before .before .before .pre .0, omega arith, omega arith, omega arith, rest-all _ _ _ _ _ _ _)
+loop-holds c = (omega arith, omega arith, omega arith, rest-all _ _ _ _)
 
 mul-code : tie.Need-mul-code Inv-loop μ-loop
-mul-code c =
-    let p = c .before .before .before .before .before .before .pre in
-    omega (arith, p .1, p .4)
+mul-code c = search needs
 
 shared-slice-read-code : tie.Need-shared-slice-read-code Inv-loop μ-loop
 shared-slice-read-code c = c .before .loop-test .taken
 
 add-i : tie.Need-add-i Inv-loop μ-loop
-add-i c =
-    let p = c .before .before .before .before .before .before .before .pre in
-    omega (arith, c .before .loop-test .taken, p .1, p .4)
+add-i c = omega arith
 
 loop-less : tie.Need-loop-less Inv-loop μ-loop
 loop-less c = omega (arith, c .before .before .loop-test .taken)
 
 loop-again : tie.Need-loop-again Inv-loop μ-loop
 loop-again c =
-    let inv = c .before .before .before .loop .inv in
-    let h = c .before .before .loop-test .taken in
-    (inv .0, omega arith, omega arith, omega arith, rest-inside _ _ _ _ _ _ _ _ _ _ _ (inv .4) h (c .if1 .taken))
+    (omega (arith, c .before .before .loop-test .taken), omega (arith, c .before .before .before .loop .inv .1), omega (arith, c .before .before .before .loop .inv .2), rest-inside _ _ _ _ _ _ _ _ _ (c .before .before .before .loop .inv .3) (c .before .before .loop-test .taken) (c .if1 .taken))
+
+is-one-requires : tie.Need-is-one-requires Inv-loop μ-loop
+is-one-requires c κs = omega (arith, c .before .before .before .loop .inv .1, c .before .before .before .loop .inv .0)
+
+add-line : tie.Need-add-line Inv-loop μ-loop
+add-line c = omega (arith, c .before .before .before .before .loop .inv .1, c .before .before .before .before .loop .inv .0)
 
 loop-less-2 : tie.Need-loop-less-2 Inv-loop μ-loop
-loop-less-2 c = omega (arith, c .before .before .before .loop-test .taken)
+loop-less-2 c = omega (arith, c .before .before .before .before .loop-test .taken)
 
 loop-again-2 : tie.Need-loop-again-2 Inv-loop μ-loop
-loop-again-2 c =
-    let inv = c .before .before .before .before .loop .inv in
-    let h = c .before .before .before .loop-test .taken in
-    (inv .0, omega arith, omega arith, omega arith, rest-other _ _ _ _ _ _ _ _ _ _ _ (inv .4) h (c .before .if1 .left) (c .if2 .taken))
+loop-again-2 c = (
+  omega (arith, c .before .before .before .before .loop-test .taken),
+  omega (arith, c .before .before .before .before .before .loop .inv .1),
+  omega (arith, c .before .before .before .before .before .loop .inv .2),
+  rest-other _ _ _ _ _ _ _ _ _ (c .before .before .before .before .before .loop .inv .3) (c .before .before .before .before .loop-test .taken) (c .before .before .if1 .left) (sym (c .before .is-one .ensures) ∙ is-none _ (c .if2 .taken)),
+)
 
 run-from-requires : tie.Need-run-from-requires Inv-loop μ-loop
-run-from-requires c κs =
-    let l = c .before .before .before .before .before .before .before .before .before in
-    let p = l .before .before .before .before .before .pre in
-    (l .loop .inv .0, p .2, p .3, p .4, p .5)
+run-from-requires c κs = search needs
 
 add-count : tie.Need-add-count Inv-loop μ-loop
-add-count c =
-    let l = c .before .before .before .before .before .before .before .before .before .before in
-    let p = l .before .before .before .before .before .pre in
-    omega (arith, l .loop .inv .3, l .loop .inv .2, p .1, p .4)
+add-count c = omega (arith, c .before .before .before .before .before .before .before .before .loop .inv .2, c .before .before .before .before .before .before .before .before .loop .inv .0)
 
 loop-less-3 : tie.Need-loop-less-3 Inv-loop μ-loop
-loop-less-3 c = omega (arith, c .before .before .before .before .before .before .before .before .before .loop-test .taken)
+loop-less-3 c = omega (arith, c .before .before .before .before .before .before .before .loop-test .taken)
 
 loop-again-3 : tie.Need-loop-again-3 Inv-loop μ-loop
-loop-again-3 c =
-    let b = c .before .before .before .before .before .before in
-    let l = b .before .before .before .before in
-    let p = l .before .before .before .before .before .pre in
-    let inv = l .loop .inv in
-    let h = b .before .before .before .loop-test .taken in
-    let e = c .run-from .ensures in (
-      e .0,
-      omega arith,
-      omega arith,
-      omega (arith, inv .3),
-      rest-found _ _ _ _ _ _ _ _ _ _ _ (inv .4) h (b .before .if1 .left) (b .if2 .left) (omega (arith, inv .1, p .1, p .4)) _ (e .1),
-    )
+loop-again-3 c = (
+  omega (arith, c .before .before .before .before .before .before .before .loop-test .taken),
+  omega (arith, c .before .before .before .before .before .before .before .before .loop .inv .1),
+  omega (arith, c .before .before .before .before .before .before .before .before .loop .inv .2),
+  rest-found _ _ _ _ _ _ _ _ _ (c .before .before .before .before .before .before .before .before .loop .inv .3) (c .before .before .before .before .before .before .before .loop-test .taken) (c .before .before .before .before .before .if1 .left) (sym (c .before .before .before .before .is-one .ensures) ∙ is-test _ (c .before .before .before .if2 .left)) _ (c .run-from .ensures),
+)
 
 returns : tie.Need-returns Inv-loop μ-loop
-returns c =
-    let inv = c .before .loop .inv in
-    (inv .0, rest-count _ _ _ _ _ _ _ _ _ _ _ (inv .4) (c .loop-test .left), rest-done _ _ _ _ _ _ _ _ _ _ _ (inv .4) (c .loop-test .left))
+returns c = (rest-count _ _ _ _ _ _ _ _ _ (c .before .loop .inv .3) (c .loop-test .left), rest-done _ _ _ _ _ _ _ _ _ (c .before .loop .inv .3) (c .loop-test .left))
 
 pub run-kind-spec : {M : Type 1} → statement M
 run-kind-spec =
@@ -99,6 +89,8 @@ run-kind-spec =
     add-i
     loop-less
     loop-again
+    is-one-requires
+    add-line
     loop-less-2
     loop-again-2
     run-from-requires

@@ -1,23 +1,26 @@
--- The proof of `run_union`, from what the functions ensure that it calls one after another.
+-- `side_runs::run_union` meets its contract.
 -- Assumes nothing.
 use Rattle.side_runs.proofs.RunningAll.{union-all}
+use borrow.Author.Needs.{needs}
 use Rattle.side_runs.proofs.run_union.Statement.{statement}
 use Rattle.side_runs.proofs.run_union.Tie as tie
+use Rattle.side_runs.proofs.run_union.Reads as reads
+use Rattle.side_runs.proofs.run_union.Lts as lts
+use Rattle.side_parts.proofs.give.Reads as give-reads
+use Rattle.side_runs.proofs.run_kind.Reads as run-kind-reads
+use Rattle.side_runs.proofs.unite_times.Reads as unite-times-reads
 
 run-kind-requires : tie.Need-run-kind-requires
-run-kind-requires c κs = c .before .before .before .before .before .before .before .before .before .pre
+run-kind-requires c κs = search needs
 
-step-requires : tie.Need-step-requires
-step-requires c κs = c .before .before .before .before .before .run-kind .ensures .0
+give-requires : tie.Need-give-requires
+give-requires c κs = search needs
 
 unite-times-requires : tie.Need-unite-times-requires
-unite-times-requires c κs = c .before .before .before .before .before .step .ensures .0
+unite-times-requires c κs = search needs
 
 returns : tie.Need-returns
-returns c =
-    let d = c .before .before .before .before .before .before in
-    let e = d .before .before .before .before .before .before .run-kind .ensures in
-    (c .unite-times .ensures .0, λ is j. union-all _ is _ _ _ _ _ _ (e .1) (e .2 is j) (d .step .ensures .1) (c .unite-times .ensures .1))
+returns c = union-all _ _ _ _ _ _ _ _ (c .before .before .before .before .run-kind .ensures .0) (c .before .before .before .before .run-kind .ensures .1) (c .before .before .give .ensures _) (c .unite-times .ensures _)
 
 pub run-union-spec : {M : Type 1} → statement M
-run-union-spec = tie.close (tie.spec run-kind-requires step-requires unite-times-requires returns)
+run-union-spec = tie.close (tie.spec run-kind-requires give-requires unite-times-requires returns)

@@ -1,25 +1,24 @@
--- `side_tables::iterate` meets its contract: the table has no row and no column from 64 on.
+-- `side_tables::iterate` meets its contract.
 -- Assumes nothing.
-use native.Mathlib.Omega.{arith}
+use Rattle.side_tables.specs.InPlace.{joined, iterated}
 use mathlib.Core.Path.{_∙_, ap}
-use Rattle.side_tables.specs.Occurrences.{joined}
-use Rattle.side_tables.proofs.Joined.{joined-clamped}
 use borrow.Author.Needs.{needs}
 use Rattle.side_tables.proofs.iterate.Statement.{statement}
 use Rattle.side_tables.proofs.iterate.Tie as tie
+use Rattle.side_tables.proofs.iterate.Reads as reads
+use Rattle.side_tables.proofs.iterate.Lts as lts
+use Rattle.side_tables.proofs.join.Reads as join-reads
+use Rattle.side_tables.proofs.range_set.Reads as range-set-reads
 
-least-requires : tie.Need-least-requires
-least-requires c κs = search needs
+range-set-requires : tie.Need-range-set-requires
+range-set-requires c κs = search needs
 
-join-rows-requires : tie.Need-join-rows-requires
-join-rows-requires c κs = search needs
+join-requires : tie.Need-join-requires
+join-requires c κs = search needs
 
 returns : tie.Need-returns
-returns c =
-    let a = c .before .before .before .before .before .args in
-    c .join-rows .ensures
-    ∙ ap (λ e. joined (a .first .now) (a .last .now) (a .follow .now) (a .lo) e (a .lo) e) (c .before .before .before .before .least .ensures)
-    ∙ joined-clamped (a .first .now) (a .last .now) (a .follow .now) (a .lo) (a .hi) (a .lo) (a .hi) (omega arith)
+unfolding iterated
+returns c = c .join .ensures ∙ ap (λ s. joined s s (c .before .before .before .args .table .now)) (c .before .before .range-set .ensures)
 
 pub iterate-spec : {M : Type 1} → statement M
-iterate-spec = tie.close (tie.spec least-requires join-rows-requires returns)
+iterate-spec = tie.close (tie.spec range-set-requires join-requires returns)

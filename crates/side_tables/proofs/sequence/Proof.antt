@@ -1,47 +1,35 @@
--- `side_tables::sequence` meets its contract: the table has no row and no column from 64 on.
+-- `side_tables::sequence` meets its contract.
 -- Assumes nothing.
-use native.Mathlib.Omega.{arith}
-use mathlib.Core.Path.{_∙_, ap₂}
-use Rattle.side_tables.specs.Occurrences.{joined}
-use Rattle.side_tables.proofs.Joined.{joined-clamped}
+use Rattle.side_tables.specs.InPlace.{joined, cut, sequenced}
+use mathlib.Core.Path.{_∙_, ap, ap₂}
 use borrow.Author.Needs.{needs}
 use Rattle.side_tables.proofs.sequence.Statement.{statement}
 use Rattle.side_tables.proofs.sequence.Tie as tie
+use Rattle.side_tables.proofs.sequence.Reads as reads
+use Rattle.side_tables.proofs.sequence.Lts as lts
+use Rattle.side_tables.proofs.cut_ends.Reads as cut-ends-reads
+use Rattle.side_tables.proofs.join.Reads as join-reads
+use Rattle.side_tables.proofs.range_set.Reads as range-set-reads
 
-least-requires : tie.Need-least-requires
-least-requires c κs = search needs
+range-set-requires : tie.Need-range-set-requires
+range-set-requires c κs = search needs
 
-least-requires-2 : tie.Need-least-requires-2
-least-requires-2 c κs = search needs
+range-set-requires-2 : tie.Need-range-set-requires-2
+range-set-requires-2 c κs = search needs
 
-join-rows-requires : tie.Need-join-rows-requires
-join-rows-requires c κs = search needs
+join-requires : tie.Need-join-requires
+join-requires c κs = search needs
 
-cut-sets-requires : tie.Need-cut-sets-requires
-cut-sets-requires c κs = search needs
-
-cut-sets-requires-2 : tie.Need-cut-sets-requires-2
-cut-sets-requires-2 c κs = search needs
+cut-ends-requires : tie.Need-cut-ends-requires
+cut-ends-requires c κs = search needs
 
 returns : tie.Need-returns
+unfolding sequenced
 returns c =
-    let d = c .before .before .before .before in
-    let g = d .before .before .before .before .before .before in
-    let a = g .before .before .args in (
-      c .before .before .cut-sets .ensures,
-      c .cut-sets2 .ensures,
-      d .join-rows .ensures
-          ∙ ap₂ (λ m e. joined (a .first .now) (a .last .now) (a .follow .now) (a .lo) m (a .mid) e) (g .before .least .ensures) (g .least2 .ensures)
-          ∙ joined-clamped (a .first .now) (a .last .now) (a .follow .now) (a .lo) (a .mid) (a .mid) (a .hi) (omega arith),
-    )
+    c .cut-ends .ensures ∙ ap (cut _ _ (c .before .before .before .before .before .before .args .x) (c .before .before .before .before .before .before .args .y)) (c .before .before .join .ensures)
+    ∙ ap₂ (λ s t. cut s t (c .before .before .before .before .before .before .args .x) (c .before .before .before .before .before .before .args .y) (joined s t (c .before .before .before .before .before .before .args .table .now))) (c .before .before .before .before .before .range-set .ensures) (c .before .before .before .before .range-set2 .ensures)
 
 pub sequence-spec : {M : Type 1} → statement M
 sequence-spec =
     tie.close
-    (tie.spec
-    least-requires
-    least-requires-2
-    join-rows-requires
-    cut-sets-requires
-    cut-sets-requires-2
-    returns)
+    (tie.spec range-set-requires range-set-requires-2 join-requires cut-ends-requires returns)

@@ -1,0 +1,51 @@
+-- `show::accepted_line` meets its contract. One piece after the other.
+-- Assumes nothing.
+use Rattle.show.proofs.Shown.{accepted-pieces}
+use Rattle.show.proofs.Short.{accepted-short}
+use borrow.Author.Needs.{needs}
+use Rattle.show.proofs.accepted_line.Statement.{statement}
+use Rattle.show.proofs.accepted_line.Tie as tie
+
+slice-aggregate-put-text : tie.Need-slice-aggregate-put-text
+slice-aggregate-put-text c = search needs
+
+put-text-requires : tie.Need-put-text-requires
+put-text-requires c κs = search needs
+
+put-kind-requires : tie.Need-put-kind-requires
+put-kind-requires c κs = search needs
+
+put-number-requires : tie.Need-put-number-requires
+put-number-requires c κs = search needs
+
+put-number-requires-2 : tie.Need-put-number-requires-2
+put-number-requires-2 c κs = search needs
+
+put-byte-requires : tie.Need-put-byte-requires
+put-byte-requires c κs = search needs
+
+same-length : tie.Need-same-length
+same-length c = search needs
+
+returns : tie.Need-returns
+returns c =
+    let n = c .before .before .before .before .before .before in
+    let k = n .before .before .before .before .before .before .before .before in
+    let a = k .before .before .before .before .before .before .before .before .args in (
+      accepted-pieces _ _ _ (k .before .before .before .before .put-text .ensures) (k .put-kind .ensures)
+          (n .before .before .before .before .put-number .ensures) (n .put-number2 .ensures) (c .before .before .put-byte .ensures),
+      accepted-short (a .ring) (a .left) (a .right) (search needs) (search needs),
+    )
+
+pub accepted-line-spec : {M : Type 1} → statement M
+accepted-line-spec =
+    tie.close
+    (tie.spec
+    slice-aggregate-put-text
+    put-text-requires
+    put-kind-requires
+    put-number-requires
+    put-number-requires-2
+    put-byte-requires
+    same-length
+    returns)

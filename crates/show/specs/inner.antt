@@ -1,0 +1,2 @@
+-- The same line, of an answer of the code.
+pub mod Answers

@@ -1,2 +1,0 @@
--- Where to go on, place by place.
-pub mod Leaps

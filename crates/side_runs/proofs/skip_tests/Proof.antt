@@ -1,0 +1,62 @@
+-- `side_runs::skip_tests` meets its contract. The invariant: only codes of a T were passed. The measure is what is left of the codes.
+-- Assumes nothing.
+use Rattle.side_runs.proofs.RunningAll.{skip-more, is-test}
+use Rattle.side_runs.specs.inner.Running.{Skipped}
+use lib.ListN.{length}
+use native.Mathlib.Omega.{arith}
+use Prim.Native.Nat.{_-_, _+_}
+use borrow.Author.Needs.{needs}
+use Rattle.side_runs.proofs.skip_tests.Statement.{statement}
+use Rattle.side_runs.proofs.skip_tests.Tie as tie
+use Rattle.side_runs.proofs.skip_tests.Reads as reads
+use Rattle.side_runs.proofs.skip_tests.Lts as lts
+use Rattle.side_items.proofs.of_test.Reads as of-test-reads
+
+abbrev Inv-loop : tie.InvT-loop
+Inv-loop codes pc i₀ i = Skipped codes pc i
+
+abbrev μ-loop : tie.MeasureT-loop
+μ-loop codes pc i₀ i = length codes - i
+
+loop-holds : tie.Need-loop-holds Inv-loop μ-loop
+loop-holds c = (omega arith, λ j a b. absurd (omega arith))
+
+mul-of-test : tie.Need-mul-of-test Inv-loop μ-loop
+mul-of-test c = search needs
+
+shared-slice-read-of-test : tie.Need-shared-slice-read-of-test Inv-loop μ-loop
+shared-slice-read-of-test c = omega arith
+
+of-test-requires : tie.Need-of-test-requires Inv-loop μ-loop
+of-test-requires c κs = search needs
+
+returns : tie.Need-returns Inv-loop μ-loop
+returns c = c .before .before .before .before .loop .inv
+
+add-i : tie.Need-add-i Inv-loop μ-loop
+add-i c = omega arith
+
+loop-less : tie.Need-loop-less Inv-loop μ-loop
+loop-less c = omega arith
+
+loop-again : tie.Need-loop-again Inv-loop μ-loop
+loop-again c = skip-more (c .before .before .before .before .before .before .args .codes .now) (c .before .before .before .before .before .before .args .pc) (c .before .before .before .before .loop .i) (c .before .before .before .before .loop .inv) _ (c .before .of-test .ensures) (c .if1 .left)
+
+returns-2 : tie.Need-returns-2 Inv-loop μ-loop
+returns-2 c = c .before .loop .inv
+
+pub skip-tests-spec : {M : Type 1} → statement M
+skip-tests-spec =
+    tie.close
+    (tie.spec
+    Inv-loop
+    μ-loop
+    loop-holds
+    mul-of-test
+    shared-slice-read-of-test
+    of-test-requires
+    returns
+    add-i
+    loop-less
+    loop-again
+    returns-2)

@@ -1,0 +1,23 @@
+-- A program in memory: the codes of a query, and behind one another what each of them needs, the sets of the relations and the set of the lines
+-- that are left out of the assumptions. It is defined for any memory: past its end stands 0.
+-- Assumes nothing.
+use Prim.Native.Nat.{ℕ, _+_, _/_, _%_}
+use mathlib.Core.Bool.{Bool, not}
+use mathlib.Core.List.{List, _++_}
+use lib.ListN.{length, getD, drop}
+use Rattle.claims.specs.Query.{bit}
+use Rattle.codes.specs.Codes.{RELATION-SETS}
+use Rattle.side_items.specs.Items.{Item, paired}
+use Rattle.words.specs.Memory.{zeros}
+
+-- each code with what it needs
+unfoldable pub itemsIn : List ℕ → List ℕ → List Item
+itemsIn ks ns = paired ks (ns ++ zeros (length ks))
+
+-- the sets of the relations, and what stands behind them
+unfoldable pub setsIn : List ℕ → List ℕ → List ℕ
+setsIn ks ns = drop (length ks) ns
+
+-- line l, counted from 0, counts as an assumption: it is not left out
+unfoldable pub countsIn : List ℕ → List ℕ → ℕ → Bool
+countsIn ks ns l = not (bit (l % 64) (getD ns (length ks + RELATION-SETS + l / 64) 0))

@@ -1,0 +1,2 @@
+-- Parts in memory.
+pub mod PartsInMemory

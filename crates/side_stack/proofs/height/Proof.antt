@@ -1,0 +1,25 @@
+-- `side_stack::height` meets its contract.
+-- Assumes nothing.
+use Rattle.side_stack.specs.Stack.{heightIn}
+use Prim.Native.Nat.{min}
+use mathlib.Core.Path.{_∙_, ap}
+use borrow.Author.Needs.{needs}
+use Rattle.side_stack.proofs.height.Statement.{statement}
+use Rattle.side_stack.proofs.height.Tie as tie
+use Rattle.side_stack.proofs.height.Reads as reads
+use Rattle.side_stack.proofs.height.Lts as lts
+use Rattle.words.proofs.least.Reads as least-reads
+use Rattle.words.proofs.word.Reads as word-reads
+
+word-requires : tie.Need-word-requires
+word-requires c κs = search needs
+
+least-requires : tie.Need-least-requires
+least-requires c κs = search needs
+
+returns : tie.Need-returns
+unfolding heightIn
+returns c = c .least .ensures ∙ ap (λ v. min v 544) (c .before .word .ensures)
+
+pub height-spec : {M : Type 1} → statement M
+height-spec = tie.close (tie.spec word-requires least-requires returns)

@@ -1,0 +1,2 @@
+-- The parts that wait.
+pub mod Stack
