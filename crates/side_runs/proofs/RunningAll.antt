@@ -6,12 +6,13 @@ use native.Mathlib.Numerals.{add-one}
 use native.Mathlib.Omega.{arith}
 use mathlib.Core.Path.{_≡_, refl, sym, ap, _∙_}
 use mathlib.Core.Logic.{⊎-elim}
-use mathlib.Core.Bool.{Bool, true, false, not, _&&_}
+use mathlib.Core.Bool.{Bool, true, false, not, _&&_, _||_}
 use mathlib.Core.List.{List, [], _∷_}
-use lib.Dec.{eqb}
+use lib.Dec.{eqb, leb, ltb}
 use lib.ListN.{length, getD, drop, drop-of-length-le}
 use lib.Seq.{drop-cons}
 use borrow.Author.Tests.{lt-ltb, le-ltb}
+use Rattle.kat.proofs.Bools.{lt-or-le}
 use Rattle.side_parts.specs.Machine.{Machine, given, united}
 use Rattle.side_items.specs.Items.{Item, ofTest, startsFrom, startsOf}
 use Rattle.words.proofs.Words.{same-or-not}
@@ -101,6 +102,15 @@ skip-more ks pc i (h, t) b e f = (
   omega arith,
   λ j a l. ⊎-elim (λ z. ap (λ n. ofTest (getD ks n 0)) z ∙ sym e ∙ is-test b f) (λ z. t j a (omega arith)) (same-or-not j i),
 )
+
+-- an operator of a T more
+pub skip-operator : (ks : List ℕ) (pc i : ℕ) → Skipped ks pc i → getD ks i 0 < 6 → Skipped ks pc (i + 1)
+unfolding ofTest
+skip-operator ks pc i s h = skip-more ks pc i s true (sym (ap (λ b. b || (leb 16 (getD ks i 0) && ltb (getD ks i 0) 32)) (lt-ltb (getD ks i 0) 6 h))) refl
+
+-- passed on from where it was passed to
+pub skip-on : (ks : List ℕ) (pc i r : ℕ) → Skipped ks pc i → Skipped ks i r → Skipped ks pc r
+skip-on ks pc i r (h, t) (g, u) = (omega arith, λ j a b. ⊎-elim (λ z. t j a z) (λ z. u j z b) (lt-or-le j i))
 
 -- uniting once more
 pub united-more : (n : ℕ) (m m′ : Machine) → 0 < n → m′ ≡ united m → unitedTimes (n - 1) m′ ≡ unitedTimes n m

@@ -18,16 +18,30 @@ ghost use Rattle.side_runs.specs.Program.{itemsIn, setsIn, countsIn};
 ghost use Rattle.side_runs.specs.Execution.{executeAll, unitedTimes, executeUnion};
 ghost use Rattle.side_runs.specs.inner.Running.{Skipped, LineRan, ItemRan};
 
-// The first place from pc on at which no code of a T stands.
-fn skip_tests(codes: &[u64], pc: usize) -> usize
+// The first place from pc on at which no operator of a T stands.
+fn skip_operators(codes: &[u64], pc: usize) -> usize
     ensures { λ r. ⌜ Skipped (now (codes .entry)) pc r ⌝ }
 {
     let mut i = pc;
     while i < codes.len() {
-        if !side_items::of_test(codes[i]) {
+        if codes::TESTED <= codes[i] {
             return i;
         }
         i += 1;
+    }
+    i
+}
+
+// The first place from pc on at which no code of a T stands.
+fn skip_tests(codes: &[u64], pc: usize) -> usize
+    ensures { λ r. ⌜ Skipped (now (codes .entry)) pc r ⌝ }
+{
+    let mut i = skip_operators(codes, pc);
+    while i < codes.len() {
+        if !side_items::of_test(codes[i]) {
+            return i;
+        }
+        i = skip_operators(codes, i + 1);
     }
     i
 }

@@ -22,13 +22,13 @@ use Rattle.bits.proofs.Members.{number-in, in-number}
 use Rattle.words.specs.Memory.{forEach}
 use Rattle.words.proofs.Words.{same-or-not}
 use Rattle.words.proofs.Walks.{each-length}
-use Rattle.side_tables.specs.InPlace.{putInto, joinedAt, joined, keptIf, cutAt, cut, markedAt, addedAt, letteredAt}
-use Rattle.side_tables.proofs.Walks.{put-length, joined-at-length, cut-length, added-at-length, lettered-length}
+use Rattle.side_tables.specs.InPlace.{putInto, joinedAt, joined}
+use Rattle.side_tables.proofs.Walks.{put-length, joined-at-length}
 use Rattle.side_tables.proofs.EachNumber as each
 
 -- a set put into words
 module _ (base f : ℕ) where
-  twice : (b : Bool) (w : ℕ) → cond b (bitOr (bitOr w f) f) (bitOr w f) ≡ bitOr w f
+  pub twice : (b : Bool) (w : ℕ) → cond b (bitOr (bitOr w f) f) (bitOr w f) ≡ bitOr w f
   twice true w = or-assoc w f f ∙ ap (bitOr w) (or-self f)
   twice false w = refl
 

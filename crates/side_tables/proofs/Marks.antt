@@ -1,24 +1,28 @@
 -- What stands in a table after a cut and after a new occurrence, place by place.
 -- Assumes nothing.
-use Prim.Native.Nat.{ℕ, _+_, _-_, _*_, _≤_, _<_}
+use Prim.Native.Nat.{ℕ, _+_, _-_, _*_, _^_, _≤_, _<_}
 use native.Mathlib.Omega.{arith}
 use mathlib.Core.Path.{_≡_, refl, sym, _∙_, ap, ap₂}
 use mathlib.Core.Logic.{_⊎_, ⊎-elim}
 use mathlib.Core.Logic._⊎_.{inl, inr}
-use mathlib.Core.Bool.{Bool, cond}
-use mathlib.Core.List.{List}
+use mathlib.Core.Bool.{Bool, true, false, cond, _||_}
+use mathlib.Core.List.{List, [], _∷_}
 use lib.ListN.{length, getD, set, length-set}
 use lib.Seq.{getD-set-same, getD-set-other}
-use borrow.Author.Tests.{lt-ltb}
-use Rattle.kat.specs.Lists.{upto}
+use lib.Bits.{bitOr}
+use lib.Dec.{eqb}
+use borrow.Author.Tests.{lt-ltb, eq-eqb, ne-eqb}
+use Rattle.kat.specs.Lists.{In, here, there, member, upto}
 use Rattle.claims.specs.Query.{bit}
-use Rattle.bits.specs.Sets.{including}
+use Rattle.bits.specs.Sets.{including, members}
+use Rattle.bits.proofs.Members.{number-in, member-number}
+use Rattle.bits.proofs.Rows.{including-in}
 use Rattle.words.specs.Memory.{forEach}
 use Rattle.words.proofs.Walks.{each-length}
 use Rattle.words.proofs.Words.{same-or-not}
-use Rattle.side_tables.specs.InPlace.{keptIf, cutAt, cut, markedAt, addedAt, letteredAt, added}
-use Rattle.side_tables.proofs.Walks.{marked-length, cut-length, added-at-length, lettered-length}
-use Rattle.side_tables.proofs.Changes.{OfAtom, of-one-atom, of-no-atom}
+use Rattle.side_tables.specs.InPlace.{keptIf, cutAt, cut, markedAt, letteredAt, putInto, putAtAtom, added}
+use Rattle.side_tables.proofs.Walks.{cut-length, put-length, put-atom-length, lettered-length}
+use Rattle.side_tables.proofs.Changes.{OfAtom, of-one-atom, of-no-atom, twice, put-member, put-elsewhere}
 use Rattle.side_tables.proofs.EachNumber as each
 
 -- a cut
@@ -95,15 +99,50 @@ marked-out i k j b t h = getD-set-other t i j (cond b (including 64 (getD t i 0)
 abbrev pub withBit : Bool → ℕ → ℕ → ℕ
 withBit b k w = cond b (including 64 w k) w
 
+-- a set put into a word of the steps at each atom of a set
+module _ (base f : ℕ) where
+  atom-beside : (a i : ℕ) (t : List ℕ) → (i ≡ 65 * a + base → ⊥) → getD (putAtAtom base f a t) i 0 ≡ getD t i 0
+  unfolding putAtAtom
+  atom-beside a i t o = getD-set-other t (65 * a + base) i (bitOr (getD t (65 * a + base) 0) f) 0 o
+
+  atom-at : (a : ℕ) (t : List ℕ) → 65 * a + base < length t → getD (putAtAtom base f a t) (65 * a + base) 0 ≡ bitOr (getD t (65 * a + base) 0) f
+  unfolding putAtAtom
+  atom-at a t h = getD-set-same t (65 * a + base) (bitOr (getD t (65 * a + base) 0) f) 0 h
+
+  listed-beside : (xs t : List ℕ) (i : ℕ) → ((a : ℕ) → In a xs → i ≡ 65 * a + base → ⊥) → getD (forEach (putAtAtom base f) xs t) i 0 ≡ getD t i 0
+  unfolding forEach
+  listed-beside [] t i o = refl
+  listed-beside (a ∷ xs) t i o = listed-beside xs (putAtAtom base f a t) i (λ b m. o b (there m)) ∙ atom-beside a i t (o a (here refl))
+
+  each-beside : (s i : ℕ) (t : List ℕ) → ((a : ℕ) → a < 64 → i ≡ 65 * a + base → ⊥) → getD (forEach (putAtAtom base f) (members s) t) i 0 ≡ getD t i 0
+  each-beside s i t o = listed-beside (members s) t i (λ a m e. let (x, y, z) = number-in 0 64 s a m in o a y e)
+
+  each-at : (xs t : List ℕ) (b : ℕ) → 65 * b + base < length t
+      → getD (forEach (putAtAtom base f) xs t) (65 * b + base) 0 ≡ cond (member b xs) (bitOr (getD t (65 * b + base) 0) f) (getD t (65 * b + base) 0)
+  unfolding forEach
+  each-at [] t b h = refl
+  each-at (a ∷ xs) t b h =
+      each-at xs (putAtAtom base f a t) b (omega (arith, put-atom-length base f a t)) ∙ ⊎-elim hit miss (same-or-not b a)
+    where
+      w : ℕ
+      w = getD t (65 * b + base) 0
+
+      hit : b ≡ a → cond (member b xs) (bitOr (getD (putAtAtom base f a t) (65 * b + base) 0) f) (getD (putAtAtom base f a t) (65 * b + base) 0)
+          ≡ cond (eqb b a || member b xs) (bitOr w f) w
+      hit e =
+          let z : getD (putAtAtom base f a t) (65 * b + base) 0 ≡ bitOr w f =
+          ap (λ c. getD (putAtAtom base f c t) (65 * b + base) 0) (sym e) ∙ atom-at b t h in
+          ap (λ x. cond (member b xs) (bitOr x f) x) z ∙ twice base f (member b xs) w
+          ∙ sym (ap (λ c. cond (c || member b xs) (bitOr w f) w) (eq-eqb b a e))
+
+      miss : (b ≡ a → ⊥) → cond (member b xs) (bitOr (getD (putAtAtom base f a t) (65 * b + base) 0) f) (getD (putAtAtom base f a t) (65 * b + base) 0)
+          ≡ cond (eqb b a || member b xs) (bitOr w f) w
+      miss e =
+          ap (λ x. cond (member b xs) (bitOr x f) x) (atom-beside a (65 * b + base) t (λ z. e (omega arith)))
+          ∙ sym (ap (λ c. cond (c || member b xs) (bitOr w f) w) (ne-eqb b a e))
+
 -- a new occurrence
 module _ (k f l g s : ℕ) (room : k < 64) where
-  atom-others : (a : ℕ) (t : List ℕ) (i : ℕ) → a < 64 → length t ≡ 4241 → (OfAtom a i → ⊥) → getD (addedAt k f l g a t) i 0 ≡ getD t i 0
-  unfolding addedAt
-  atom-others a t i h z o =
-      marked-out (65 * a + 1 + k) k i (bit a g) _ (λ e. o (inl (omega arith, omega arith, omega arith)))
-      ∙ marked-out (4160 + a) k i (bit a l) _ (λ e. o (inr (e, h)))
-      ∙ marked-out (65 * a) k i (bit a f) t (λ e. o (inl (omega arith, omega arith, omega arith)))
-
   letter-others : (r : ℕ) (t : List ℕ) (i : ℕ) → r < 16 → length t ≡ 4241 → (i ≡ 4224 + r → ⊥) → getD (letteredAt k s r t) i 0 ≡ getD t i 0
   unfolding letteredAt
   letter-others r t i h z o = marked-out (4224 + r) k i (bit r s) t o
@@ -111,12 +150,32 @@ module _ (k f l g s : ℕ) (room : k < 64) where
   letters-apart : (q r i : ℕ) → i ≡ 4224 + q → i ≡ 4224 + r → q ≡ r
   letters-apart q r i x y = omega arith
 
+  -- a bit where a test holds
+  as-bit : (b : Bool) (w : ℕ) → cond b (bitOr w (2 ^ k)) w ≡ withBit b k w
+  as-bit true w = sym (including-in 64 w k room)
+  as-bit false w = refl
+
   module _ (t : List ℕ) (long : length t ≡ 4241) where
+    abbrev own : ℕ
+    own = 2 ^ k
+
+    abbrev t1 : List ℕ
+    t1 = forEach (putAtAtom 0 own) (members f) t
+
+    abbrev t2 : List ℕ
+    t2 = forEach (putInto 4160 own) (members l) t1
+
     abbrev atoms : List ℕ
-    atoms = forEach (addedAt k f l g) (upto 0 64) t
+    atoms = forEach (putAtAtom (k + 1) own) (members g) t2
+
+    long1 : length t1 ≡ 4241
+    long1 = each-length (putAtAtom 0 own) (put-atom-length 0 own) (members f) t ∙ long
+
+    long2 : length t2 ≡ 4241
+    long2 = each-length (putInto 4160 own) (put-length 4160 own) (members l) t1 ∙ long1
 
     atoms-long : length atoms ≡ 4241
-    atoms-long = each-length (addedAt k f l g) (added-at-length k f l g) (upto 0 64) t ∙ long
+    atoms-long = each-length (putAtAtom (k + 1) own) (put-atom-length (k + 1) own) (members g) t2 ∙ long2
 
     both : added k f l g s t ≡ forEach (letteredAt k s) (upto 0 16) atoms
     unfolding added
@@ -128,59 +187,54 @@ module _ (k f l g s : ℕ) (room : k < 64) where
         ∙ each.each-others (letteredAt k s) (lettered-length k s) (λ r j. j ≡ 4224 + r) letters-apart 16 letter-others 0 16 atoms i (omega arith) atoms-long
         (λ r x y e. omega arith)
 
-    added-at : (a : ℕ) → a < 64
-        → each.Reached (addedAt k f l g) (added-at-length k f l g) OfAtom of-one-atom 64 atom-others t atoms a
-    added-at a h = each.each-own (addedAt k f l g) (added-at-length k f l g) OfAtom of-one-atom 64 atom-others 0 64 a t (omega arith) long (omega arith) (omega arith)
+    -- an atom below 64 is in a set where its bit is set
+    atom-in : (x a : ℕ) → a < 64 → member a (members x) ≡ bit a x
+    atom-in x a h = member-number 0 64 x a (omega arith) h ∙ ap (λ n. bit n x) (omega arith)
+
+    -- the steps after an occurrence, before it is let follow itself
+    step-beside : (a p : ℕ) → a < 64 → p < 64 → getD t2 (65 * a + 1 + p) 0 ≡ getD t (65 * a + 1 + p) 0
+    step-beside a p h i =
+        put-elsewhere 4160 own l (65 * a + 1 + p) t1 (omega (arith, long1)) (inl (omega arith))
+        ∙ each-beside 0 own f (65 * a + 1 + p) t (λ b j e. omega arith)
 
     pub added-first : (a : ℕ) → a < 64 → getD (added k f l g s t) (65 * a) 0 ≡ withBit (bit a f) k (getD t (65 * a) 0)
-    unfolding addedAt
     added-first a h =
-        let r = added-at a h in
-        let o : OfAtom a (65 * a) = inl (omega arith, omega arith, omega arith) in
-        letters-beside (65 * a) (omega arith) ∙ r .after (65 * a) o
-        ∙ marked-out (65 * a + 1 + k) k (65 * a) (bit a g) _ (λ e. omega arith)
-        ∙ marked-out (4160 + a) k (65 * a) (bit a l) _ (λ e. omega arith)
-        ∙ marked-in (65 * a) k (bit a f) (r .before) (omega (arith, r .long))
-        ∙ ap (withBit (bit a f) k) (r .same (65 * a) o)
+        letters-beside (65 * a) (omega arith)
+        ∙ each-beside (k + 1) own g (65 * a) t2 (λ b i e. omega arith)
+        ∙ put-elsewhere 4160 own l (65 * a) t1 (omega (arith, long1)) (inl (omega arith))
+        ∙ ap (λ i. getD t1 i 0) (omega arith)
+        ∙ each-at 0 own (members f) t a (omega (arith, long))
+        ∙ ap (λ b. cond b (bitOr (getD t (65 * a + 0) 0) own) (getD t (65 * a + 0) 0)) (atom-in f a h)
+        ∙ as-bit (bit a f) (getD t (65 * a + 0) 0) ∙ ap (λ i. withBit (bit a f) k (getD t i 0)) (omega arith)
 
     pub added-end : (a : ℕ) → a < 64 → getD (added k f l g s t) (4160 + a) 0 ≡ withBit (bit a l) k (getD t (4160 + a) 0)
-    unfolding addedAt
     added-end a h =
-        let r = added-at a h in
-        let o : OfAtom a (4160 + a) = inr (refl, h) in
-        letters-beside (4160 + a) (omega arith) ∙ r .after (4160 + a) o
-        ∙ marked-out (65 * a + 1 + k) k (4160 + a) (bit a g) _ (λ e. omega arith)
-        ∙ marked-in (4160 + a) k (bit a l) _ (omega (arith, r .long, marked-length (65 * a) k (bit a f) (r .before)))
-        ∙ ap (withBit (bit a l) k) (marked-out (65 * a) k (4160 + a) (bit a f) (r .before) (λ e. omega arith) ∙ r .same (4160 + a) o)
+        letters-beside (4160 + a) (omega arith)
+        ∙ each-beside (k + 1) own g (4160 + a) t2 (λ b i e. omega arith)
+        ∙ put-member 4160 own l a t1 h (omega (arith, long1)) ∙ as-bit (bit a l) (getD t1 (4160 + a) 0)
+        ∙ ap (withBit (bit a l) k) (each-beside 0 own f (4160 + a) t (λ b i e. omega arith))
 
     pub added-own : (a : ℕ) → a < 64 → getD (added k f l g s t) (65 * a + 1 + k) 0 ≡ withBit (bit a g) k (getD t (65 * a + 1 + k) 0)
-    unfolding addedAt
     added-own a h =
-        let r = added-at a h in
-        let o : OfAtom a (65 * a + 1 + k) = inl (omega arith, omega arith, omega arith) in
-        let u = markedAt (65 * a) k (bit a f) (r .before) in
-        letters-beside (65 * a + 1 + k) (omega arith) ∙ r .after (65 * a + 1 + k) o
-        ∙ marked-in (65 * a + 1 + k) k (bit a g) _
-        (omega (arith, r .long, marked-length (65 * a) k (bit a f) (r .before), marked-length (4160 + a) k (bit a l) u))
-        ∙ ap (withBit (bit a g) k) (marked-out (4160 + a) k (65 * a + 1 + k) (bit a l) u (λ e. omega arith)
-        ∙ marked-out (65 * a) k (65 * a + 1 + k) (bit a f) (r .before) (λ e. omega arith) ∙ r .same (65 * a + 1 + k) o)
+        let z : 65 * a + 1 + k ≡ 65 * a + (k + 1) = omega arith in
+        letters-beside (65 * a + 1 + k) (omega arith) ∙ ap (λ i. getD atoms i 0) z
+        ∙ each-at (k + 1) own (members g) t2 a (omega (arith, long2))
+        ∙ ap (λ b. cond b (bitOr (getD t2 (65 * a + (k + 1)) 0) own) (getD t2 (65 * a + (k + 1)) 0)) (atom-in g a h)
+        ∙ as-bit (bit a g) (getD t2 (65 * a + (k + 1)) 0)
+        ∙ ap (withBit (bit a g) k) (ap (λ i. getD t2 i 0) (sym z) ∙ step-beside a k h room)
 
     pub added-step : (a p : ℕ) → a < 64 → p < 64 → (p ≡ k → ⊥) → getD (added k f l g s t) (65 * a + 1 + p) 0 ≡ getD t (65 * a + 1 + p) 0
-    unfolding addedAt
     added-step a p h i n =
-        let r = added-at a h in
-        let o : OfAtom a (65 * a + 1 + p) = inl (omega arith, omega arith, omega arith) in
-        letters-beside (65 * a + 1 + p) (omega arith) ∙ r .after (65 * a + 1 + p) o
-        ∙ marked-out (65 * a + 1 + k) k (65 * a + 1 + p) (bit a g) _ (λ e. n (omega arith))
-        ∙ marked-out (4160 + a) k (65 * a + 1 + p) (bit a l) _ (λ e. omega arith)
-        ∙ marked-out (65 * a) k (65 * a + 1 + p) (bit a f) (r .before) (λ e. omega arith)
-        ∙ r .same (65 * a + 1 + p) o
+        letters-beside (65 * a + 1 + p) (omega arith)
+        ∙ each-beside (k + 1) own g (65 * a + 1 + p) t2 (λ b j e. n (omega arith))
+        ∙ step-beside a p h i
 
     -- past the ends, nothing was done atom by atom
-    atoms-above : (i : ℕ) → 4224 ≤ i → getD atoms i 0 ≡ getD t i 0
-    atoms-above i h =
-        each.each-others (addedAt k f l g) (added-at-length k f l g) OfAtom of-one-atom 64 atom-others 0 64 t i (omega arith) long
-        (λ a x y. of-no-atom a i h)
+    atoms-above : (i : ℕ) → 4224 ≤ i → i < 4241 → getD atoms i 0 ≡ getD t i 0
+    atoms-above i h j =
+        each-beside (k + 1) own g i t2 (λ b x e. omega arith)
+        ∙ put-elsewhere 4160 own l i t1 (omega (arith, long1)) (inr (omega arith))
+        ∙ each-beside 0 own f i t (λ b x e. omega arith)
 
     pub added-letter : (r : ℕ) → r < 16 → getD (added k f l g s t) (4224 + r) 0 ≡ withBit (bit r s) k (getD t (4224 + r) 0)
     unfolding letteredAt
@@ -188,14 +242,14 @@ module _ (k f l g s : ℕ) (room : k < 64) where
         let z = each.each-own (letteredAt k s) (lettered-length k s) (λ r j. j ≡ 4224 + r) letters-apart 16 letter-others 0 16 r atoms (omega arith) atoms-long (omega arith) (omega arith) in
         ap (λ u. getD u (4224 + r) 0) both ∙ z .after (4224 + r) refl
         ∙ marked-in (4224 + r) k (bit r s) (z .before) (omega (arith, z .long))
-        ∙ ap (withBit (bit r s) k) (z .same (4224 + r) refl ∙ atoms-above (4224 + r) (omega arith))
+        ∙ ap (withBit (bit r s) k) (z .same (4224 + r) refl ∙ atoms-above (4224 + r) (omega arith) (omega arith))
 
-    pub added-above : (i : ℕ) → 4240 ≤ i → getD (added k f l g s t) i 0 ≡ getD t i 0
-    added-above i h =
-        ap (λ u. getD u i 0) both
-        ∙ each.each-others (letteredAt k s) (lettered-length k s) (λ r j. j ≡ 4224 + r) letters-apart 16 letter-others 0 16 atoms i (omega arith) atoms-long
+    pub added-above : getD (added k f l g s t) 4240 0 ≡ getD t 4240 0
+    added-above =
+        ap (λ u. getD u 4240 0) both
+        ∙ each.each-others (letteredAt k s) (lettered-length k s) (λ r j. j ≡ 4224 + r) letters-apart 16 letter-others 0 16 atoms 4240 (omega arith) atoms-long
         (λ r x y e. omega arith)
-        ∙ atoms-above i (omega arith)
+        ∙ atoms-above 4240 (omega arith) (omega arith)
 
     pub added-long : length (added k f l g s t) ≡ 4241
     added-long = ap length both ∙ each-length (letteredAt k s) (lettered-length k s) (upto 0 16) atoms ∙ atoms-long

@@ -152,5 +152,5 @@ shows-added {U} {E} {t = t} y x k f l g s z room isF isL isG isS =
       letter = λ r q h.
           ap (bit q) (added-letter k f l g s room t (x .long) r h) ∙ with-bit (bit r s) k (getD t (4224 + r) 0) q room
           ∙ ap₂ _||_ (x .letter r q h) (ap (λ b. eqb q k && b) (isS r h) ∙ own-reads y k q r ∙ ap (λ n. reads E n (suc q) r) (sym z));
-      untold = added-above k f l g s room t (x .long) 4240 (omega arith) ∙ x .untold;
+      untold = added-above k f l g s room t (x .long) ∙ x .untold;
     }

@@ -1,20 +1,24 @@
 -- A walk of a set by its trailing zeros that changes the memory for each member; and the words that stores leave, as the changes of a table
 -- name them.
 -- Assumes nothing.
-use Prim.Native.Nat.{ℕ, _+_, _-_, _*_}
+use Prim.Native.Nat.{ℕ, _+_, _-_, _*_, _^_, _<_}
 use mathlib.Core.Path.{_≡_, refl, sym, _∙_, ap, ap₂}
 use mathlib.Core.Bool.{Bool, cond}
-use mathlib.Core.List.{List}
-use lib.Bits.{bitAnd, bitOr}
+use mathlib.Core.List.{List, [], _∷_}
+use lib.Bits.{bitAnd, bitOr, or-zero-l, or-zero-r, and-zero-r}
 use lib.Count.{trailingZeros}
 use lib.ListN.{length, getD, set, length-set}
+use lib.Seq.{set-getD}
+use Rattle.kat.specs.Lists.{upto}
 use Rattle.claims.specs.Query.{bit}
 use Rattle.bits.specs.Sets.{including, members}
+use borrow.Author.Tests.{lt-ltb}
+use Rattle.bits.proofs.Rows.{including-in}
 use Rattle.bits.proofs.Members.{number-none}
 use Rattle.bits.proofs.Lowest.{Lowest}
 use Rattle.words.specs.Memory.{forEach}
 use Rattle.words.proofs.Walks.{each-length}
-use Rattle.side_tables.specs.InPlace.{putInto, keptIf, cutAt, markedAt, addedAt, letteredAt, joinedAt}
+use Rattle.side_tables.specs.InPlace.{putInto, putAtAtom, keptIf, cutAt, markedAt, letteredAt, joinedAt, joined, added}
 
 module _ (g : ℕ → List ℕ → List ℕ) where
   -- the lowest member's change is done
@@ -50,10 +54,9 @@ cut-length from to x y a t =
     let v = keptIf (bit a x) to (getD t (65 * a) 0) in
     set-twice-length t (65 * a) (4160 + a) v (keptIf (bit a y) from (getD (set t (65 * a) v) (4160 + a) 0))
 
-pub added-at-length : (k f l g a : ℕ) (t : List ℕ) → length (addedAt k f l g a t) ≡ length t
-unfolding addedAt
-added-at-length k f l g a t =
-    marked-length (65 * a + 1 + k) k (bit a g) _ ∙ marked-length (4160 + a) k (bit a l) _ ∙ marked-length (65 * a) k (bit a f) t
+pub put-atom-length : (base f a : ℕ) (t : List ℕ) → length (putAtAtom base f a t) ≡ length t
+unfolding putAtAtom
+put-atom-length base f a t = length-set t (65 * a + base) _
 
 pub lettered-length : (k s r : ℕ) (t : List ℕ) → length (letteredAt k s r t) ≡ length t
 unfolding letteredAt
@@ -63,13 +66,6 @@ lettered-length k s r t = marked-length (4224 + r) k (bit r s) t
 pub mark-made : (t u : List ℕ) (i k w v : ℕ) (b : Bool) → w ≡ getD t i 0 → v ≡ cond b (including 64 w k) w → u ≡ set t i v → u ≡ markedAt i k b t
 unfolding markedAt
 mark-made t u i k w v b e f h = h ∙ ap (set t i) (f ∙ ap (λ x. cond b (including 64 x k) x) e)
-
-pub added-made : (k f l g a : ℕ) (t u v w : List ℕ) (b c d : Bool) → b ≡ bit a f → c ≡ bit a l → d ≡ bit a g
-    → u ≡ markedAt (65 * a) k b t → v ≡ markedAt (4160 + a) k c u → w ≡ markedAt (65 * a + 1 + k) k d v → w ≡ addedAt k f l g a t
-unfolding addedAt
-added-made k f l g a t u v w b c d e h i j m n =
-    n ∙ ap₂ (λ y z. markedAt (65 * a + 1 + k) k y z) i
-    (m ∙ ap₂ (λ y z. markedAt (4160 + a) k y z) h (j ∙ ap (λ y. markedAt (65 * a) k y t) e))
 
 pub lettered-made : (k s r : ℕ) (t u : List ℕ) (b : Bool) → b ≡ bit r s → u ≡ markedAt (4224 + r) k b t → u ≡ letteredAt k s r t
 unfolding letteredAt
@@ -83,3 +79,45 @@ cut-made from to x y a t b c v w e f g h =
     let z : v ≡ keptIf (bit a x) to (getD t (65 * a) 0) = f ∙ ap (λ q. keptIf q to (getD t (65 * a) 0)) e in
     ap (set (set t (65 * a) v) (4160 + a)) (h ∙ ap (λ q. keptIf q from (getD (set t (65 * a) v) (4160 + a) 0)) g)
     ∙ ap (λ u. set (set t (65 * a) u) (4160 + a) (keptIf (bit a y) from (getD (set t (65 * a) u) (4160 + a) 0))) z
+
+-- nothing to join: none that may be last, or none that may be first
+module _ (base : ℕ) where
+  put-none : (ks t : List ℕ) → forEach (putInto base 0) ks t ≡ t
+  unfolding forEach putInto
+  put-none [] t = refl
+  put-none (k ∷ ks) t =
+      ap (forEach (putInto base 0) ks) (ap (set t (base + k)) (or-zero-r (getD t (base + k) 0)) ∙ set-getD t (base + k) 0) ∙ put-none ks t
+
+each-same : (g : ℕ → List ℕ → List ℕ) → ((a : ℕ) (t : List ℕ) → g a t ≡ t) → (xs t : List ℕ) → forEach g xs t ≡ t
+unfolding forEach
+each-same g h [] t = refl
+each-same g h (a ∷ xs) t = ap (forEach g xs) (h a t) ∙ each-same g h xs t
+
+pub none-last : (from to : ℕ) (t : List ℕ) → from ≡ 0 → t ≡ joined from to t
+unfolding joined joinedAt
+none-last from to t e =
+    sym (each-same (joinedAt from to)
+    (λ a u. members-end (putInto (65 * a + 1) (bitAnd (getD u (65 * a) 0) to)) (bitAnd (getD u (4160 + a) 0) from) u
+    (ap (bitAnd (getD u (4160 + a) 0)) e ∙ and-zero-r (getD u (4160 + a) 0)))
+    (upto 0 64) t)
+
+pub none-first : (from to : ℕ) (t : List ℕ) → to ≡ 0 → t ≡ joined from to t
+unfolding joined joinedAt
+none-first from to t e =
+    sym (each-same (joinedAt from to)
+    (λ a u. ap (λ f. forEach (putInto (65 * a + 1) f) (members (bitAnd (getD u (4160 + a) 0) from)) u)
+    (ap (bitAnd (getD u (65 * a) 0)) e ∙ and-zero-r (getD u (65 * a) 0))
+    ∙ put-none (65 * a + 1) (members (bitAnd (getD u (4160 + a) 0) from)) u)
+    (upto 0 64) t)
+
+-- a new occurrence, set by set
+pub added-made : (k f l g s : ℕ) → k < 64 → (t u v w x : List ℕ) (own : ℕ) → own ≡ including 64 0 k → u ≡ forEach (putAtAtom 0 own) (members f) t
+    → v ≡ forEach (putInto 4160 own) (members l) u → w ≡ forEach (putAtAtom (k + 1) own) (members g) v → x ≡ forEach (letteredAt k s) (upto 0 16) w
+    → x ≡ added k f l g s t
+unfolding added
+added-made k f l g s h t u v w x own e a b c d =
+    let z : own ≡ 2 ^ k = e ∙ including-in 64 0 k h ∙ or-zero-l (2 ^ k) in
+    d ∙ ap (forEach (letteredAt k s) (upto 0 16))
+    (c ∙ ap (forEach (putAtAtom (k + 1) own) (members g)) (b ∙ ap (forEach (putInto 4160 own) (members l)) a)
+    ∙ ap (λ o. forEach (putAtAtom (k + 1) o) (members g) (forEach (putInto 4160 o) (members l) (forEach (putAtAtom 0 o) (members f) t))) z)
+    ∙ sym (rw (lt-ltb k 64 h) refl)

@@ -3,7 +3,7 @@
 -- may come next at atom a where p was read last, 0 for nothing read, at 4160 + a those that may be last at atom a, and at 4224 + r those that
 -- read relation r. Each change goes atom by atom. It is defined for any memory: a place past its end takes nothing.
 -- Assumes nothing.
-use Prim.Native.Nat.{ℕ, _+_, _-_, _*_}
+use Prim.Native.Nat.{ℕ, _+_, _-_, _*_, _^_}
 use mathlib.Core.Bool.{Bool, cond}
 use mathlib.Core.List.{List}
 use lib.Bits.{bitAnd, bitOr}
@@ -48,18 +48,23 @@ cut from to x y t = forEach (cutAt from to x y) (upto 0 64) t
 unfoldable pub markedAt : ℕ → ℕ → Bool → List ℕ → List ℕ
 markedAt i k b t = set t i (cond b (including 64 (getD t i 0) k) (getD t i 0))
 
--- at atom a: the occurrence with bit k may be first, last or after itself where a is in f, l or g
-unfoldable pub addedAt : ℕ → ℕ → ℕ → ℕ → ℕ → List ℕ → List ℕ
-addedAt k f l g a t = markedAt (65 * a + 1 + k) k (bit a g) (markedAt (4160 + a) k (bit a l) (markedAt (65 * a) k (bit a f) t))
-
 -- it reads relation r where r is in s
 unfoldable pub letteredAt : ℕ → ℕ → ℕ → List ℕ → List ℕ
 letteredAt k s r t = markedAt (4224 + r) k (bit r s) t
 
+-- the set f is put into the word at base of the steps at atom a
+unfoldable pub putAtAtom : ℕ → ℕ → ℕ → List ℕ → List ℕ
+putAtAtom base f a t = set t (65 * a + base) (bitOr (getD t (65 * a + base) 0) f)
+
 -- A new occurrence with bit k, where there is such a bit: the atoms at which it may be first, last and follow itself, and the relations that
 -- it reads.
 unfoldable pub added : ℕ → ℕ → ℕ → ℕ → ℕ → List ℕ → List ℕ
-added k f l g s t = cond (ltb k 64) (forEach (letteredAt k s) (upto 0 16) (forEach (addedAt k f l g) (upto 0 64) t)) t
+added k f l g s t =
+    let own = 2 ^ k in
+    cond (ltb k 64)
+    (forEach (letteredAt k s) (upto 0 16)
+    (forEach (putAtAtom (k + 1) own) (members g) (forEach (putInto 4160 own) (members l) (forEach (putAtAtom 0 own) (members f) t))))
+    t
 
 -- Two parts in sequence, of the bits from lo to before mid and from mid to before hi; x and y are the atoms that are words of the left and of
 -- the right part.

@@ -7,7 +7,7 @@ ghost use Rattle.kat.specs.Lists.{upto};
 ghost use Rattle.bits.specs.Sets.{members};
 ghost use Rattle.claims.specs.Query.{bit};
 ghost use Rattle.words.specs.Memory.{forEach};
-ghost use Rattle.side_tables.specs.InPlace.{rangeSet, putInto, joinedAt, joined, keptIf, cutAt, cut, markedAt, addedAt, letteredAt, added, sequenced, iterated};
+ghost use Rattle.side_tables.specs.InPlace.{rangeSet, putInto, joinedAt, joined, keptIf, cutAt, cut, markedAt, letteredAt, putAtAtom, added, sequenced, iterated};
 
 // Words of a table: the steps, 65 for each of 64 atoms; the ends, one for each atom; the letters, one for each of 16 relations; and one.
 pub const ENDS: usize = 4160;
@@ -49,7 +49,7 @@ fn join_at(table: &mut [u64], from: u64, to: u64, a: usize)
 }
 
 // At every atom.
-fn join(table: &mut [u64], from: u64, to: u64)
+fn join_atoms(table: &mut [u64], from: u64, to: u64)
     requires { ⌜ length (now table) ≡ 4241 ⌝ }
     ensures { λ r. ⌜ now (table .exit) ≡ joined from to (now (table .entry)) ⌝ }
 {
@@ -58,6 +58,20 @@ fn join(table: &mut [u64], from: u64, to: u64)
         join_at(table, from, to, a);
         a += 1;
     }
+}
+
+// At every atom, where there is something to join.
+fn join(table: &mut [u64], from: u64, to: u64)
+    requires { ⌜ length (now table) ≡ 4241 ⌝ }
+    ensures { λ r. ⌜ now (table .exit) ≡ joined from to (now (table .entry)) ⌝ }
+{
+    if from == 0 {
+        return;
+    }
+    if to == 0 {
+        return;
+    }
+    join_atoms(table, from, to);
 }
 
 // s where `on`, and else without what is in r.
@@ -98,21 +112,7 @@ fn mark(table: &mut [u64], i: usize, k: usize, on: bool)
     words::store(table, i, w);
 }
 
-// At every atom: the occurrence with bit k may be first, last or after itself where the atom is in f, l or g.
-fn add_at_atoms(table: &mut [u64], k: usize, f: u64, l: u64, g: u64)
-    requires { ⌜ k < 64 ⌝ }
-    ensures { λ r. ⌜ now (table .exit) ≡ forEach (addedAt k f l g) (upto 0 64) (now (table .entry)) ⌝ }
-{
-    let mut a = 0;
-    while a < 64 {
-        mark(table, 65 * a, k, bits::member(f, a));
-        mark(table, ENDS + a, k, bits::member(l, a));
-        mark(table, 65 * a + 1 + k, k, bits::member(g, a));
-        a += 1;
-    }
-}
-
-// It reads the relations of s.
+// The occurrence with bit k reads the relations of s.
 fn add_letters(table: &mut [u64], k: usize, s: u64)
     ensures { λ r. ⌜ now (table .exit) ≡ forEach (letteredAt k s) (upto 0 16) (now (table .entry)) ⌝ }
 {
@@ -123,14 +123,38 @@ fn add_letters(table: &mut [u64], k: usize, s: u64)
     }
 }
 
-// A new occurrence with bit k, of which there are 64: at the atoms of f it may be read first, at those of l last, at those of g after itself,
-// and it reads the relations of the set s.
+// The set f is put into the words at `base` of the steps, at each atom of s.
+fn put_at_atoms(table: &mut [u64], base: usize, f: u64, s: u64)
+    requires { ⌜ (base < 65) × (length (now table) ≡ 4241) ⌝ }
+    ensures { λ r. ⌜ now (table .exit) ≡ forEach (putAtAtom base f) (members s) (now (table .entry)) ⌝ }
+{
+    let mut left = s;
+    while left != 0 {
+        let a = u64::trailing_zeros(left) as usize;
+        table[65 * a + base] = table[65 * a + base] | f;
+        left = left & (left - 1);
+    }
+}
+
+// A new occurrence with bit k: at the atoms of f it may be read first, at those of l last, at those of g after itself, and it reads the
+// relations of the set s.
+fn add(table: &mut [u64], k: usize, f: u64, l: u64, g: u64, s: u64)
+    requires { ⌜ (k < 64) × (length (now table) ≡ 4241) ⌝ }
+    ensures { λ r. ⌜ now (table .exit) ≡ added k f l g s (now (table .entry)) ⌝ }
+{
+    let own = bits::with(0, k);
+    put_at_atoms(table, 0, own, f);
+    put_into(table, ENDS, own, l);
+    put_at_atoms(table, k + 1, own, g);
+    add_letters(table, k, s);
+}
+
+// A new occurrence with bit k, of which there are 64.
 pub fn new_occurrence(table: &mut [u64; TABLE], k: usize, f: u64, l: u64, g: u64, s: u64)
     ensures { λ r. ⌜ now (table .exit) ≡ added k f l g s (now (table .entry)) ⌝ }
 {
     if k < 64 {
-        add_at_atoms(table, k, f, l, g);
-        add_letters(table, k, s);
+        add(table, k, f, l, g, s);
     }
 }
 

@@ -1,60 +1,27 @@
--- `side_tables::join` meets its contract. The invariant: the atoms that are left, changed in the table as it is, are all of them changed in the
--- table at the start. The measure is what is left of the atoms.
+-- `side_tables::join` meets its contract: where none may be last, or none first, there is nothing to join.
 -- Assumes nothing.
-use Rattle.side_tables.specs.InPlace.{joinedAt, joined}
-use Rattle.words.proofs.Walks.{each-more, each-end}
-use Rattle.words.specs.Memory.{forEach}
-use Rattle.kat.specs.Lists.{upto}
-use lib.ListN.{length}
-use mathlib.Core.Path.{_≡_, refl, sym, _∙_, ap}
-use native.Mathlib.Omega.{arith}
-use Prim.Native.Nat.{_-_, _≤_, _+_}
+use Rattle.side_tables.proofs.Walks.{none-last, none-first}
 use borrow.Author.Needs.{needs}
 use Rattle.side_tables.proofs.join.Statement.{statement}
 use Rattle.side_tables.proofs.join.Tie as tie
 use Rattle.side_tables.proofs.join.Reads as reads
 use Rattle.side_tables.proofs.join.Lts as lts
-use Rattle.side_tables.proofs.cut_at.Reads as join-at-reads
+use Rattle.side_tables.proofs.join_atoms.Reads as join-atoms-reads
 
-abbrev Inv-loop : tie.InvT-loop
-Inv-loop table₀ from to a₀ table a = (a ≤ 64) × (length table ≡ 4241) × (forEach (joinedAt from to) (upto a 64) table ≡ joined from to table₀)
+returns : tie.Need-returns
+returns c = none-last (c .before .before .args .from) (c .before .before .args .to) (c .before .before .args .table .now) (c .if1 .taken)
 
-abbrev μ-loop : tie.MeasureT-loop
-μ-loop table₀ from to a₀ table a = 64 - a
+returns-2 : tie.Need-returns-2
+returns-2 c = none-first (c .before .before .before .args .from) (c .before .before .before .args .to) (c .before .before .before .args .table .now) (c .if2 .taken)
 
-loop-holds : tie.Need-loop-holds Inv-loop μ-loop
-unfolding joined
-loop-holds c = (omega arith, omega arith, refl)
+join-atoms-requires : tie.Need-join-atoms-requires
+join-atoms-requires c κs = search needs
 
-join-at-requires : tie.Need-join-at-requires Inv-loop μ-loop
-join-at-requires c κs = (omega arith, c .before .before .loop .inv .1)
+same-length : tie.Need-same-length
+same-length c = search needs
 
-add-a : tie.Need-add-a Inv-loop μ-loop
-add-a c = search needs
-
-loop-less : tie.Need-loop-less Inv-loop μ-loop
-loop-less c = search needs
-
-loop-again : tie.Need-loop-again Inv-loop μ-loop
-loop-again c =
-    (omega arith, c .before .before .join-at .kept .0 ∙ c .before .before .before .before .before .loop .inv .1, ap (forEach (joinedAt (c .before .before .before .before .before .before .before .args .from) (c .before .before .before .before .before .before .before .args .to)) (upto (c .before .before .before .before .before .loop .a + 1) 64)) (c .before .before .join-at .ensures) ∙ each-more (joinedAt (c .before .before .before .before .before .before .before .args .from) (c .before .before .before .before .before .before .before .args .to)) (c .before .before .before .before .before .loop .a) 64 (c .before .before .before .before .before .loop .table) (c .before .before .before .before .loop-test .taken) ∙ c .before .before .before .before .before .loop .inv .2)
-
-same-length : tie.Need-same-length Inv-loop μ-loop
-same-length c = c .before .loop .inv .1 ∙ sym (c .before .before .before .pre)
-
-returns : tie.Need-returns Inv-loop μ-loop
-returns c = sym (each-end (joinedAt (c .before .before .before .args .from) (c .before .before .before .args .to)) (c .before .loop .a) 64 (c .before .loop .table) (omega arith)) ∙ c .before .loop .inv .2
+returns-3 : tie.Need-returns-3
+returns-3 c = c .before .before .join-atoms .ensures
 
 pub join-spec : {M : Type 1} → statement M
-join-spec =
-    tie.close
-    (tie.spec
-    Inv-loop
-    μ-loop
-    loop-holds
-    join-at-requires
-    add-a
-    loop-less
-    loop-again
-    same-length
-    returns)
+join-spec = tie.close (tie.spec returns returns-2 join-atoms-requires same-length returns-3)
