@@ -3,7 +3,7 @@
 use graph::Judged;
 use libc::STDOUT_FILENO;
 use refusals::Reason;
-use sheet::Checked;
+use sheet_checked::Checked;
 ghost use Prim.Native.Nat.{_<_};
 
 // Whose answers they are: the bytes are a sheet or a graph.

@@ -4,7 +4,7 @@ use case_checks::Asked;
 use draw::Drawing;
 use libc::STDOUT_FILENO;
 use search_outcomes::Outcome;
-use sheet::Checked;
+use sheet_checked::Checked;
 
 // What is asked of a case.
 pub enum Part {

@@ -8,9 +8,9 @@ use Rattle.claims.specs.Refusals.{Result, ok}
 use Rattle.claims.specs.Judgement.{holdsIn, breaksAt, breaksFrom, Judgement}
 use Rattle.claims.specs.Calls.{Passed, passedProved, check-call}
 use Rattle.claims.proofs.Demand3.{passing-proved-called-to-hold}
-use Rattle.sheet.specs.declared.Checked.{Checked}
-use Rattle.sheet.specs.declared.Checked.the-variants.{Proved}
-use Rattle.sheet.specs.Checks.{Says}
+use Rattle.sheet_checked.specs.declared.Checked.{Checked}
+use Rattle.sheet_checked.specs.declared.Checked.the-variants.{Proved}
+use Rattle.sheet_checked.specs.Checks.{Says}
 use Rattle.draw.specs.Breaking.{JudgedToBreak}
 use Rattle.draw.proofs.Breaking.{graph-breaks}
 use Rattle.graph.specs.declared.Judged.{Judged}

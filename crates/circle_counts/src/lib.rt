@@ -4,7 +4,7 @@ use draw::Drawing;
 use graph::Judged;
 use libc::STDOUT_FILENO;
 use search_outcomes::Outcome;
-use sheet::Checked;
+use sheet_checked::Checked;
 
 // Where each count stands.
 pub const REFUTED: usize = 0;

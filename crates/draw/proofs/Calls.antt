@@ -18,9 +18,9 @@ use Rattle.claims.proofs.Results.{refused-not-ok}
 use Rattle.refusals.specs.declared.Reason.{Reason}
 use Rattle.print_line.specs.Puts.{Puts}
 use Rattle.print_line.proofs.Putting.{puts-all}
-use Rattle.sheet.specs.declared.Checked.{Checked}
-use Rattle.sheet.specs.declared.Checked.the-variants.{Proved as ProvedSheet, Refuted as RefutedSheet, Refused as RefusedSheet}
-use Rattle.sheet.specs.Checks.{Says}
+use Rattle.sheet_checked.specs.declared.Checked.{Checked}
+use Rattle.sheet_checked.specs.declared.Checked.the-variants.{Proved as ProvedSheet, Refuted as RefutedSheet, Refused as RefusedSheet}
+use Rattle.sheet_checked.specs.Checks.{Says}
 use Rattle.draw.specs.declared.Drawing.{Drawing}
 use Rattle.draw.specs.declared.Drawing.the-variants.{Graph, TooLarge, Proved, Short, Refused}
 use Rattle.draw.specs.DrawCall.{graphOf, tooLarge, saidProved, tooShort, Drew, drew, drawnFor, drawnBytes, drawSaid, drawSheet, drawCall}

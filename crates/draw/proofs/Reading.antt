@@ -22,11 +22,11 @@ use Rattle.words.specs.Memory.{zeros}
 use Rattle.read_text.specs.Reading.{leftCodes}
 use Rattle.query.specs.declared.Facts.{Facts}
 use Rattle.query.specs.declared.Answer.{Answer}
-use Rattle.query.specs.declared.Answer.the-variants.{Accepted as AcceptedFacts, Refused as RefusedQuery}
+use Rattle.query.specs.declared.Answer.the-variants.{Accepted as AcceptedFacts}
 use Rattle.query.specs.Answer.{Says, factsOf, leftAfter, rightAfter}
 use Rattle.query.proofs.Asked.{AskedWith, asked-with}
-use Rattle.refusals.specs.declared.Reason.{Reason}
-use Rattle.draw_rows.specs.Rows.{closedSet, eventCount}
+use Rattle.side_relations.specs.Relations.{closedSet}
+use Rattle.draw_rows.specs.Rows.{eventCount}
 use Rattle.draw_rows.proofs.ClosedLines.{closed-relation}
 use Rattle.draw_rows.proofs.Drawn.{event-number}
 use Rattle.draw_bytes.specs.Bytes.{bytesOf}
@@ -37,15 +37,7 @@ use Rattle.draw.specs.Drawings.{Draws}
 use Rattle.draw.proofs.WordInSheet.{word-stands, rest-all}
 use Rattle.draw.proofs.Calls.{drew-same, Refutes, refuted-is}
 
--- a query of a sheet that passes is accepted
-pub accepted-not-refused : (text sheet : List ℕ) → check-call text sheet ≡ ok passedRefuted → (x : Answer) → Says (read text) x
-    → (why : Reason) (p : ℕ) → x ≡ RefusedQuery why p → ⊥
-accepted-not-refused text sheet e x said why p f =
-    let r : Refutes text sheet [] = refuted-is text sheet [] e in
-    let i : IsAsked text (r .asks) = asked-is text (r .asks) (r .accepted) in
-    subst (λ y. Says y (RefusedQuery why p)) (i .reads) (subst (Says (read text)) f said)
-
--- and its sheet has its word behind seven bytes
+-- a sheet that passes as refuted has its word behind seven bytes
 pub long-enough : (text sheet : List ℕ) → check-call text sheet ≡ ok passedRefuted → 7 ≤ length sheet
 long-enough text sheet e =
     let r : Refutes text sheet [] = refuted-is text sheet [] e in

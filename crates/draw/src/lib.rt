@@ -3,12 +3,10 @@
 // first, refusals 1 to 8, 13 and 14. For every input the answer is said, and every byte that was lent.
 use query::Answer;
 use refusals::Reason;
-use sheet::Checked;
+use sheet_checked::Checked;
 ghost use Prim.Native.Nat.{ℕ, _≤_};
 ghost use mathlib.Core.Path.{_≡_};
 ghost use lib.ListN.{length, take};
-ghost use Rattle.claims.specs.Refusals.{ok};
-ghost use Rattle.claims.specs.Calls.{passedRefuted, check-call};
 ghost use Rattle.draw_rows.specs.Rows.{eventCount};
 ghost use Rattle.draw_bytes.specs.Bytes.{bytesOf};
 ghost use Rattle.draw.specs.DrawCall.{drew, drawCall};
@@ -44,36 +42,31 @@ fn draw_word(word: &[u8], ring: bool, closed: u64, relations: usize, out: &mut [
     Drawing::Graph(size)
 }
 
-// The graph of a sheet that passes as refuted, which is required: its word stands behind seven bytes.
-fn draw_refuted(text: &[u8], sheet: &[u8], out: &mut [u8]) -> Drawing
-    requires { ⌜ check-call (now text) (now sheet) ≡ ok passedRefuted ⌝ }
-    ensures { λ r. ⌜ Draws (drawCall (now (text .entry)) (now (sheet .entry)) (now (out .entry))) r (now (out .exit)) ⌝ }
-{
-    let mut codes = [0u64; 4096];
-    let mut left = [0u64; 4241];
-    let mut right = [0u64; 4241];
-    let answer = query::read(text, &mut codes, &mut left, &mut right);
-    match answer {
-        Answer::Refused(why, place) => Drawing::Refused(why, place),
-        Answer::Accepted(f) => draw_word(
-            &sheet[7..],
-            f.ring,
-            draw_rows::closed_set(&codes),
-            f.relations,
-            out,
-        ),
-    }
-}
-
-// Draws the graph of a sheet for the query that the text is. The judge, given its bytes, answers that it meets the assumptions and breaks the claim.
+// Draws the graph of a sheet for the query that the text is: the word of a sheet that passes as refuted stands behind seven bytes. The judge, given
+// the graph's bytes, answers that it meets the assumptions and breaks the claim.
 pub fn draw(text: &[u8], sheet: &[u8], out: &mut [u8]) -> Drawing
     ensures draws { λ r. ⌜ Draws (drawCall (now (text .entry)) (now (sheet .entry)) (now (out .entry))) r (now (out .exit)) ⌝ }
     ensures breaks { λ r. ⌜ ((n : ℕ) → r ≡ Graph n → JudgedToBreak (now (text .entry)) (take n (now (out .exit)))) ⌝ }
 {
-    let checked = sheet::check(text, sheet);
-    match checked {
-        Checked::Proved => Drawing::Proved,
-        Checked::Refused(why, place) => Drawing::Refused(why, place),
-        Checked::Refuted => draw_refuted(text, sheet, out),
+    let mut codes = [0u64; 4096];
+    let mut left = [0u64; 4241];
+    let mut right = [0u64; 4241];
+    let asked = query::read(text, &mut codes, &mut left, &mut right);
+    match asked {
+        Answer::Refused(why, place) => Drawing::Refused(why, place),
+        Answer::Accepted(f) => {
+            let checked = sheet_checked::check_decided(f, &left, &right, sheet);
+            match checked {
+                Checked::Proved => Drawing::Proved,
+                Checked::Refused(why, place) => Drawing::Refused(why, place),
+                Checked::Refuted => draw_word(
+                    &sheet[7..],
+                    f.ring,
+                    draw_rows::closed_set(&codes),
+                    f.relations,
+                    out,
+                ),
+            }
+        }
     }
 }

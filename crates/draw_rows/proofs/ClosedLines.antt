@@ -6,14 +6,12 @@ use Prim.Native.Nat.{ℕ, zero, suc, _+_, _-_, _≤_, _<_}
 use native.Mathlib.Omega.{arith}
 use mathlib.Core.Path.{_≡_, refl, sym, _∙_, ap, ap₂, subst}
 use mathlib.Core.Logic.{_⊎_, ⊎-elim}
-use mathlib.Core.Logic._⊎_.{inl, inr}
-use mathlib.Core.Bool.{Bool, true, false, cond, _||_, or-false, or-assoc, true≢false}
+use mathlib.Core.Bool.{Bool, true, false, _||_, or-false, or-assoc, true≢false}
 use mathlib.Core.List.{List, [], _∷_, _++_, append-assoc, append-nil}
 use mathlib.Core.Option.{none}
-use lib.Dec.{eqb, ltb}
 use lib.ListN.{length, getD, length-append, replicate, List·getD-append}
 use lib.Seq.{getD-append-seam}
-use borrow.Author.Tests.{eq-eqb, ne-eqb, lt-ltb, le-ltb}
+use borrow.Author.Tests.{ne-eqb}
 use Rattle.kat.specs.Lists.{some}
 use Rattle.kat.proofs.Bools.{lt-or-le, or-right, or-left}
 use Rattle.claims.specs.Bytes.{same}
@@ -29,52 +27,8 @@ use Rattle.codes.proofs.NameKinds.{each-more}
 use Rattle.codes.proofs.Names.{has, has-append, index-lt, index-append}
 use Rattle.codes.proofs.Orderly.{Orderly, isRelation, slip-first, undeclared, Settled, settled-none, settled-more, settled-on}
 use Rattle.words.specs.Memory.{zeros}
-use Rattle.bits.specs.Sets.{including}
-use Rattle.bits.proofs.Bit.{bit-none}
-use Rattle.bits.proofs.Rows.{bit-including, including-out}
-use Rattle.draw_rows.specs.Rows.{closedWith, closedSet}
-
--- the end of a `closed` line of relation number i
-abbrev ofClosed : ℕ → ℕ → Bool
-ofClosed i k = eqb k (160 + i)
-
--- the set goes by the codes
-closed-with-bit : (s k i : ℕ) → i < 64 → bit i (closedWith s k) ≡ (bit i s || ofClosed i k)
-unfolding closedWith
-closed-with-bit s k i h = ⊎-elim low high (lt-or-le k 160)
-  where
-    low : k < 160 → bit i (cond (ltb k 160) s (including 64 s (k - 160))) ≡ (bit i s || ofClosed i k)
-    low l =
-        ap (λ b. bit i (cond b s (including 64 s (k - 160)))) (lt-ltb k 160 l)
-        ∙ sym (ap (λ b. bit i s || b) (ne-eqb k (160 + i) (λ z. omega arith)) ∙ or-false (bit i s))
-
-    kept : 160 ≤ k → 64 ≤ k - 160 → bit i (including 64 s (k - 160)) ≡ (bit i s || ofClosed i k)
-    kept l g =
-        ap (bit i) (including-out 64 s (k - 160) g)
-        ∙ sym (ap (λ b. bit i s || b) (ne-eqb k (160 + i) (λ z. omega arith)) ∙ or-false (bit i s))
-
-    taken : 160 ≤ k → k - 160 < 64 → bit i (including 64 s (k - 160)) ≡ (bit i s || ofClosed i k)
-    taken l g =
-        bit-including 64 s (k - 160) i g ∙ ap (λ b. bit i s || b) (same-test (lt-or-le k (160 + i)) (lt-or-le (160 + i) k))
-      where
-        same-test : (k < 160 + i) ⊎ (160 + i ≤ k) → (160 + i < k) ⊎ (k ≤ 160 + i) → eqb i (k - 160) ≡ eqb k (160 + i)
-        same-test (inl a) b = ne-eqb i (k - 160) (λ z. omega arith) ∙ sym (ne-eqb k (160 + i) (λ z. omega arith))
-        same-test (inr a) (inl b) = ne-eqb i (k - 160) (λ z. omega arith) ∙ sym (ne-eqb k (160 + i) (λ z. omega arith))
-        same-test (inr a) (inr b) = eq-eqb i (k - 160) (omega arith) ∙ sym (eq-eqb k (160 + i) (omega arith))
-
-    high : 160 ≤ k → bit i (cond (ltb k 160) s (including 64 s (k - 160))) ≡ (bit i s || ofClosed i k)
-    high l =
-        ap (λ b. bit i (cond b s (including 64 s (k - 160)))) (le-ltb k 160 l) ∙ ⊎-elim (taken l) (kept l) (lt-or-le (k - 160) 64)
-
-closed-bit-from : (ks : List ℕ) (s i : ℕ) → i < 64 → bit i (closedSet s ks) ≡ (bit i s || some (ofClosed i) ks)
-unfolding closedSet
-closed-bit-from [] s i h = sym (or-false (bit i s))
-closed-bit-from (k ∷ ks) s i h =
-    closed-bit-from ks (closedWith s k) i h ∙ ap (λ b. b || some (ofClosed i) ks) (closed-with-bit s k i h)
-    ∙ or-assoc (bit i s) (ofClosed i k) (some (ofClosed i) ks)
-
-closed-bit : (ks : List ℕ) (i : ℕ) → i < 64 → bit i (closedSet 0 ks) ≡ some (ofClosed i) ks
-closed-bit ks i h = closed-bit-from ks 0 i h ∙ ap (λ b. b || some (ofClosed i) ks) (bit-none i)
+use Rattle.side_relations.specs.Relations.{closedSet}
+use Rattle.side_relations.proofs.ClosedSets.{ofClosed, closed-bit}
 
 -- codes one after another
 some-append : (p : ℕ → Bool) (xs ys : List ℕ) → some p (xs ++ ys) ≡ (some p xs || some p ys)

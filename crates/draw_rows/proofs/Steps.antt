@@ -1,37 +1,16 @@
--- Which relations are closed, how many events there are, and the rows by steps: the turns of the loops, and each case of the code.
+-- How many events there are, and the rows by steps: the turns of the loops, and each case of the code.
 -- Assumes nothing.
 use Prim.Native.Nat.{ℕ, _+_, _*_, _-_, _/_, _≤_, _<_}
-use native.Mathlib.Numerals.{add-one}
-use mathlib.Core.Path.{_≡_, refl, sym, _∙_, ap, ap₂}
+use mathlib.Core.Path.{_≡_, refl, sym, _∙_, ap}
 use mathlib.Core.Bool.{Bool, true, false, cond}
 use mathlib.Core.List.{List}
 use lib.Dec.{eqb}
-use lib.ListN.{length, getD, drop, drop-of-length-le}
-use lib.Seq.{drop-cons}
+use lib.ListN.{length, getD}
 use borrow.Author.Tests.{lt-ltb, le-ltb, le-leb, lt-leb, eq-eqb, ne-eqb}
 use Rattle.words.specs.Memory.{words}
 use Rattle.bits.specs.Sets.{including}
 use Rattle.rows.specs.Rows.{rounds}
-use Rattle.draw_rows.specs.Rows.{closedWith, closedSet, eventCount, nextEvent, stepRow, stepRows, relationRows}
-
--- one code, and then the others
-pub closed-low : (s k : ℕ) → k < 160 → s ≡ closedWith s k
-unfolding closedWith
-closed-low s k h = sym (ap (λ b. cond b s (including 64 s (k - 160))) (lt-ltb k 160 h))
-
-pub closed-high : (s k r : ℕ) → 160 ≤ k → r ≡ including 64 s (k - 160) → r ≡ closedWith s k
-unfolding closedWith
-closed-high s k r h e = e ∙ sym (ap (λ b. cond b s (including 64 s (k - 160))) (le-ltb k 160 h))
-
-pub closed-more : (ks : List ℕ) (i s v : ℕ) → i < length ks → v ≡ closedWith s (getD ks i 0)
-    → closedSet v (drop (i + 1) ks) ≡ closedSet s (drop i ks)
-unfolding closedSet
-closed-more ks i s v h e =
-    ap₂ closedSet e (ap (λ j. drop j ks) (add-one i)) ∙ sym (ap (closedSet s) (drop-cons ks i 0 h))
-
-pub closed-end : (ks : List ℕ) (i s : ℕ) → length ks ≤ i → s ≡ closedSet s (drop i ks)
-unfolding closedSet
-closed-end ks i s h = sym (ap (closedSet s) (drop-of-length-le ks h))
+use Rattle.draw_rows.specs.Rows.{eventCount, nextEvent, stepRow, stepRows, relationRows}
 
 -- the number of events
 pub events-alone : (size : ℕ) → size < 2 → 1 ≡ eventCount true size

@@ -1,25 +1,15 @@
 -- The edges of a drawn graph as sets: a relation is a table of 64 rows, and bit y of row x is the edge from event x to event y. (Document 01,
 -- "Words", Drawn graph.) A word is given by its numbers: atom, relation, atom, .., atom, so that the relation of the step from event x
--- stands at place 2 x + 1. Which relations are closed is a set too, from the codes of the query.
+-- stands at place 2 x + 1. Which relations are closed is a set too (`side_relations`).
 -- Assumes nothing.
 use Prim.Native.Nat.{ℕ, _+_, _*_, _-_, _/_}
 use mathlib.Core.Bool.{Bool, cond}
-use mathlib.Core.List.{List, [], _∷_}
+use mathlib.Core.List.{List}
 use lib.Dec.{eqb, ltb, leb}
 use lib.ListN.{length, getD}
-use Rattle.codes.specs.Codes.{CLOSED-LINE}
 use Rattle.words.specs.Memory.{words}
 use Rattle.bits.specs.Sets.{including}
 use Rattle.rows.specs.Rows.{rounds}
-
--- the set s, and the relation whose `closed` line ends with code k ("The query")
-unfoldable pub closedWith : ℕ → ℕ → ℕ
-closedWith s k = cond (ltb k CLOSED-LINE) s (including 64 s (k - CLOSED-LINE))
-
--- the set s, and the relations that the lines with these codes close ("The query")
-unfoldable pub closedSet : ℕ → List ℕ → ℕ
-closedSet s [] = s
-closedSet s (k ∷ ks) = closedSet (closedWith s k) ks
 
 -- how many events the graph of a word of so many numbers has, in a line (false) or in a ring (true) ("Words")
 unfoldable pub eventCount : Bool → ℕ → ℕ

@@ -6,36 +6,14 @@ ghost use Prim.Native.Nat.{_≤_, _<_};
 ghost use mathlib.Core.Path.{_≡_};
 ghost use lib.ListN.{length};
 ghost use Rattle.words.specs.Memory.{words};
-ghost use Rattle.draw_rows.specs.Rows.{closedWith, closedSet, eventCount, nextEvent, stepRow, relationRows};
-
-// The set s, and the relation whose `closed` line ends with the code.
-fn closed_with(s: u64, code: u64) -> u64
-    ensures { λ r. ⌜ r ≡ closedWith s code ⌝ }
-{
-    if code < codes::CLOSED_LINE {
-        return s;
-    }
-    with(s, (code - codes::CLOSED_LINE) as usize)
-}
-
-// The relations that the lines with these codes close.
-fn closed_in(codes: &[u64]) -> u64
-    ensures { λ r. ⌜ r ≡ closedSet 0 (now (codes .entry)) ⌝ }
-{
-    let mut s: u64 = 0;
-    let mut i = 0;
-    while i < codes.len() {
-        s = closed_with(s, codes[i]);
-        i += 1;
-    }
-    s
-}
+ghost use Rattle.side_relations.specs.Relations.{closedSet};
+ghost use Rattle.draw_rows.specs.Rows.{eventCount, nextEvent, stepRow, relationRows};
 
 // The relations that the lines of a query close, from the codes that its reading leaves.
 pub fn closed_set(codes: &[u64; 4096]) -> u64
     ensures { λ r. ⌜ r ≡ closedSet 0 (now (codes .entry)) ⌝ }
 {
-    closed_in(codes)
+    side_relations::closed_set(codes)
 }
 
 // How many events the graph of a word of so many numbers has: in a line one more than its length, in a ring as many, and one for length 0.

@@ -13,9 +13,9 @@ use Rattle.search_outcomes.specs.declared.Outcome.{Outcome}
 use Rattle.search_outcomes.specs.declared.Outcome.the-variants.{Proved, Refuted, Refused}
 use Rattle.search_records.specs.declared.Record.{Record}
 use Rattle.search_outcomes.specs.Outcomes.{Says as SaysAnswer, Gives, lentOf}
-use Rattle.sheet.specs.declared.Checked.{Checked}
-use Rattle.sheet.specs.declared.Checked.the-variants.{Proved as PassesProved, Refuted as PassesRefuted, Refused as Fails}
-use Rattle.sheet.specs.Checks.{Says}
+use Rattle.sheet_checked.specs.declared.Checked.{Checked}
+use Rattle.sheet_checked.specs.declared.Checked.the-variants.{Proved as PassesProved, Refuted as PassesRefuted, Refused as Fails}
+use Rattle.sheet_checked.specs.Checks.{Says}
 use Rattle.evidence.specs.Sizes.{answerSize}
 use Rattle.evidence.specs.inner.Kept.{keptProved, keptRefuted, kept}
 use Rattle.evidence.proofs.Sizes.{OwnSheet, search-owns}

@@ -8,9 +8,9 @@ use Rattle.claims.specs.Sheets.{passedAs}
 use Rattle.search_outcomes.specs.declared.Outcome.{Outcome}
 use Rattle.search_outcomes.specs.declared.Outcome.the-variants.{Proved, Refuted}
 use Rattle.search_outcomes.specs.Outcomes.{Says as SaysAnswer}
-use Rattle.sheet.specs.declared.Checked.{Checked}
-use Rattle.sheet.specs.declared.Checked.the-variants.{Proved as PassesProved, Refuted as PassesRefuted}
-use Rattle.sheet.specs.Checks.{Says}
+use Rattle.sheet_checked.specs.declared.Checked.{Checked}
+use Rattle.sheet_checked.specs.declared.Checked.the-variants.{Proved as PassesProved, Refuted as PassesRefuted}
+use Rattle.sheet_checked.specs.Checks.{Says}
 use Rattle.sheet.proofs.Evidence.{passes-proved, passes-refuted}
 use Rattle.evidence.specs.ThirdDemand.{Confirms, ThirdDemand}
 use Rattle.evidence.proofs.Sizes.{OwnSheet, search-owns}

@@ -11,9 +11,9 @@ use Rattle.claims.specs.Calls.{Lent, search-call, check-call}
 use Rattle.search_outcomes.specs.declared.Outcome.{Outcome}
 use Rattle.search_outcomes.specs.declared.Outcome.the-variants.{Proved as ProvedBySearch, Refuted as RefutedBySearch, Refused as RefusedBySearch}
 use Rattle.search_outcomes.specs.Outcomes.{Gives}
-use Rattle.sheet.specs.declared.Checked.{Checked}
-use Rattle.sheet.specs.declared.Checked.the-variants.{Proved, Refuted, Refused}
-use Rattle.sheet.specs.Checks.{Says}
+use Rattle.sheet_checked.specs.declared.Checked.{Checked}
+use Rattle.sheet_checked.specs.declared.Checked.the-variants.{Proved, Refuted, Refused}
+use Rattle.sheet_checked.specs.Checks.{Says}
 use Rattle.sheet.specs.Evidence.{HoldsInEveryGraph, DrawnGraphBreaks}
 use Rattle.evidence.specs.Sizes.{answerSize}
 

@@ -2,7 +2,7 @@
 // graph bytes".) The search and the check share only the reading of the query; `specs/ThirdDemand.antt` says what they owe together.
 use refusals::Reason;
 use search_outcomes::Outcome;
-use sheet::Checked;
+use sheet_checked::Checked;
 use words::least;
 ghost use Prim.Native.Nat.{_+_, _*_, _<_};
 ghost use mathlib.Core.Path.{_≡_};

@@ -5,7 +5,7 @@ use libc::STDERR_FILENO;
 use libc::STDOUT_FILENO;
 use refusals::Reason;
 use search_outcomes::Outcome;
-use sheet::Checked;
+use sheet_checked::Checked;
 
 // Writes the first n bytes of the memory.
 fn write(fd: i32, out: &[u8], n: usize) {

@@ -58,8 +58,7 @@ fn judge_first(listed: &[u64; 1088], n: usize, codes: &[u64], k: usize) -> State
 {
     let m = least(least(k, 4096), codes.len());
     let mut args = [0u64; 4096];
-    let mut starts = [0u64; 32];
-    side_items::find_args(&codes[..m], &mut args[..m], &mut starts);
+    side_items::find_args(&codes[..m], &mut args[..m]);
     graph_judge::judge(listed, n, &codes[..m], &args[..m])
 }
 

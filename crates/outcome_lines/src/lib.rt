@@ -19,7 +19,7 @@ pub fn outcome_line(r: Outcome, sheet: &[u8], out: &mut [u8]) -> usize
 }
 
 // The word of n relations in a refuted sheet.
-pub fn word_in(sheet: &[u8], n: usize) -> &[u8]
+fn word_in(sheet: &[u8], n: usize) -> &[u8]
     ensures { λ r. ⌜ now r ≡ take (2 * n + 1) (drop 7 (now (sheet .entry))) ⌝ }
 {
     if 7 <= sheet.len() {
@@ -54,7 +54,7 @@ pub fn sheet_length(r: Outcome, buffer: &[u8]) -> usize
 
 // How many bytes the sheet of a proof with n standings has: a field of a ring claim's standing has 269, and its second byte is 1; one of a
 // path claim's has 19.
-pub fn proved_length(n: usize, buffer: &[u8]) -> usize
+fn proved_length(n: usize, buffer: &[u8]) -> usize
     ensures { λ r. ⌜ r ≡ provedLength n (now (buffer .entry)) ⌝ }
 {
     if 4096 < n {

@@ -1,14 +1,16 @@
 -- The limits, as they are told from what was counted.
 -- Assumes nothing.
-use Prim.Native.Nat.{ℕ}
+use Prim.Native.Nat.{ℕ, min}
 use mathlib.Core.Path.{_≡_, refl, sym, _∙_, ap}
 use mathlib.Core.Bool.{Bool, true, false, not}
-use mathlib.Core.List.{List}
-use lib.ListN.{take}
+use mathlib.Core.List.{List, []}
+use lib.ListN.{length, take}
 use Rattle.side_limits.specs.declared.Sizes.{Sizes}
-use Rattle.side_limits.specs.Sizes.{sizesOf, withinTest}
-use Rattle.read_text.specs.declared.Summary.{Summary}
-use Rattle.query.specs.inner.Counted.{isRing, inLimits}
+use Rattle.side_limits.specs.Sizes.{sizesOf}
+use Rattle.side_claim.specs.Sides.{claimed}
+use Rattle.side_claim.specs.declared.Decision.{Decision}
+use Rattle.side_build.proofs.Assembled.{first-codes}
+use Rattle.query.specs.inner.Counted.{claimSizes}
 
 -- a test negated
 pub is-false : (b : Bool) → not b ≡ true → b ≡ false
@@ -19,7 +21,7 @@ pub is-true : (b : Bool) → not b ≡ false → b ≡ true
 is-true true e = refl
 is-true false e = sym e
 
--- what was counted tells the limits
-pub limits-told : (k : Summary) (out : List ℕ) (ring : Bool) (s : Sizes) (b : Bool) → ring ≡ isRing k → s ≡ sizesOf ring (take (k .codes) out)
-    → b ≡ withinTest s → b ≡ inLimits k out
-limits-told k out ring s b e f g = g ∙ ap withinTest (f ∙ ap (λ y. sizesOf y (take (k .codes) out)) e)
+-- the sizes of the claim of so many codes as there are
+pub sizes-told : (n m : ℕ) (ks : List ℕ) (d : Decision) (s : Sizes) → m ≡ min n (length ks) → d ≡ claimed (take m ks) → s ≡ sizesOf [] d (take m ks)
+    → s ≡ claimSizes (take n ks)
+sizes-told n m ks d s e f g = g ∙ ap (λ x. sizesOf [] x (take m ks)) f ∙ ap claimSizes (first-codes n m ks e)

@@ -3,7 +3,7 @@
 -- Assumes nothing.
 use Prim.Native.Nat.{ℕ, _-_, _≤_}
 use native.Mathlib.Omega.{arith}
-use mathlib.Core.Path.{_≡_, refl, sym, _∙_, ap, ap₂}
+use mathlib.Core.Path.{_≡_, refl, sym, _∙_, ap}
 use mathlib.Core.Bool.{Bool, true, false}
 use mathlib.Core.List.{List, []}
 use mathlib.Core.Option.{Option, some, none}
@@ -24,10 +24,10 @@ use Rattle.words.specs.Memory.{zeros}
 use Rattle.read_text.specs.declared.Summary.{Summary}
 use Rattle.read_text.specs.declared.Reading.the-variants.{Accepted}
 use Rattle.read_text.proofs.Answers.{readable-then-limits}
-use Rattle.side_limits.specs.Sizes.{sizesOf, withinTest}
+use Rattle.side_limits.specs.Sizes.{withinTest}
 use Rattle.side_limits.proofs.Counted.{within-is-within}
 use Rattle.codes.proofs.Claimed.{Claimed, read-claimed, claimEnd, claim-kind}
-use Rattle.query.specs.inner.Counted.{isRing, inLimits}
+use Rattle.query.specs.inner.Counted.{isRing, claimSizes, inLimits}
 
 same-query : (p q : Query) → _≡_ {A = Result Query} (ok p) (ok q) → p ≡ q
 same-query p q e = cc
@@ -119,7 +119,7 @@ module _ (bs : List ℕ) (s : Summary) (out : List ℕ) (a : Accepts bs s out) w
   tested : (b : Bool) → inLimits s out ≡ b → withinLimits (a .query) (a .taken .claim) ≡ b
   tested b e =
       sym (within-is-within (a .query) (a .taken .claim) (taken-claimed bs (a .query) (a .taken)))
-      ∙ sym (ap₂ (λ r ks. withinTest (sizesOf r ks)) ring-told (a .codes)) ∙ e
+      ∙ sym (ap (λ ks. withinTest (claimSizes ks)) (a .codes)) ∙ e
 
   read-is : (b : Bool) → inLimits s out ≡ b → read bs ≡ elim b [ true ↦ ok (a .query) | false ↦ refuse overLimit (length (a .query)) ]
   read-is b e =

@@ -9,9 +9,8 @@ ghost use mathlib.Core.Path.{_≡_};
 ghost use lib.ListN.{take};
 ghost use Rattle.claims.specs.Reading.{read as reading};
 ghost use Rattle.read_text.specs.Reading.{leftCodes};
-ghost use Rattle.side_limits.specs.Sizes.{sizesOf};
 ghost use Rattle.query.specs.Answer.{Says, leftAfter, rightAfter};
-ghost use Rattle.query.specs.inner.Counted.{isRing, inLimits, factsBy};
+ghost use Rattle.query.specs.inner.Counted.{isRing, claimSizes, inLimits, factsBy};
 
 // What an accepted query leaves: how many codes it has, whether its claim is one of rings, the occurrences of its two sides, the number of
 // its atoms and relations, and the set of the atoms that no `never` removes.
@@ -38,20 +37,22 @@ fn is_ring(known: Summary) -> bool
     known.kind == codes::CLAIM_IRREFLEXIVE
 }
 
-// What the first n codes count, for a claim of rings or not.
-fn sizes(codes: &[u64], n: usize, ring: bool) -> Sizes
-    ensures { λ r. ⌜ r ≡ sizesOf ring (take n (now (codes .entry))) ⌝ }
+// What the claim of the first n codes counts, of which no line is left out.
+fn sizes(codes: &[u64], n: usize) -> Sizes
+    ensures { λ r. ⌜ r ≡ claimSizes (take n (now (codes .entry))) ⌝ }
 {
     let m = words::least(n, codes.len());
     let part = &codes[..m];
-    side_limits::sizes_of(part, ring)
+    let none = [0u64; 0];
+    let d = side_claim::claimed_in(part);
+    side_limits::sizes_of(part, &none, d)
 }
 
 // Whether a query that was read is within the limits.
 fn within(codes: &[u64], known: Summary) -> bool
     ensures { λ r. ⌜ r ≡ inLimits known (now (codes .entry)) ⌝ }
 {
-    let s = sizes(codes, known.codes, is_ring(known));
+    let s = sizes(codes, known.codes);
     side_limits::within_limits(s)
 }
 

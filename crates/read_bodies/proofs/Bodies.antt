@@ -23,7 +23,7 @@ use Rattle.read_tokens.specs.Scan.{tokenAt}
 use Rattle.read_names.specs.Keys.{reservedKey, findIn}
 use Rattle.read_tokens.proofs.Tokens.{ScannedWord, ScannedMark}
 use Rattle.read_tests.specs.declared.Parsed.{Parsed}
-use Rattle.read_tests.specs.declared.Parsed.the-variants.{Got, Wrong}
+use Rattle.read_tests.specs.declared.Parsed.the-variants.{Got}
 use Rattle.read_names.specs.Slips.{firstOf, slipNumber, slipOfCode, declaredSlip, relationNumber}
 use Rattle.read_bodies.specs.Bodies.{TestThen, ending, BodyOutcome, Bare, Declaration, Declares, DeclaresLet}
 use Rattle.read_bodies.specs.inner.Parts.{TreeThen, limitsReader, limitCodes, limitUses, LimitsThen}
@@ -94,9 +94,8 @@ module _ (s : List ℕ) (at : ℕ) (k : Key) (next : ℕ) (f : ScannedWord s at 
 
 -- `N`, a relation
 module _ (s names : List ℕ) (n at used : ℕ) (k : Key) (next : ℕ) (f : ScannedWord s at k next) (b : Bool) (free : b ≡ reservedKey k) where
-  pub closed-reserved : b ≡ true → (before after : List ℕ)
-      → BodyOutcome (λ ts. nameNext closedLine ts) (Bare false) s names n at used before after Wrong
-  closed-reserved h before after = (tt, λ q m. name-reserved s at k next f closedLine (sym free ∙ h))
+  pub closed-reserved : b ≡ true → nameNext closedLine (tokens (drop at s)) ≡ wrong
+  closed-reserved h = name-reserved s at k next f closedLine (sym free ∙ h)
 
   pub closed-got : b ≡ false → (c i w : ℕ) → c ≡ findIn n names k → i ≡ slipOfCode 32 64 c → w ≡ relationNumber c
       → (end : ℕ) (before after : List ℕ) → (end ≡ used + 1) × (after ≡ sets before used (replicate 1 (160 + w)))
@@ -148,9 +147,8 @@ unfolding withinReader
 within-none ts e = rw (e, withinReader)
 
 module _ (s names : List ℕ) (n at used : ℕ) (k : Key) (next : ℕ) (f : ScannedWord s at k next) (b : Bool) (free : b ≡ reservedKey k) where
-  pub within-reserved : b ≡ true → (before after : List ℕ) → BodyOutcome withinReader (Bare false) s names n at used before after Wrong
-  within-reserved h before after =
-      (tt, λ q m. within-none (tokens (drop at s)) (name-reserved s at k next f (λ n. n) (sym free ∙ h)))
+  pub within-reserved : b ≡ true → withinReader (tokens (drop at s)) ≡ wrong
+  within-reserved h = within-none (tokens (drop at s)) (name-reserved s at k next f (λ n. n) (sym free ∙ h))
 
   within-begun : b ≡ false
       → withinReader (tokens (drop at s)) ≡ mapped (limited (f .spelling)) (limitsReader (tokens (drop next s)))

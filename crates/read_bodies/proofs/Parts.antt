@@ -7,7 +7,7 @@ use mathlib.Core.Path.{_≡_, refl, sym, ap, _∙_, subst, subst⁻¹}
 use mathlib.Core.Logic.{_⊎_, ⊎-elim}
 use mathlib.Core.Bool.{true, false}
 use mathlib.Core.List.{List, [], _∷_}
-use lib.ListN.{length, drop, replicate, length-append}
+use lib.ListN.{length, drop, length-append}
 use lib.Seq.{sets}
 use Rattle.claims.specs.Bytes.{byte}
 use Rattle.claims.specs.Tokens.{Token, tokens}
@@ -16,6 +16,7 @@ use Rattle.claims.specs.Tree.{Line}
 use Rattle.claims.specs.Lines.{mapped, condition, bracketed}
 use Rattle.claims.specs.Names.{Use, uses, testUses, firstSlip}
 use Rattle.claims.specs.Query.{Query}
+use Rattle.words.specs.Memory.{zeros}
 use Rattle.codes.specs.Codes.{testCodes, lineCodes}
 use Rattle.read_tokens.proofs.Tokens.{ScannedMark}
 use Rattle.read_tests.specs.declared.Place.{Place}
@@ -28,13 +29,15 @@ use Rattle.read_bodies.specs.Bodies.{Behind, Ends, Reads, ending, TestTh
 use Rattle.read_bodies.specs.inner.Parts.{Fits, oneCode, codeStored, Bracketed, limitsReader, limitCodes, limitUses, LimitsThen}
 use denote.Enum.Declared.{tagOf}
 use Rattle.read_tests.proofs.Parsed.{the-type}
-use Rattle.read_next.proofs.Stores.{stores-then}
+use Rattle.read_next.specs.Written.{usedAfter, writtenAfter}
+use Rattle.read_next.proofs.Stores.{stores-then, written-room}
 use Rattle.read_names.proofs.Slips.{slips-then}
 use Rattle.read_next.proofs.Next.{goes-on, passed}
 
 -- what a reader's answer is known to be
-pub behind-of : (s : List ℕ) (at used more : ℕ) (r : Parsed) (g : Place) → r ≡ Got g → Ends s at used more r → Behind s at used more g
-behind-of s at used more r g e m = subst (Ends s at used more) e m
+pub behind-of : (s : List ℕ) (at used more : ℕ) (after : List ℕ) (r : Parsed) (g : Place) → r ≡ Got g → Ends s at used more after r
+    → Behind s at used more g
+behind-of s at used more after r g e m = subst (Ends s at used more after) e m
 
 -- the answer is no tree
 abbrev pub Failed : Parsed → Type 0
@@ -48,20 +51,20 @@ failed Wrong h = tt
 failed Deep h = tt
 
 -- there is room for a code
-pub code-fits : (s : List ℕ) (at used : ℕ) (r : Parsed) → Ends s at used 0 r → used + (length s - at) + 1 ≤ 4096 → Fits r
-code-fits s at used (Got g) e h = omega (arith, e .room)
-code-fits s at used Wrong e h = tt
-code-fits s at used Deep e h = tt
-
-pub fits-got : (r : Parsed) (g : Place) → r ≡ Got g → Fits r → g .used < 4096
-fits-got r g e h = subst Fits e h
+pub code-fits : (s : List ℕ) (at used : ℕ) (after : List ℕ) (r : Parsed) → Ends s at used 0 after r → used + (length s - at) + 1 ≤ 4096 → Fits r
+code-fits s at used after (Got g) e h = omega (arith, e .room)
+code-fits s at used after Wrong e h = tt
+code-fits s at used after Deep e h = tt
 
 -- the place behind a code and the array with it, by what the code did
-pub code-written : (r : Parsed) (g : Place) → r ≡ Got g → (code used : ℕ) (out out′ : List ℕ)
-    → (used ≡ g .used + 1) × (out′ ≡ sets out (g .used) (replicate 1 code))
+pub code-written : (r : Parsed) (g : Place) → r ≡ Got g → Fits r → (code used : ℕ) (out out′ : List ℕ)
+    → (used ≡ usedAfter (g .used) 1) × (out′ ≡ writtenAfter out (g .used) 1 code)
     → (Got (record { at = g .at; used = used; slip = g .slip }) ≡ oneCode r) × (out′ ≡ codeStored code r out)
 unfolding oneCode codeStored
-code-written r g e code used out out′ (u, w) = (rw (e, u), rw e w)
+code-written r g e f code used out out′ w =
+    let h : g .used < 4096 = subst Fits e f in
+    let (u, v) = written-room out (g .used) 1 code used out′ w (omega arith) in
+    (rw (e, u), rw e v)
 
 pub code-left : (r : Parsed) → Failed r → (code : ℕ) (out : List ℕ) → (r ≡ oneCode r) × (out ≡ codeStored code r out)
 unfolding oneCode codeStored
@@ -77,8 +80,8 @@ module _ {A : Type 0} (D : List Token → Found A) (codes : Query → A → List
     record { onward = o .moved .onward; within = o .moved .within; room = omega (arith, o .moved .room) },
     (λ q k. let c = o .told q k in record { tree = o .tree; read = o .read; written = c .written; used = c .used; slip = c .slip }),
   )
-  tree-read Wrong o = (tt, λ q k. o)
-  tree-read Deep o = (tt, λ q k. o)
+  tree-read Wrong (o, z) = (z, λ q k. o)
+  tree-read Deep (o, z) = (z, λ q k. o)
 
   pub code-read : (r : Parsed) → Reads D codes uses 0 s names n p before mid r → (code : ℕ) (x : Parsed) (after : List ℕ)
       → (x ≡ oneCode r) × (after ≡ codeStored code r mid) → Reads D (ending code codes) uses 1 s names n p before after x
@@ -98,8 +101,8 @@ module _ {A : Type 0} (D : List Token → Found A) (codes : Query → A → List
               slip = o .slip;
             }),
       )
-      go Wrong (a, b) f = (tt, b)
-      go Deep (a, b) f = (tt, b)
+      go Wrong (a, b) f = (f ∙ a, b)
+      go Deep (a, b) f = (f ∙ a, b)
 
 -- A line made of one tree, which was read from a later place on where the slip i was remembered. What is wanted of the line: its sort, its
 -- slip, and its codes where no name has a slip.
@@ -128,8 +131,8 @@ tree-line R codes uses′ D K kind s names n at later used i before after e h ma
         used = o .used ∙ ap (λ j. used + j) (m .count);
       }),
 )
-tree-line R codes uses′ D K kind s names n at later used i before after e h makes Wrong (a, b) = (tt, λ q k. e ∙ ap (mapped kind) (b q k))
-tree-line R codes uses′ D K kind s names n at later used i before after e h makes Deep (a, b) = (tt, λ q k. e ∙ ap (mapped kind) (b q k))
+tree-line R codes uses′ D K kind s names n at later used i before after e h makes Wrong (a, b) = (a, λ q k. e ∙ ap (mapped kind) (b q k))
+tree-line R codes uses′ D K kind s names n at later used i before after e h makes Deep (a, b) = (a, λ q k. e ∙ ap (mapped kind) (b q k))
 
 -- a T in square brackets
 pub bracket-missing : (ts : List Token) → goesOn 91 ts ≡ false → bracketed ts ≡ wrong
@@ -156,8 +159,8 @@ module _ (s names : List ℕ) (n : ℕ) (p : Place) (next : ℕ) (m : ScannedMar
   pub bracket-failed : (before after : List ℕ) (r : Parsed) → TestThen 6 s names n inside before after r → Failed r
       → Bracketed s names n p before after r
   bracket-failed before after (Got g) w f = absurd f
-  bracket-failed before after Wrong (a, b) f = (tt, λ q k. opened ∙ ap (λ x. andThen x (λ t us. beforeMark (byte "]") t us)) (b q k))
-  bracket-failed before after Deep (a, b) f = (tt, λ q k. opened ∙ ap (λ x. andThen x (λ t us. beforeMark (byte "]") t us)) (b q k))
+  bracket-failed before after Wrong (a, b) f = (a, λ q k. opened ∙ ap (λ x. andThen x (λ t us. beforeMark (byte "]") t us)) (b q k))
+  bracket-failed before after Deep (a, b) f = (a, λ q k. opened ∙ ap (λ x. andThen x (λ t us. beforeMark (byte "]") t us)) (b q k))
 
   module _ (before after : List ℕ) (r : Parsed) (g : Place) (e : r ≡ Got g) (w : TestThen 6 s names n inside before after r) where
     found : TestThen 6 s names n inside before after (Got g)
@@ -167,9 +170,9 @@ module _ (s names : List ℕ) (n : ℕ) (p : Place) (next : ℕ) (m : ScannedMar
         → bracketed (tokens (drop (p .at) s)) ≡ beforeMark (byte "]") (found .1 q k .tree) (tokens (drop (g .at) s))
     read-inside q k = opened ∙ ap (λ x. andThen x (λ t us. beforeMark (byte "]") t us)) (found .1 q k .read)
 
-    pub bracket-unclosed : goesOn 93 (tokens (drop (g .at) s)) ≡ false → Bracketed s names n p before after Wrong
+    pub bracket-unclosed : goesOn 93 (tokens (drop (g .at) s)) ≡ false → (left : List ℕ) → left ≡ zeros 4096 → Bracketed s names n p before left Wrong
     unfolding beforeMark
-    bracket-unclosed h = (tt, λ q k. read-inside q k ∙ rw (h, beforeMark))
+    bracket-unclosed h left z = (z, λ q k. read-inside q k ∙ rw (h, beforeMark))
 
     pub bracket-got : (end : ℕ) → ScannedMark s (g .at) 93 end
         → Bracketed s names n p before after (Got (record { at = end; used = g .used; slip = g .slip }))
@@ -197,8 +200,8 @@ module _ (s names : List ℕ) (n : ℕ) (p : Place) (before first : List ℕ) wh
   pub limits-failed : (r : Parsed) → Bracketed s names n p before first r → Failed r → (code : ℕ) → LimitsThen code s names n p before first r
   unfolding limitsReader
   limits-failed (Got g) w f code = absurd f
-  limits-failed Wrong (a, b) f code = (tt, λ q k. rw (b q k))
-  limits-failed Deep (a, b) f code = (tt, λ q k. rw (b q k))
+  limits-failed Wrong (a, b) f code = (a, λ q k. rw (b q k))
+  limits-failed Deep (a, b) f code = (a, λ q k. rw (b q k))
 
   pub limits-read : (r : Parsed) (g : Place) → r ≡ Got g → Bracketed s names n p before first r → (second : List ℕ) (u : Parsed)
       → Bracketed s names n g first second u → Reads limitsReader limitCodes limitUses 0 s names n p before second u
@@ -221,5 +224,5 @@ module _ (s names : List ℕ) (n : ℕ) (p : Place) (before first : List ℕ) wh
               slip = slips-then q (testUses (x .tree)) (testUses (y .tree)) (p .slip) (g .slip) (h .slip) (x .slip) (y .slip);
             }),
       )
-      go Wrong (a, b) (c, d) = (tt, λ q k. rw (b q k .read, d q k))
-      go Deep (a, b) (c, d) = (tt, λ q k. rw (b q k .read, d q k))
+      go Wrong (a, b) (c, d) = (c, λ q k. rw (b q k .read, d q k))
+      go Deep (a, b) (c, d) = (c, λ q k. rw (b q k .read, d q k))

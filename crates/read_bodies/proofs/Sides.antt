@@ -15,6 +15,7 @@ use Rattle.claims.specs.Tree.{Tree, includes, empty, irreflexive, Line, assumeE
 use Rattle.claims.specs.Lines.{choose, mapped, expression, includeReader, claims}
 use Rattle.claims.specs.Names.{treeUses, claimUses, uses, firstSlip}
 use Rattle.claims.specs.Query.{Query}
+use Rattle.words.specs.Memory.{zeros}
 use Rattle.codes.specs.Codes.{treeCodes, claimCodes, lineCodes}
 use Rattle.read_tests.specs.declared.Place.{Place}
 use Rattle.read_tests.specs.declared.Parsed.{Parsed}
@@ -37,8 +38,8 @@ body-via D E K s names n at later used before after e h (Got g) (a, b) = (
   (λ q m. let o = b q m in
       record { line = o .line; sort = o .sort; read = e ∙ o .read; slip = o .slip; written = o .written; used = o .used }),
 )
-body-via D E K s names n at later used before after e h Wrong (a, b) = (tt, λ q m. e ∙ b q m)
-body-via D E K s names n at later used before after e h Deep (a, b) = (tt, λ q m. e ∙ b q m)
+body-via D E K s names n at later used before after e h Wrong (a, b) = (a, λ q m. e ∙ b q m)
+body-via D E K s names n at later used before after e h Deep (a, b) = (a, λ q m. e ∙ b q m)
 
 -- one E
 pub side-passed : (D : List Notation.Token → Found Line) (kind : Tree → Line) (code : ℕ) (c : Bool) → OneSided kind code c
@@ -126,17 +127,17 @@ module _ (s names : List ℕ) (n at used : ℕ) (before mid : List ℕ) (r : Par
       go : (x : Parsed) → Failed x → TreeThen 135 s names n (start at used) before mid x
           → BodyOutcome includeReader (Bare true) s names n at used before mid x
       go (Got g) f w = absurd f
-      go Wrong f (a, b) = (tt, λ q m. rw (b q m, includeReader))
-      go Deep f (a, b) = (tt, λ q m. rw (b q m, includeReader))
+      go Wrong f (a, b) = (a, λ q m. rw (b q m, includeReader))
+      go Deep f (a, b) = (a, λ q m. rw (b q m, includeReader))
 
   module _ (g : Place) (e : r ≡ Got g) where
     left : TreeThen 135 s names n (start at used) before mid (Got g)
     left = subst (TreeThen 135 s names n (start at used) before mid) e w
 
-    pub include-missing : saysNext (keyword 8) (tokens (drop (g .at) s)) ≡ false → (after : List ℕ)
+    pub include-missing : saysNext (keyword 8) (tokens (drop (g .at) s)) ≡ false → (after : List ℕ) → after ≡ zeros 4096
         → BodyOutcome includeReader (Bare true) s names n at used before after Wrong
-    include-missing h after =
-        (tt, λ q m. let o = left .1 q m in include-no (tokens (drop at s)) (tokens (drop (g .at) s)) (o .tree) (o .read) h)
+    include-missing h after z =
+        (z, λ q m. let o = left .1 q m in include-no (tokens (drop at s)) (tokens (drop (g .at) s)) (o .tree) (o .read) h)
 
     module _ (next : ℕ) (i : SaysWord s (g .at) (keyword 8) next) where
       joined : (q : Query) (m : Knows names n q)
@@ -183,6 +184,6 @@ module _ (s names : List ℕ) (n at used : ℕ) (before mid : List ℕ) (r : Par
                 }),
           )
       include-passed after Wrong (a, b) =
-          (tt, λ q m. joined q m ∙ ap (mapped (λ f. claimLine (includes (left .1 q m .tree) f))) (b q m))
+          (a, λ q m. joined q m ∙ ap (mapped (λ f. claimLine (includes (left .1 q m .tree) f))) (b q m))
       include-passed after Deep (a, b) =
-          (tt, λ q m. joined q m ∙ ap (mapped (λ f. claimLine (includes (left .1 q m .tree) f))) (b q m))
+          (a, λ q m. joined q m ∙ ap (mapped (λ f. claimLine (includes (left .1 q m .tree) f))) (b q m))

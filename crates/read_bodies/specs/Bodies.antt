@@ -14,6 +14,7 @@ use Rattle.claims.specs.Bytes.{text}
 use Rattle.claims.specs.Lines.{Choice, mapped, expression, condition}
 use Rattle.claims.specs.Names.{Use, declares, uses, testUses, treeUses, firstSlip}
 use Rattle.claims.specs.Query.{Query}
+use Rattle.words.specs.Memory.{zeros}
 use Rattle.codes.specs.Codes.{testCodes, treeCodes, lineCodes}
 use Rattle.read_tokens.specs.declared.Key.{Key}
 use Rattle.read_tokens.specs.declared.Token.{Token}
@@ -31,10 +32,11 @@ pub record Behind (s : List ℕ) (at used more : ℕ) (r : Place) : Type 0 where
   pub within : r .at ≤ length s
   pub room : r .used + (length s - r .at) ≤ used + (length s - at) + more
 
-abbrev pub Ends : List ℕ → ℕ → ℕ → ℕ → Parsed → Type 0
-Ends s at used more (Got r) = Behind s at used more r
-Ends s at used more Wrong = Unit {0}
-Ends s at used more Deep = Unit {0}
+-- a reader ends behind what it read, or with a fault, and then the memory for codes is all 0
+abbrev pub Ends : List ℕ → ℕ → ℕ → ℕ → List ℕ → Parsed → Type 0
+Ends s at used more after (Got r) = Behind s at used more r
+Ends s at used more after Wrong = after ≡ zeros 4096
+Ends s at used more after Deep = after ≡ zeros 4096
 
 -- What the reader D of the grammar found from the place p to the place r, in the lines q: the tree, its codes, and the first slip.
 pub record ReadTree {A : Type 0} (D : List Piece → Found A) (codes : A → List ℕ) (uses : A → List Use) (q : Query) (s : List ℕ)
@@ -54,7 +56,7 @@ module _ {A : Type 0} (D : List Piece → Found A) where
   -- so it is for every query whose names stand in the table; there may be so many codes more than bytes read
   abbrev pub Reads : (Query → A → List ℕ) → (A → List Use) → ℕ → List ℕ → List ℕ → ℕ → Place → List ℕ → List ℕ → Parsed → Type 0
   Reads codes uses more s names n p before after r =
-      Ends s (p .at) (p .used) more r × ((q : Query) → Found-in names n q → Answers (codes q) uses q s p before after r)
+      Ends s (p .at) (p .used) more after r × ((q : Query) → Found-in names n q → Answers (codes q) uses q s p before after r)
 
 -- a tree's codes with a code behind them
 abbrev pub ending : {A : Type 0} → ℕ → (Query → A → List ℕ) → Query → A → List ℕ
@@ -84,7 +86,7 @@ module _ (D : List Piece → Found Line) (Sort : Line → Type 0) where
   -- so it is for every query whose names stand in the table
   abbrev pub BodyOutcome : List ℕ → List ℕ → ℕ → ℕ → ℕ → List ℕ → List ℕ → Parsed → Type 0
   BodyOutcome s names n at used before after r =
-      Ends s at used 1 r × ((q : Query) → Found-in names n q → BodySays q s at used before after r)
+      Ends s at used 1 after r × ((q : Query) → Found-in names n q → BodySays q s at used before after r)
 
 -- a line that declares nothing; c says whether it is a claim
 abbrev pub Bare : Bool → Line → Type 0

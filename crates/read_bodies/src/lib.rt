@@ -1,4 +1,4 @@
-// What stands behind the first word of a line, by the kind of line, and its codes. (Document 01, "The query".)
+// What stands behind the first word of a line, by the kind of line, and its codes. (Document 01, "The query".) After a fault no code is left.
 use read_tests::Parsed;
 use read_tests::Place;
 use read_tokens::Token;
@@ -28,7 +28,7 @@ pub fn declaration(
 {
     let t = read_tokens::token_at(s, at);
     let Token::Word(k, next) = t else {
-        return Parsed::Wrong;
+        return read_tests::wrong(out);
     };
     let slip = read_names::declaration_slip(k, names, n);
     let end = read_next::write(out, used, 1, code);
@@ -94,7 +94,7 @@ fn bracketed(s: &[u8], names: &[u64], n: usize, p: Place, out: &mut [u64; 4096])
 {
     let next = read_next::mark_next(s, p.at, b'[');
     if next == 0 {
-        return Parsed::Wrong;
+        return read_tests::wrong(out);
     }
     let r = condition_then(
         s,
@@ -113,7 +113,7 @@ fn bracketed(s: &[u8], names: &[u64], n: usize, p: Place, out: &mut [u64; 4096])
     };
     let end = read_next::mark_next(s, g.at, b']');
     if end == 0 {
-        return Parsed::Wrong;
+        return read_tests::wrong(out);
     }
     Parsed::Got(Place {
         at: end,
@@ -136,11 +136,11 @@ pub fn let_body(
 {
     let t = read_tokens::token_at(s, at);
     let Token::Word(k, next) = t else {
-        return Parsed::Wrong;
+        return read_tests::wrong(out);
     };
     let start = read_next::mark_next(s, next, b'=');
     if start == 0 {
-        return Parsed::Wrong;
+        return read_tests::wrong(out);
     }
     let slip = read_names::declaration_slip(k, names, n);
     expression_then(
@@ -184,10 +184,10 @@ pub fn within_body(
 {
     let t = read_tokens::token_at(s, at);
     let Token::Word(k, next) = t else {
-        return Parsed::Wrong;
+        return read_tests::wrong(out);
     };
     if read_names::reserved(k) {
-        return Parsed::Wrong;
+        return read_tests::wrong(out);
     }
     let c = read_names::find(names, n, k);
     let p = Place {
@@ -219,10 +219,10 @@ pub fn closed_body(
 {
     let t = read_tokens::token_at(s, at);
     let Token::Word(k, next) = t else {
-        return Parsed::Wrong;
+        return read_tests::wrong(out);
     };
     if read_names::reserved(k) {
-        return Parsed::Wrong;
+        return read_tests::wrong(out);
     }
     let c = read_names::find(names, n, k);
     let end = read_next::write(
@@ -282,7 +282,7 @@ pub fn one_side(
             out,
         );
     }
-    Parsed::Wrong
+    read_tests::wrong(out)
 }
 
 // `E in E`.
@@ -310,7 +310,7 @@ fn two_sides(
     };
     let next = read_next::word_next(s, g.at, read_names::word_key(read_names::IN));
     if next == 0 {
-        return Parsed::Wrong;
+        return read_tests::wrong(out);
     }
     expression_then(
         s,

@@ -16,6 +16,7 @@ use Rattle.claims.specs.Query.{Query, each, tests, relations, lets}
 use Rattle.claims.specs.Lines.{line}
 use Rattle.claims.specs.Refusals.{afterClaim, Result, ok, refuse}
 use Rattle.claims.specs.Reading.{claimOf, readLine}
+use Rattle.words.specs.Memory.{zeros}
 use Rattle.codes.specs.Codes.{codeOf, queryCodes, MOST-TESTS, MOST-RELATIONS, MOST-LETS}
 use Rattle.read_tokens.specs.Scan.{wordByte, keyOf}
 use Rattle.read_names.specs.Keys.{findIn}
@@ -77,8 +78,19 @@ abbrev pub LineSays : Query → RawLine → State → List ℕ → List ℕ → 
 LineSays q raw st before names out (Taken next) = Took q raw st next before names out
 LineSays q raw st before names out (Refused c) = (n : ℕ) → lineFate q n raw ≡ refuse (causeOf c) n
 
+-- a refused line leaves the table of names as it was
+abbrev pub KeepsNames : LineRead → List ℕ → List ℕ → Type 0
+KeepsNames (Taken next) names namesAfter = Unit {0}
+KeepsNames (Refused c) names namesAfter = namesAfter ≡ names
+
+-- a refused line leaves no code, of its own or of the lines before it
+abbrev pub LeavesNone : LineRead → List ℕ → Type 0
+LeavesNone (Taken next) out = Unit {0}
+LeavesNone (Refused c) out = out ≡ zeros 4096
+
 -- so it is after the lines of every query, where the state, the table and the array are those after them
 abbrev pub ReadsLine : RawLine → State → List ℕ → List ℕ → LineRead → List ℕ → List ℕ → Type 0
 ReadsLine raw st names out r namesAfter outAfter =
-    (q : Query) (before : List ℕ) → After q st before out → Tabled names (st .names) q
-    → LineSays q raw st before namesAfter outAfter r
+    LeavesNone r outAfter
+    × KeepsNames r names namesAfter
+    × ((q : Query) (before : List ℕ) → After q st before out → Tabled names (st .names) q → LineSays q raw st before namesAfter outAfter r)

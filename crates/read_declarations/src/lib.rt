@@ -41,7 +41,7 @@ pub enum Checked {
 }
 
 // No token is left, and byte 10 ends the line.
-pub fn ends(s: &[u8], at: usize, ended: bool) -> bool
+fn ends(s: &[u8], at: usize, ended: bool) -> bool
     ensures { λ r. ⌜ r ≡ (atEnd (tokens (drop at (now (s .entry)))) && ended) ⌝ }
 {
     let t = read_tokens::token_at(s, at);
@@ -52,7 +52,7 @@ pub fn ends(s: &[u8], at: usize, ended: bool) -> bool
 }
 
 // The reason that a slip is.
-pub fn slip_reason(slip: u64) -> Reason
+fn slip_reason(slip: u64) -> Reason
     ensures { λ r. ⌜ r ≡ slipReason slip ⌝ }
 {
     match slip {
@@ -64,7 +64,7 @@ pub fn slip_reason(slip: u64) -> Reason
 }
 
 // The whole line: its end, then its names.
-pub fn check(s: &[u8], r: Parsed, ended: bool) -> Checked
+fn check(s: &[u8], r: Parsed, ended: bool) -> Checked
     ensures { λ c. ⌜ c ≡ checked (now (s .entry)) ended r ⌝ }
 {
     match r {
@@ -101,7 +101,7 @@ pub fn plain(s: &[u8], r: Parsed, ended: bool, st: State, claim: bool) -> LineRe
 }
 
 // The key of the word that stands next.
-pub fn word_at(s: &[u8], at: usize) -> Key
+fn word_at(s: &[u8], at: usize) -> Key
     ensures { λ r. ⌜ r ≡ wordOf (tokenAt (now (s .entry)) at) ⌝ }
 {
     let t = read_tokens::token_at(s, at);
@@ -112,7 +112,7 @@ pub fn word_at(s: &[u8], at: usize) -> Key
 }
 
 // How many names of the kind `of` are declared. A kind is known by the code of its first name: A_TEST, A_RELATION or A_LET.
-pub fn count_of(st: State, of: u64) -> usize
+fn count_of(st: State, of: u64) -> usize
     ensures { λ r. ⌜ r ≡ countOf of st ⌝ }
 {
     match of {
@@ -123,7 +123,7 @@ pub fn count_of(st: State, of: u64) -> usize
 }
 
 // How many names of the kind may be declared.
-pub fn most_of(of: u64) -> usize
+fn most_of(of: u64) -> usize
     ensures { λ r. ⌜ (r ≡ mostOf of) × (r ≤ MOST-LETS) ⌝ }
 {
     match of {
@@ -134,7 +134,7 @@ pub fn most_of(of: u64) -> usize
 }
 
 // 1 for two equal numbers, 0 for others.
-pub fn one_if(a: u64, b: u64) -> usize
+fn one_if(a: u64, b: u64) -> usize
     ensures { λ r. ⌜ (r ≡ oneIf a b) × (r ≤ 1) ⌝ }
 {
     if a == b {
@@ -144,7 +144,7 @@ pub fn one_if(a: u64, b: u64) -> usize
 }
 
 // The state with a name more of the kind.
-pub fn one_more(st: State, of: u64, used: usize) -> State
+fn one_more(st: State, of: u64, used: usize) -> State
     requires { ⌜ Small st ⌝ }
     ensures { λ r. ⌜ r ≡ oneMore of used st ⌝ }
 {

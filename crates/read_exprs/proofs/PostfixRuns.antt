@@ -195,7 +195,8 @@ module _ (d : ℕ) (s names : List ℕ) (n : ℕ) (p : Place) (before : List ℕ
   pub postfix-fault : NoTree x → TreeOutcome (Finds postfixOf d 2) s names n p before mid x
   postfix-fault none =
       handed-on Factor (TreeOutcome (Finds postfixOf d 2) s names n p before mid)
-      (λ h. through d (tokens (drop (p .at) s)) wrong wrong h (λ m l. refl)) (λ h. through d (tokens (drop (p .at) s)) deep deep h (λ m l. refl))
+      (λ h. (through d (tokens (drop (p .at) s)) wrong wrong (h .0) (λ m l. refl), h .1))
+      (λ h. (through d (tokens (drop (p .at) s)) deep deep (h .0) (λ m l. refl), h .1))
       x none o
 
   module _ (r : Place) (is : x ≡ Got r) where

@@ -20,14 +20,7 @@ struct Sign {
 }
 
 // E.
-pub fn union(
-    s: &[u8],
-    names: &[u64],
-    n: usize,
-    depth: usize,
-    p: Place,
-    out: &mut [u64; 4096],
-) -> Parsed
+fn union(s: &[u8], names: &[u64], n: usize, depth: usize, p: Place, out: &mut [u64; 4096]) -> Parsed
     requires { ⌜ (depth ≤ 32) × Room (now s) p ⌝ }
     ensures { λ r. ⌜ TreeOutcome (Finds unionOf depth 4) (now (s .entry)) (now (names .entry)) n p (now (out .entry)) (now (out .exit)) r ⌝ }
 {
@@ -129,7 +122,7 @@ fn factor(
         return leaf(s, names, n, depth, p, out);
     }
     if depth == 32 {
-        return Parsed::Deep;
+        return read_tests::deep(out);
     }
     let inner = Place {
         at: next,
@@ -142,7 +135,7 @@ fn factor(
     };
     let end = read_next::mark_next(s, got.at, b')');
     if end == 0 {
-        return Parsed::Wrong;
+        return read_tests::wrong(out);
     }
     Parsed::Got(Place {
         at: end,
@@ -172,7 +165,7 @@ fn leaf(s: &[u8], names: &[u64], n: usize, depth: usize, p: Place, out: &mut [u6
     };
     let end = read_next::mark_next(s, got.at, b']');
     if end == 0 {
-        return Parsed::Wrong;
+        return read_tests::wrong(out);
     }
     let used = read_next::write(out, got.used, 1, codes::TESTED);
     Parsed::Got(Place {
@@ -190,10 +183,10 @@ fn named(s: &[u8], names: &[u64], n: usize, p: Place, out: &mut [u64; 4096]) -> 
     let used = p.used;
     let t = read_tokens::token_at(s, p.at);
     let Token::Word(k, next) = t else {
-        return Parsed::Wrong;
+        return read_tests::wrong(out);
     };
     if read_names::reserved(k) {
-        return Parsed::Wrong;
+        return read_tests::wrong(out);
     }
     let code = read_names::find(names, n, k);
     out[used] = code;

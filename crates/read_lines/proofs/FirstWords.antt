@@ -26,11 +26,13 @@ use Rattle.read_tokens.specs.Scan.{keyOf, tokenAt, Spelled}
 use Rattle.read_names.specs.Keys.{sameKey, wordKey}
 use Rattle.read_names.proofs.Names.{same-key, reserved-name}
 use Rattle.read_tokens.proofs.Tokens.{Scanned, ScannedWord}
+use Rattle.words.specs.Memory.{zeros}
+use Rattle.refusals.specs.declared.Reason.{Reason}
 use Rattle.refusals.specs.declared.Reason.the-variants.{Notation as BadNotation, AfterClaim}
 use Rattle.read_declarations.specs.declared.State.{State}
 use Rattle.read_declarations.specs.declared.LineRead.{LineRead}
 use Rattle.read_declarations.specs.declared.LineRead.the-variants.{Taken, Refused}
-use Rattle.read_declarations.specs.State.{lineFate, hasClaim, After, ReadsLine}
+use Rattle.read_declarations.specs.State.{lineFate, hasClaim, After, KeepsNames, ReadsLine}
 use Rattle.refusals.specs.Causes.{causeOf}
 use Rattle.read_declarations.specs.inner.Kinds.{wholeLine, KindSays, KindOutcome, kindPlace, readsAt}
 use Rattle.read_bodies.proofs.NextWords.{choose-here, choose-next, choose-none, NoWord, token-found}
@@ -149,9 +151,9 @@ module _ (s : List ℕ) (ended : Bool) (st : State) (names out : List ℕ) where
   abbrev raw : RawLine
   raw = record { bytes = s; ended = ended }
 
-  pub claimed-before : st .claimed ≡ true → (names′ out′ : List ℕ) → ReadsLine raw st names out (Refused AfterClaim) names′ out′
+  pub claimed-before : st .claimed ≡ true → (left : List ℕ) → left ≡ zeros 4096 → ReadsLine raw st names out (Refused AfterClaim) names left
   unfolding causeOf
-  claimed-before h names′ out′ q before a k n = claim-there q n raw (sym (a .claimed) ∙ h)
+  claimed-before h left z = (z, refl, λ q before a k n. claim-there q n raw (sym (a .claimed) ∙ h))
 
   module _ (free : st .claimed ≡ false) where
     fate-is : (q : Query) (before : List ℕ) → After q st before out → (n : ℕ) (x : Found Line) → choose lineKinds (tokens s) ≡ x
@@ -166,23 +168,44 @@ module _ (s : List ℕ) (ended : Bool) (st : State) (names out : List ℕ) where
     no-kind Bad n h = ap (choose lineKinds) (h .1)
     no-kind End n h = ap (choose lineKinds) h
 
-    pub no-word-first : (t : Token) → t ≡ tokenAt s 0 → NoWord t → (names′ out′ : List ℕ)
-        → ReadsLine raw st names out (Refused BadNotation) names′ out′
+    pub no-word-first : (t : Token) → t ≡ tokenAt s 0 → NoWord t → (left : List ℕ) → left ≡ zeros 4096
+        → ReadsLine raw st names out (Refused BadNotation) names left
     unfolding causeOf
-    no-word-first t e w names′ out′ q before a k n =
-        fate-is q before a n wrong (no-kind t w (token-found s 0 t t e refl)) ∙ fate-wrong q ended n wrong refl
+    no-word-first t e w left z = (
+      z,
+      refl,
+      (λ q before a k n. fate-is q before a n wrong (no-kind t w (token-found s 0 t t e refl)) ∙ fate-wrong q ended n wrong refl),
+    )
 
-    pub word-first : (k : Key) (at : ℕ) (f : ScannedWord s 0 k at) (l : LineRead) (names′ out′ : List ℕ)
-        → KindOutcome (After-word (f .spelling)) s at ended st names out l names′ out′ → ReadsLine raw st names out l names′ out′
-    word-first k at f (Taken next) names′ out′ h q before a m =
-        let t = h q before a m in
-        record {
-          line = t .line;
-          fate = λ n. fate-is q before a n (After-word (f .spelling) (tokens (drop at s))) (ap (choose lineKinds) (f .read)) ∙ t .fated n;
-          after = t .after;
-          knows = t .knows;
-          small = t .small;
-          short = omega (arith, t .short, f .after, f .within);
-        }
-    word-first k at f (Refused c) names′ out′ h q before a m = λ n.
-        fate-is q before a n (After-word (f .spelling) (tokens (drop at s))) (ap (choose lineKinds) (f .read)) ∙ h q before a m n
+    -- a word stands first: the line is taken or refused as its kind says
+    module _ (k : Key) (at : ℕ) (f : ScannedWord s 0 k at) (l : LineRead) (names′ out′ : List ℕ)
+        (h : KindOutcome (After-word (f .spelling)) s at ended st names out l names′ out′) where
+      abbrev SaysOfKind : Query → List ℕ → LineRead → Type 0
+      SaysOfKind q before =
+          KindSays (λ n. readLine q n (wholeLine ended (After-word (f .spelling) (tokens (drop at s))))) q (st .used + (length s - at) + 1) before
+          names′ out′
+
+      pub word-taken : (next : State) → l ≡ Taken next → ReadsLine raw st names out (Taken next) names′ out′
+      word-taken next e = (
+        tt,
+        tt,
+        (λ q before a m. let t = subst (SaysOfKind q before) e (h q before a m) in
+            record {
+              line = t .line;
+              fate = λ n. fate-is q before a n (After-word (f .spelling) (tokens (drop at s))) (ap (choose lineKinds) (f .read)) ∙ t .fated n;
+              after = t .after;
+              knows = t .knows;
+              small = t .small;
+              short = omega (arith, t .short, f .after, f .within);
+            }),
+      )
+
+      pub word-refused : KeepsNames l names names′ → (c : Reason) → l ≡ Refused c → (left : List ℕ) → left ≡ zeros 4096
+          → ReadsLine raw st names out (Refused c) names′ left
+      word-refused kept c e left z = (
+        z,
+        subst (λ x. KeepsNames x names names′) e kept,
+        (λ q before a m n.
+            fate-is q before a n (After-word (f .spelling) (tokens (drop at s))) (ap (choose lineKinds) (f .read))
+            ∙ subst (SaysOfKind q before) e (h q before a m) n),
+      )

@@ -20,6 +20,7 @@ use Rattle.claims.specs.Query.{Query, Bound, each, tests, relations, lets}
 use Rattle.claims.specs.Reading.{crowded, readLine}
 use Rattle.claims.specs.Refusals.{Result, ok, refuse}
 use Rattle.codes.specs.Codes.{letNames, lineCodes}
+use Rattle.read_tokens.specs.declared.Key.{Key}
 use Rattle.read_tokens.specs.Scan.{tokenAt}
 use Rattle.read_tests.specs.declared.Parsed.{Parsed}
 use Rattle.read_declarations.specs.declared.Checked.{Checked}
@@ -30,7 +31,7 @@ use Rattle.read_declarations.specs.declared.State.{State}
 use Rattle.read_declarations.specs.declared.LineRead.{LineRead}
 use Rattle.read_declarations.specs.declared.LineRead.the-variants.{Taken, Refused}
 use Rattle.read_names.specs.Keys as Keys
-use Rattle.read_declarations.specs.State.{After, Small, Tabled}
+use Rattle.read_declarations.specs.State.{After, Small, Tabled, KeepsNames}
 use Rattle.refusals.specs.Causes.{causeOf}
 use Rattle.read_names.specs.Keys.{entered}
 use Rattle.read_declarations.specs.inner.Declaring.{countOf, numberOf, mostOf, oneIf, oneMore, declaredRead, declaredNames, DeclaresNext}
@@ -84,6 +85,25 @@ small-more of u st m n = go (eqb of 16) (eqb of 32) (eqb of 64)
     go false true true e h = absurd (omega arith)
     go false false false e h = absurd (omega arith)
 
+-- a refused line leaves the table of names as it was
+pub kept-plain : (l : LineRead) (names : List ℕ) → KeepsNames l names names
+kept-plain (Taken next) names = tt
+kept-plain (Refused c) names = refl
+
+pub kept-declared : (of : ℕ) (st : State) (k : Key) (x : Checked) (names : List ℕ) (l : LineRead) (names′ : List ℕ)
+    → (l ≡ declaredRead of st x) × (names′ ≡ declaredNames k of st x names) → KeepsNames l names names′
+unfolding declaredRead declaredNames
+kept-declared of st k x names l names′ (e, f) =
+    subst⁻¹ (λ y. KeepsNames y names names′) e (subst⁻¹ (KeepsNames (declaredRead of st x) names) f (go x))
+  where
+    by : (b : Bool) (next : State) (more : List ℕ) → KeepsNames (cond b (Refused TooMany) (Taken next)) names (cond b names more)
+    by true next more = refl
+    by false next more = tt
+
+    go : (x : Checked) → KeepsNames (declaredRead of st x) names (declaredNames k of st x names)
+    go (Fine u) = by (leb (mostOf of) (countOf of st)) (oneMore of u st) (entered names (st .names) k (of + countOf of st))
+    go (Faulty w) = refl
+
 module _ (D : List Notation.Token → Found Line) (K : Line → Type 0) (s : List ℕ) (at : ℕ) (ended : Bool) (st : State) (names out out′ : List ℕ)
     (r : Parsed) (small : Small st) (body : BodyOutcome D K s names (st .names) at (st .used) out out′ r) where
   abbrev fate : Query → ℕ → Result Line
@@ -117,7 +137,7 @@ module _ (D : List Notation.Token → Found Line) (K : Line → Type 0) (s : Lis
 
       short : u ≤ most
       short =
-          let b = behind-of s at (st .used) 1 r (whole .place) (whole .reached) (body .0) in
+          let b = behind-of s at (st .used) 1 out′ r (whole .place) (whole .reached) (body .0) in
           omega (arith, b .room, whole .used)
 
       crowds : crowded q (read .line) ≡ true → (n : ℕ) → fate q n ≡ refuse (causeOf TooMany) n

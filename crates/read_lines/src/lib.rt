@@ -16,7 +16,9 @@ ghost use Rattle.claims.specs.Tree.{Name};
 ghost use Rattle.claims.specs.Lines.{choose, lineKinds};
 ghost use Rattle.read_tokens.specs.Scan.{keyOf, Spelled};
 ghost use Rattle.read_bodies.specs.Bodies.{BodyOutcome};
-ghost use Rattle.read_declarations.specs.State.{Small, ReadsLine};
+ghost use Rattle.words.specs.Memory.{zeros};
+ghost use Rattle.read_declarations.specs.declared.LineRead.the-variants.{Refused};
+ghost use Rattle.read_declarations.specs.State.{Small, KeepsNames, ReadsLine};
 ghost use Rattle.read_declarations.specs.inner.Kinds.{KindOutcome, kindPlace, readsAt, SortOf};
 
 // How many line words there are: `test` to `claim`.
@@ -77,7 +79,7 @@ fn body(
             out,
         ),
         read_names::CLAIM => read_bodies::claim_body(s, at, names, n, used, out),
-        _ => Parsed::Wrong,
+        _ => read_tests::wrong(out),
     }
 }
 
@@ -92,7 +94,7 @@ fn kind_line(
     out: &mut [u64; 4096],
 ) -> LineRead
     requires { ⌜ Small st × (st .used + (length (now s) - at) + 1 ≤ 4096) ⌝ }
-    ensures { λ r. ⌜ ((w : Name) → Spelled w → k ≡ keyOf w → KindOutcome (λ ts. choose lineKinds (Notation.word w ∷ ts)) (now (s .entry)) at ended st (now (names .entry)) (now (out .entry)) r (now (names .exit)) (now (out .exit))) ⌝ }
+    ensures { λ r. ⌜ KeepsNames r (now (names .entry)) (now (names .exit)) × ((w : Name) → Spelled w → k ≡ keyOf w → KindOutcome (λ ts. choose lineKinds (Notation.word w ∷ ts)) (now (s .entry)) at ended st (now (names .entry)) (now (out .entry)) r (now (names .exit)) (now (out .exit))) ⌝ }
 {
     let place = line_word(k);
     let r = body(s, at, place, names, st.names, st.used, out);
@@ -112,8 +114,16 @@ fn kind_line(
     }
 }
 
+// A line that is refused: no code is left.
+fn refused(why: Reason, out: &mut [u64; 4096]) -> LineRead
+    ensures { λ r. ⌜ (r ≡ Refused why) × (now (out .exit) ≡ zeros 4096) ⌝ }
+{
+    read_next::clear_codes(out);
+    LineRead::Refused(why)
+}
+
 // The line of the bytes `s`, after the lines that `st` is the state of. Where it is taken, its names are added to the table and its codes
-// to the array.
+// to the array. Where it is refused, no code is left, of this line or of those before it, and the table is as it was.
 pub fn read_line(
     s: &[u8],
     ended: bool,
@@ -125,11 +135,15 @@ pub fn read_line(
     ensures { λ r. ⌜ ReadsLine (record { bytes = now (s .entry); ended = ended }) st (now (names .entry)) (now (out .entry)) r (now (names .exit)) (now (out .exit)) ⌝ }
 {
     if st.claimed {
-        return LineRead::Refused(Reason::AfterClaim);
+        return refused(Reason::AfterClaim, out);
     }
     let t = read_tokens::token_at(s, 0);
     let Token::Word(k, at) = t else {
-        return LineRead::Refused(Reason::Notation);
+        return refused(Reason::Notation, out);
     };
-    kind_line(s, at, k, ended, st, names, out)
+    let l = kind_line(s, at, k, ended, st, names, out);
+    match l {
+        LineRead::Taken(next) => LineRead::Taken(next),
+        LineRead::Refused(why) => refused(why, out),
+    }
 }

@@ -19,9 +19,10 @@ use Rattle.read_tokens.specs.declared.Key.{Key}
 use Rattle.read_tokens.specs.declared.Token.{Token}
 use Rattle.read_tokens.specs.declared.Token.the-variants.{Word, Mark, Bad, End}
 use Rattle.read_tokens.proofs.Token.{the-type}
-use Rattle.read_tokens.specs.Scan.{keyOf, tokenAt, Spelled}
+use Rattle.read_tokens.specs.Scan.{keyOf, tokenAt, firstByte, Spelled}
 use Rattle.read_names.specs.Keys.{sameKey}
 use Rattle.read_tokens.proofs.Tokens.{Scanned, ScannedWord, ScannedMark, tokens-scanned}
+use Rattle.read_tokens.proofs.Found.{mark-first}
 use Rattle.read_names.proofs.Names.{same-key}
 use Rattle.read_next.specs.Next.{markEnd, markNext, wordEnd, wordNext, MarksNext}
 
@@ -154,6 +155,17 @@ module _ (s : List ℕ) (at b : ℕ) {t : Token} (found : t ≡ tokenAt s at) wh
   pub mark-differs : {c e : ℕ} → t ≡ Mark c e → (b ≡ c → ⊥) → 0 ≡ markNext s at b
   unfolding markEnd
   mark-differs {c} {e} h k = sym (ap (λ x. cond x e 0) (ne-eqb b c k)) ∙ ap (markEnd b) (sym h) ∙ mark-of
+
+-- another byte stands where the mark would
+pub mark-elsewhere : (s : List ℕ) (at b : ℕ) → (firstByte s at ≡ b → ⊥) → 0 ≡ markNext s at b
+unfolding markNext markEnd
+mark-elsewhere s at b h = go (tokenAt s at) refl
+  where
+    go : (t : Token) → tokenAt s at ≡ t → 0 ≡ markEnd b t
+    go (Word k e) g = refl
+    go (Mark c e) g = sym (ap (λ x. cond x e 0) (ne-eqb b c (λ z. h (mark-first s at c e g ∙ sym z))))
+    go Bad g = refl
+    go End g = refl
 
 module _ (s : List ℕ) (at : ℕ) (k : Key) {t : Token} (found : t ≡ tokenAt s at) where
   word-of : wordEnd k t ≡ wordNext s at k

@@ -1,6 +1,6 @@
--- Runs of stores, one behind the other.
+-- Runs of stores, one behind the other; and codes written where there is room for them.
 -- Assumes nothing.
-use Prim.Native.Nat.{ℕ, suc, _+_, _≤_}
+use Prim.Native.Nat.{ℕ, suc, _+_, _≤_, _<_}
 use native.Mathlib.Omega.{arith}
 use native.Mathlib.Nat.{add-zero}
 use native.Mathlib.Numerals.{add-one}
@@ -8,6 +8,8 @@ use mathlib.Core.Path.{_≡_, refl, sym, ap, _∙_}
 use mathlib.Core.List.{List, [], _∷_, _++_}
 use lib.ListN.{length, set, replicate, length-replicate}
 use lib.Seq.{sets}
+use borrow.Author.Tests.{le-leb, lt-leb}
+use Rattle.read_next.specs.Written.{usedAfter, writtenAfter}
 
 sets-append : (xs ys b : List ℕ) (i : ℕ) → sets b i (xs ++ ys) ≡ sets (sets b i xs) (i + length xs) ys
 sets-append [] ys b i = ap (λ j. sets b j ys) (sym (add-zero i))
@@ -35,3 +37,22 @@ stores-more b i n a now e =
 
 pub stores-done : (b : List ℕ) (i n m a : ℕ) (now : List ℕ) → n ≤ m → m ≤ n → now ≡ sets b i (replicate n a) → now ≡ sets b i (replicate m a)
 stores-done b i n m a now l h e = let k : n ≡ m = omega arith in e ∙ ap (λ j. sets b i (replicate j a)) k
+
+-- what is written: all codes, or none
+abbrev Wrote : List ℕ → ℕ → ℕ → ℕ → ℕ → List ℕ → Type 0
+Wrote out used count code r after = (r ≡ usedAfter used count) × (after ≡ writtenAfter out used count code)
+
+module _ (out : List ℕ) (used count code : ℕ) where
+  pub not-written : 4096 < used + count → Wrote out used count code used out
+  unfolding usedAfter writtenAfter
+  not-written h = (rw (lt-leb (used + count) 4096 h), rw (lt-leb (used + count) 4096 h))
+
+  module _ (r : ℕ) (after : List ℕ) where
+    pub all-written : r ≡ used + count → after ≡ sets out used (replicate count code) → used + count ≤ 4096 → Wrote out used count code r after
+    unfolding usedAfter writtenAfter
+    all-written e f room = (rw (le-leb (used + count) 4096 room) e, rw (le-leb (used + count) 4096 room) f)
+
+    -- where there is room, all of them
+    pub written-room : Wrote out used count code r after → used + count ≤ 4096 → (r ≡ used + count) × (after ≡ sets out used (replicate count code))
+    unfolding usedAfter writtenAfter
+    written-room (e, f) room = (rw (le-leb (used + count) 4096 room) at e, rw (le-leb (used + count) 4096 room) at f)

@@ -1,2 +1,4 @@
 -- What stands next.
 pub mod Next
+-- Codes written.
+pub mod Written

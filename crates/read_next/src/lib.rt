@@ -1,12 +1,11 @@
-// What stands next in a line, as a reader asks for it: a given mark, a given word, a run of one mark; and codes written. (Document 01, "The
-// query".)
+// What stands next in a line, as a reader asks for it: a given mark, a given word, a run of one mark; and codes written or cleared.
+// (Document 01, "The query".)
 use read_tokens::Key;
 use read_tokens::Token;
 ghost use mathlib.Core.Path.{_≡_};
-ghost use Prim.Native.Nat.{_+_, _≤_};
-ghost use lib.ListN.{replicate};
-ghost use lib.Seq.{sets};
+ghost use Rattle.words.specs.Memory.{zeros};
 ghost use Rattle.read_next.specs.Next.{markNext, wordNext, MarksNext};
+ghost use Rattle.read_next.specs.Written.{usedAfter, writtenAfter};
 
 // A run of one mark: how many, and the position behind them.
 pub struct Run {
@@ -18,6 +17,9 @@ pub struct Run {
 pub fn mark_next(s: &[u8], at: usize, b: u8) -> usize
     ensures { λ r. ⌜ r ≡ markNext (now (s .entry)) at b ⌝ }
 {
+    if read_tokens::first_byte(s, at) != b {
+        return 0;
+    }
     let t = read_tokens::token_at(s, at);
     let Token::Mark(c, next) = t else {
         return 0;
@@ -52,15 +54,27 @@ pub fn marks_next(s: &[u8], at: usize, b: u8) -> Run
     }
 }
 
-// Writes the code `count` times. The room is what the readers above have, since a code takes a byte of the line at least.
+// Writes the code `count` times, from `used` on, where there is room for all of them; else nothing. The next unused place.
 pub fn write(out: &mut [u64; 4096], used: usize, count: usize, code: u64) -> usize
-    requires { ⌜ used + count ≤ 4096 ⌝ }
-    ensures { λ r. ⌜ (r ≡ used + count) × (now (out .exit) ≡ sets (now (out .entry)) used (replicate count code)) ⌝ }
+    ensures { λ r. ⌜ (r ≡ usedAfter used count) × (now (out .exit) ≡ writtenAfter (now (out .entry)) used count code) ⌝ }
 {
+    if 4096 < used {
+        return used;
+    }
+    if 4096 - used < count {
+        return used;
+    }
     let mut i = 0;
     while i < count {
         out[used + i] = code;
         i += 1;
     }
     used + count
+}
+
+// No code is left, as it is after a fault.
+pub fn clear_codes(out: &mut [u64; 4096])
+    ensures { λ r. ⌜ now (out .exit) ≡ zeros 4096 ⌝ }
+{
+    words::clear(out);
 }

@@ -15,7 +15,7 @@ use Rattle.claims.specs.Query.{Query}
 use Rattle.read_tokens.proofs.Tokens.{ScannedMark}
 use Rattle.read_tests.specs.declared.Place.{Place}
 use Rattle.read_tests.specs.declared.Parsed.{Parsed}
-use Rattle.read_tests.specs.declared.Parsed.the-variants.{Got, Wrong}
+use Rattle.read_tests.specs.declared.Parsed.the-variants.{Got}
 use Rattle.read_next.specs.Next.{markNext}
 use Rattle.read_tests.specs.Places.{Room, Read, ReaderOutcome, Finds}
 use Rattle.read_tests.proofs.Told.{told-store, told-as, told-from}
@@ -78,13 +78,14 @@ module _ {A B : Type 0} (K : Bracket A B) (s names : List ℕ) (n : ℕ) (p : Pl
 
   pub inner-fault : NoTree x → Outer mid x
   inner-fault none =
-      handed-on Inner (Outer mid) (through K s (p .at) next opened wrong wrong refl) (through K s (p .at) next opened deep deep refl) x none o
+      handed-on Inner (Outer mid) (λ h. (through K s (p .at) next opened wrong wrong refl (h .0), h .1))
+      (λ h. (through K s (p .at) next opened deep deep refl (h .0), h .1)) x none o
 
   module _ (r : Place) (is : x ≡ Got r) (e : ℕ) (ends : e ≡ markNext s (r .at) (K .closing)) where
     there : Read (Finds (K .inner) (K .within) 4) (K .innerCodes) (K .innerUses) s names n (behind p next) before mid r
     there = subst Inner is o
 
-    pub inner-open : e ≡ 0 → Outer before Wrong
+    pub inner-open : e ≡ 0 → Finds (K .outer) (K .depth) 1 (tokens (drop (p .at) s)) wrong
     inner-open z =
         through K s (p .at) next opened (got (there .tree) (tokens (drop (r .at) s))) wrong
         (not-closed (K .closing) (K .wrap (there .tree)) (tokens (drop (r .at) s)) (mark-missing s (r .at) (K .closing) e ends z))

@@ -15,9 +15,11 @@ use Rattle.read_tests.specs.declared.Place.{Place}
 use Rattle.read_tests.specs.declared.Parsed.{Parsed}
 use Rattle.read_tests.specs.declared.Parsed.the-variants.{Got}
 use Rattle.read_next.specs.Next.{markNext}
+use Rattle.read_next.specs.Written.{usedAfter, writtenAfter}
 use Rattle.read_tests.specs.Places.{Room, Told, Read, ReaderOutcome, Finds}
 use Rattle.read_tests.proofs.Told.{told-then, told-store, told-as}
 use Rattle.read_next.proofs.Next.{mark-stands, mark-missing, goes-on, passed, one-fewer}
+use Rattle.read_next.proofs.Stores.{written-room}
 use Rattle.read_tests.proofs.Outcomes.{NoTree, handed-on}
 use Rattle.read_tests.proofs.Chains.{Chain, Waiting, joined, leftCodes, leftUses, joined-codes, joined-uses, goes-further, ends-here}
 
@@ -39,15 +41,13 @@ module _ {A : Type 0} {C : Chain A} {d k : ℕ} {s names : List ℕ} {n : ℕ} {
       e ∙ ap (λ v. andThen v (λ u us. C .more g d (joined C (w .left) u) us)) (h g m) ∙ i g
 
   pub loop-fault : NoTree x → Whole mid x
-  loop-fault none = handed-on Operand (Whole mid) (through wrong wrong (λ _. refl)) (through deep deep (λ _. refl)) x none o
+  loop-fault none =
+      handed-on Operand (Whole mid) (λ h. (through wrong wrong (λ _. refl) (h .0), h .1)) (λ h. (through deep deep (λ _. refl) (h .0), h .1)) x none o
 
   -- an operand was read from `place` to r
   module _ (r : Place) (is : x ≡ Got r) where
     abbrev there : Read (Finds (C .operand) d k) (C .codes) (C .uses) s names n place now mid r
     there = subst Operand is o
-
-    pub loop-room : Room s p → r .used + more ≤ 4096
-    loop-room h = let v = there .moved in omega (arith, w .room, v .room)
 
     pub loop-onward : (c next : ℕ) → next ≡ markNext s (r .at) c → (next ≡ 0 → ⊥) → length s - next < length s - place .at
     loop-onward c next e f =
@@ -56,8 +56,18 @@ module _ {A : Type 0} {C : Chain A} {d k : ℕ} {s names : List ℕ} {n : ℕ} {
         omega (arith, m .after, m .within, v .onward)
 
     -- the operator that was owed is written behind it
-    module _ (used : ℕ) (after : List ℕ) (wrote : used ≡ r .used + more) (stored : after ≡ sets mid (r .used) (replicate more (C .code)))
+    module _ (used : ℕ) (after : List ℕ) (room : Room s p)
+        (writes : (used ≡ usedAfter (r .used) more) × (after ≡ writtenAfter mid (r .used) more (C .code)))
         (next : ℕ) (asked : next ≡ markNext s (r .at) (C .sign)) where
+      fits : r .used + more ≤ 4096
+      fits = let v = there .moved in omega (arith, w .room, v .room, room)
+
+      wrote : used ≡ r .used + more
+      wrote = written-room mid (r .used) more (C .code) used after writes fits .0
+
+      stored : after ≡ sets mid (r .used) (replicate more (C .code))
+      stored = written-room mid (r .used) more (C .code) used after writes fits .1
+
       abbrev whole : A
       whole = joined C (w .left) (there .tree)
 

@@ -23,8 +23,8 @@ pub outcome-by : {A : Type 0} (Reads Also : List Token → Found A → Type 0) (
     → (y : Parsed) → ReaderOutcome Reads codes uses s names n p before after y → ReaderOutcome Also codes uses s names n p before after y
 outcome-by Reads Also codes uses s names n p before after h (Got r) o =
     record { tree = o .tree; read = h (got (o .tree) (tokens (drop (r .at) s))) (o .read); moved = o .moved; told = o .told }
-outcome-by Reads Also codes uses s names n p before after h Wrong o = h wrong o
-outcome-by Reads Also codes uses s names n p before after h Deep o = h deep o
+outcome-by Reads Also codes uses s names n p before after h Wrong (o, z) = (h wrong o, z)
+outcome-by Reads Also codes uses s names n p before after h Deep (o, z) = (h deep o, z)
 
 -- with no open bracket: the depth of calls that a line gives is enough
 pub outcome-of-all : {A : Type 0} (D : ℕ → ℕ → List Token → Found A) (codes : Query → A → List ℕ) (uses : A → List Use) (s names : List ℕ) (n : ℕ)

@@ -6,7 +6,6 @@ use mathlib.Core.Path.{_≡_, refl, sym, ap, _∙_, subst}
 use mathlib.Core.Bool.{false}
 use mathlib.Core.List.{List, [], _∷_, _++_, append-assoc, append-nil}
 use lib.ListN.{length, drop, replicate, length-append, length-replicate}
-use lib.Seq.{sets}
 use Rattle.claims.specs.Bytes.{byte}
 use Rattle.claims.specs.Tokens as Notation
 use Rattle.claims.specs.Tokens.{Token, tokens}
@@ -21,8 +20,9 @@ use Rattle.read_next.specs.declared.Run.{Run}
 use Rattle.read_tests.specs.declared.Parsed.{Parsed}
 use Rattle.read_tests.specs.declared.Parsed.the-variants.{Got}
 use Rattle.read_next.specs.Next.{MarksNext}
+use Rattle.read_next.specs.Written.{usedAfter, writtenAfter}
 use Rattle.read_tests.specs.Places.{Room, Read, TestOutcome, Finds, Is}
-use Rattle.read_next.proofs.Stores.{replicate-more}
+use Rattle.read_next.proofs.Stores.{replicate-more, written-room}
 use Rattle.read_tests.proofs.Told.{told-store, told-as, told-from}
 use Rattle.read_tests.proofs.Outcomes.{NoTree, handed-on, outcome-of-all}
 use Rattle.read_tests.proofs.Chains.{Chain, Chained}
@@ -118,20 +118,22 @@ module _ (d : ℕ) (s names : List ℕ) (n : ℕ) (p : Place) (before : List ℕ
   Under = TestOutcome (Finds testBasic d 1) s names n (behindRun p m) before mid
 
   pub nots-fault : NoTree x → TestOutcome (Finds testNot d 2) s names n p before mid x
-  nots-fault none = handed-on Under (TestOutcome (Finds testNot d 2) s names n p before mid) (under wrong) (under deep) x none o
+  nots-fault none =
+      handed-on Under (TestOutcome (Finds testNot d 2) s names n p before mid) (λ h. (under wrong (h .0), h .1)) (λ h. (under deep (h .0), h .1))
+      x none o
 
   module _ (r : Place) (is : x ≡ Got r) where
     abbrev there : Read (Finds testBasic d 1) testCodes testUses s names n (behindRun p m) before mid r
     there = subst Under is o
 
-    pub nots-room : Room s p → r .used + m .count ≤ 4096
-    nots-room h = let v = there .moved in omega (arith, v .room, run .room)
-
-    pub nots-got : (after : List ℕ) (used : ℕ) → used ≡ r .used + m .count → after ≡ sets mid (r .used) (replicate (m .count) NOT)
+    pub nots-got : (after : List ℕ) (used : ℕ) → Room s p
+        → (used ≡ usedAfter (r .used) (m .count)) × (after ≡ writtenAfter mid (r .used) (m .count) NOT)
         → TestOutcome (Finds testNot d 2) s names n p before after (Got (record { at = r .at; used = used; slip = r .slip }))
-    nots-got after used u a =
+    nots-got after used h w =
         let t = there .tree in
         let v = there .moved in
+        let fits : r .used + m .count ≤ 4096 = omega (arith, v .room, run .room) in
+        let (u, a) = written-room mid (r .used) (m .count) NOT used after w fits in
         let e : Place = record { at = r .at; used = used; slip = r .slip } in
         record {
           tree = nots (m .count) t;

@@ -24,7 +24,7 @@ use Rattle.read_tokens.proofs.Tokens.{Scanned, ScannedWord, tokens-scanned}
 use types.Run.{miss}
 use Rattle.read_names.proofs.Names.{same-key, reserved-name, reserved-is-reserved}
 use Rattle.read_tests.specs.declared.Place.{Place}
-use Rattle.read_tests.specs.declared.Parsed.the-variants.{Got, Wrong}
+use Rattle.read_tests.specs.declared.Parsed.the-variants.{Got}
 use Rattle.read_tests.specs.Places.{Moved, Read, TestOutcome, TreeOutcome, Is}
 use Rattle.read_next.proofs.Next.{NoWord}
 use Rattle.read_names.specs.Slips.{slipNumber, firstOf, slipOfCode}
@@ -148,7 +148,7 @@ module _ (s names : List ℕ) (n : ℕ) (p : Place) (before : List ℕ) (k : Key
         not-false : same (text "false") (f .spelling) ≡ false
         not-false = sym (key-false y b y-is b-is) ∙ neither
 
-        pub word-reserved : d ≡ true → TestOutcome (Is testWord) s names n p before before Wrong
+        pub word-reserved : d ≡ true → testWord (tokens (drop (p .at) s)) ≡ wrong
         word-reserved h =
             test-reserved (f .spelling) (tokens (drop (p .at) s)) (tokens (drop next s)) (f .read) not-true not-false (key-reserved d-is h)
 
@@ -162,7 +162,7 @@ module _ (s names : List ℕ) (n : ℕ) (p : Place) (before : List ℕ) (k : Key
 
   -- where a relation or a let is wanted
   module _ (d : Bool) (d-is : d ≡ reservedKey k) where
-    pub named-reserved : d ≡ true → TreeOutcome (Is (nameNext name)) s names n p before before Wrong
+    pub named-reserved : d ≡ true → nameNext name (tokens (drop (p .at) s)) ≡ wrong
     named-reserved h = name-reserved (f .spelling) (tokens (drop (p .at) s)) (tokens (drop next s)) (f .read) (key-reserved d-is h)
 
     pub named-taken : (c i slip : ℕ) → d ≡ false → c ≡ findIn n names k → i ≡ slipOfCode A-RELATION LINE c → slip ≡ firstOf (p .slip) i

@@ -12,6 +12,7 @@ use Rattle.claims.specs.Grammar.{Found, got, wrong, deep}
 use Rattle.claims.specs.Tree.{TestTree, Tree}
 use Rattle.claims.specs.Names.{Use, testUses, treeUses, firstSlip}
 use Rattle.claims.specs.Query.{Query}
+use Rattle.words.specs.Memory.{zeros}
 use Rattle.codes.specs.Codes.{testCodes, treeCodes}
 use Rattle.read_names.specs.Keys.{Knows}
 use Rattle.read_tests.specs.declared.Place.{Place}
@@ -38,8 +39,8 @@ pub record Told (q : Query) (p : Place) (before after : List ℕ) (r : Place) (c
   pub slip : r .slip ≡ firstOf (p .slip) (slipNumber (firstSlip q us))
 
 -- What a reader answers from the place p on. `Reads ts x` says that the grammar finds x in the tokens ts: a tree, a fault of the
--- notation, or the 33rd open bracket. The codes are those of whichever lines q declare the names of the table. After a fault what
--- the memory for codes holds is left free.
+-- notation, or the 33rd open bracket. The codes are those of whichever lines q declare the names of the table. After a fault the
+-- memory for codes is all 0.
 module _ {A : Type 0} (Reads : List Token → Found A → Type 0) (codes : Query → A → List ℕ) (uses : A → List Use) (s names : List ℕ) (n : ℕ)
     (p : Place) (before after : List ℕ) where
   pub record Read (r : Place) : Type 0 where
@@ -50,8 +51,8 @@ module _ {A : Type 0} (Reads : List Token → Found A → Type 0) (codes : Query
 
   abbrev pub ReaderOutcome : Parsed → Type 0
   ReaderOutcome (Got r) = Read r
-  ReaderOutcome Wrong = Reads (tokens (drop (p .at) s)) wrong
-  ReaderOutcome Deep = Reads (tokens (drop (p .at) s)) deep
+  ReaderOutcome Wrong = Reads (tokens (drop (p .at) s)) wrong × (after ≡ zeros 4096)
+  ReaderOutcome Deep = Reads (tokens (drop (p .at) s)) deep × (after ≡ zeros 4096)
 
 -- a reader of T
 abbrev pub TestOutcome : (List Token → Found TestTree → Type 0) → List ℕ → List ℕ → ℕ → Place → List ℕ → List ℕ → Parsed → Type 0

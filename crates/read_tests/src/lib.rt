@@ -3,8 +3,11 @@
 // one is only remembered, since a fault of the notation further on in the line comes first. Operators and prefix `!` are read by loops,
 // so that only brackets take the machine's stack. The place of a reader serves the readers of E too.
 use read_tokens::Token;
+ghost use mathlib.Core.Path.{_≡_};
 ghost use Prim.Native.Nat.{_+_, _≤_};
 ghost use Rattle.claims.specs.Lines.{condition};
+ghost use Rattle.words.specs.Memory.{zeros};
+ghost use Rattle.read_tests.specs.declared.Parsed.the-variants.{Wrong, Deep};
 ghost use Rattle.read_tests.specs.Places.{Room, TestOutcome, Is, Finds};
 ghost use Rattle.claims.specs.Grammar.{testUnion, testMeet, testNot, testBasic, testWord};
 
@@ -16,11 +19,28 @@ pub struct Place {
     pub slip: u64,
 }
 
-// What a reader finds: a tree, whose codes it has written; a token with which the notation does not go on; or a 33rd open bracket.
+// What a reader finds: a tree, whose codes it has written; a token with which the notation does not go on; or a 33rd open bracket. After
+// the last two no code is left, of this tree or of what was read before it.
 pub enum Parsed {
     Got(Place),
     Wrong,
     Deep,
+}
+
+// A token with which the notation does not go on: no code is left.
+pub fn wrong(out: &mut [u64; 4096]) -> Parsed
+    ensures { λ r. ⌜ (r ≡ Wrong) × (now (out .exit) ≡ zeros 4096) ⌝ }
+{
+    read_next::clear_codes(out);
+    Parsed::Wrong
+}
+
+// A 33rd open bracket: no code is left.
+pub fn deep(out: &mut [u64; 4096]) -> Parsed
+    ensures { λ r. ⌜ (r ≡ Deep) × (now (out .exit) ≡ zeros 4096) ⌝ }
+{
+    read_next::clear_codes(out);
+    Parsed::Deep
 }
 
 // T.
@@ -123,7 +143,7 @@ fn basic(s: &[u8], names: &[u64], n: usize, depth: usize, p: Place, out: &mut [u
         return word(s, names, n, p, out);
     }
     if depth == 32 {
-        return Parsed::Deep;
+        return deep(out);
     }
     let inner = Place {
         at: next,
@@ -136,7 +156,7 @@ fn basic(s: &[u8], names: &[u64], n: usize, depth: usize, p: Place, out: &mut [u
     };
     let end = read_next::mark_next(s, got.at, b')');
     if end == 0 {
-        return Parsed::Wrong;
+        return wrong(out);
     }
     Parsed::Got(Place {
         at: end,
@@ -153,7 +173,7 @@ fn word(s: &[u8], names: &[u64], n: usize, p: Place, out: &mut [u64; 4096]) -> P
     let used = p.used;
     let t = read_tokens::token_at(s, p.at);
     let Token::Word(k, next) = t else {
-        return Parsed::Wrong;
+        return wrong(out);
     };
     if read_names::same_key(read_names::word_key(read_names::TRUE), k) {
         out[used] = codes::TRUE;
@@ -172,7 +192,7 @@ fn word(s: &[u8], names: &[u64], n: usize, p: Place, out: &mut [u64; 4096]) -> P
         });
     }
     if read_names::reserved(k) {
-        return Parsed::Wrong;
+        return wrong(out);
     }
     let code = read_names::find(names, n, k);
     out[used] = code;

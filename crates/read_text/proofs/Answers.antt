@@ -21,7 +21,6 @@ use Rattle.words.specs.Memory.{zeros}
 use Rattle.refusals.specs.Causes.{causeOf}
 use Rattle.refusals.specs.declared.Reason.{Reason}
 use Rattle.refusals.specs.declared.Reason.the-variants.{TooLong, BadByte}
-use Rattle.read_text.specs.declared.Summary.{Summary}
 use Rattle.read_text.specs.declared.Reading.{Reading}
 use Rattle.read_text.specs.declared.Reading.the-variants.{Accepted, Refused}
 use Rattle.read_text.proofs.TextLines.{bad-line-there, bad-line-none}
@@ -51,11 +50,11 @@ unfolding readable
 readable-lines bs h e = rw (le-leb (length bs) 4096 h, readable, e)
 
 -- the array as the answer leaves it
-left-accepted : (r : Result Query) (n : Summary) (before out : List ℕ) → before ≡ zeros 4096 → SaysSummary r (Accepted n) → Written r before out → out ≡ leftCodes r
+left-written : (r : Result Query) (before out : List ℕ) → before ≡ zeros 4096 → Written r before out → out ≡ leftCodes r
 unfolding leftCodes
-left-accepted (ok q) n before out e s w =
+left-written (ok q) before out e w =
     w ∙ ap (λ l. queryCodes q ++ l) (ap (drop (length (queryCodes q))) e ∙ drop-zeros (length (queryCodes q)) 4096)
-left-accepted (refused r) n before out e s w = absurd s
+left-written (refused r) before out e w = w
 
 left-refused : (r : Result Query) (c : Reason) (p : ℕ) → SaysSummary r (Refused c p) → zeros 4096 ≡ leftCodes r
 unfolding leftCodes
@@ -86,19 +85,12 @@ module _ (bs out : List ℕ) where
     read-by-lines : readable bs ≡ inLines bs
     read-by-lines = readable-lines bs h (bad-line-none bs b e none-bad)
 
-    pub answer-refused : (r : Reading) (c : Reason) (p n : ℕ) → SaysSummary (inLines bs) r → r ≡ Refused c p → n ≡ 4096 → out ≡ zeros n
-        → Answered bs (Refused c p) out
-    answer-refused r c p n s f m z =
-        let t : SaysSummary (readable bs) (Refused c p) = subst⁻¹ (λ x. SaysSummary x (Refused c p)) read-by-lines (subst (SaysSummary (inLines bs)) f s) in
-        (t, z ∙ ap zeros m ∙ left-refused (readable bs) c p t)
-
-    pub answer-accepted : (r : Reading) (k : Summary) (n : ℕ) (before : List ℕ) → SaysSummary (inLines bs) r → Written (inLines bs) before out → r ≡ Accepted k
-        → n ≡ 4096 → before ≡ zeros n → Answered bs (Accepted k) out
-    answer-accepted r k n before s w f m z =
-        let t : SaysSummary (inLines bs) (Accepted k) = subst (SaysSummary (inLines bs)) f s in (
-          subst⁻¹ (λ x. SaysSummary x (Accepted k)) read-by-lines t,
-          left-accepted (inLines bs) k before out (z ∙ ap zeros m) t w ∙ ap leftCodes (sym read-by-lines),
-        )
+    pub answer-lines : (r : Reading) (n : ℕ) (before : List ℕ) → SaysSummary (inLines bs) r → Written (inLines bs) before out → n ≡ 4096
+        → before ≡ zeros n → Answered bs r out
+    answer-lines r n before s w m z = (
+      subst⁻¹ (λ x. SaysSummary x r) read-by-lines s,
+      left-written (inLines bs) before out (z ∙ ap zeros m) w ∙ ap leftCodes (sym read-by-lines),
+    )
 
 pub claimed-none : (q : Query) → claimOf q ≡ none → claimed q ≡ refuse noClaim 0
 unfolding claimed

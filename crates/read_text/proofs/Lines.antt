@@ -24,7 +24,8 @@ use Rattle.read_tokens.specs.Scan.{front}
 use Rattle.read_names.specs.Keys.{findIn}
 use Rattle.read_text.specs.Reading.{claimed, inLines, summaryOf, SaysSummary}
 use Rattle.read_text.specs.inner.Steps.{inLine, known, Written}
-use Rattle.read_declarations.specs.State.{After, Small, Tabled, Took, LineSays, ReadsLine, lineFate}
+use Rattle.read_declarations.specs.State.{After, Small, Tabled, Took, LineSays, LeavesNone, ReadsLine, lineFate}
+use Rattle.words.specs.Memory.{zeros}
 use Rattle.refusals.specs.Causes.{causeOf}
 use Rattle.refusals.specs.declared.Reason.{Reason}
 use Rattle.refusals.specs.declared.Reason.the-variants.{NoClaim}
@@ -78,6 +79,11 @@ going-start text out names a =
       numbered = refl;
     }
 
+-- a refusal's answer: no code is left
+refused-answer : (r : Result Query) (c : Reason) (p : ℕ) (before out : List ℕ) → out ≡ zeros 4096 → r ≡ refuse (causeOf c) p
+    → SaysSummary r (Refused c p) × Written r before out
+refused-answer r c p before out z e = subst⁻¹ (λ x. SaysSummary x (Refused c p) × Written x before out) e ((refl, refl), z)
+
 -- the line from `at` to e
 abbrev pub lineAt : List ℕ → ℕ → ℕ → RawLine
 lineAt text at e = record { bytes = take (e - at) (drop at text); ended = ltb e (length text) }
@@ -96,7 +102,7 @@ module _ (text before : List ℕ) (st : State) (names out : List ℕ) (n at e : 
       → Going text before next names′ out′ (n + 1) (e + 1)
   going-on names′ out′ r next says same =
       let t : Took (g .query) (lineAt text at e) st next before names′ out′ =
-      subst (LineSays (g .query) (lineAt text at e) st before names′ out′) same (says (g .query) before (g .after) (g .knows)) in
+      subst (LineSays (g .query) (lineAt text at e) st before names′ out′) same (says .2 (g .query) before (g .after) (g .knows)) in
       record {
         query = g .query ++ (t .line ∷ []);
         left =
@@ -116,19 +122,15 @@ module _ (text before : List ℕ) (st : State) (names out : List ℕ) (n at e : 
 
   -- a line that is refused
   pub refused-here : (names′ out′ : List ℕ) (r : LineRead) (c : Reason) → ReadsLine (lineAt text at e) st names out r names′ out′ → r ≡ LineRefused c
-      → inLines text ≡ refuse (causeOf c) n
+      → SaysSummary (inLines text) (Refused c n) × Written (inLines text) before out′
   unfolding inLines
   refused-here names′ out′ r c says same =
       let f : (k : ℕ) → lineFate (g .query) k (lineAt text at e) ≡ refuse (causeOf c) k =
-      subst (LineSays (g .query) (lineAt text at e) st before names′ out′) same (says (g .query) before (g .after) (g .knows)) in
-      ap (λ x. afterwards x claimed)
+      subst (LineSays (g .query) (lineAt text at e) st before names′ out′) same (says .2 (g .query) before (g .after) (g .knows)) in
+      refused-answer (inLines text) c n before out′ (subst (λ x. LeavesNone x out′) same (says .0))
+      (ap (λ x. afterwards x claimed)
       (sym next-line ∙ lines-by-fate (g .query) n (lineAt text at e) (rawLines (drop (e + 1) text))
-      ∙ ap (λ x. afterwards x (λ l. readLines (g .query ++ (l ∷ [])) (suc n) (rawLines (drop (e + 1) text)))) (f n))
-
--- a refusal's answer, with nothing said of the array
-pub refused-answer : (r : Result Query) (c : Reason) (p : ℕ) (before out : List ℕ) → r ≡ refuse (causeOf c) p
-    → SaysSummary r (Refused c p) × Written r before out
-refused-answer r c p before out e = subst⁻¹ (λ x. SaysSummary x (Refused c p) × Written x before out) e ((refl, refl), tt)
+      ∙ ap (λ x. afterwards x (λ l. readLines (g .query ++ (l ∷ [])) (suc n) (rawLines (drop (e + 1) text)))) (f n)))
 
 sets-from-start : (before codes : List ℕ) → length codes ≤ length before → sets before 0 codes ≡ codes ++ drop (length codes) before
 sets-from-start before codes h =
@@ -142,9 +144,12 @@ module _ (text before : List ℕ) (st : State) (names out : List ℕ) (n at : �
       let e : readLines (g .query) n (rawLines (drop at text)) ≡ ok (g .query) = rw (drop-of-length-le text h) in
       ap (λ x. afterwards x claimed) (sym (g .left) ∙ e)
 
-  pub over-unclaimed : st .claimed ≡ false → SaysSummary (inLines text) (Refused NoClaim 0) × Written (inLines text) before out
+  pub over-unclaimed : st .claimed ≡ false → (left : List ℕ) (size : ℕ) → size ≡ 4096 → left ≡ zeros size
+      → SaysSummary (inLines text) (Refused NoClaim 0) × Written (inLines text) before left
   unfolding causeOf
-  over-unclaimed e = refused-answer (inLines text) NoClaim 0 before out (all-read ∙ go (claimOf (g .query)) refl (sym (g .after .claimed) ∙ e))
+  over-unclaimed e left size m z =
+      refused-answer (inLines text) NoClaim 0 before left (z ∙ ap zeros m)
+      (all-read ∙ go (claimOf (g .query)) refl (sym (g .after .claimed) ∙ e))
     where
       go : (o : Option Claim) → claimOf (g .query) ≡ o → elim o [ some c ↦ true | none ↦ false ] ≡ false → claimed (g .query) ≡ refuse noClaim 0
       go none f t = claimed-none (g .query) f

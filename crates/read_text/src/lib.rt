@@ -82,7 +82,7 @@ fn known_of(out: &[u64], st: State, lines: usize) -> Summary
     }
 }
 
-// The lines from the top.
+// The lines from the top. A line that is refused leaves no code.
 fn every_line(text: &[u8], names: &mut [u64; 192], out: &mut [u64; 4096]) -> Reading
     requires { ⌜ (length (now text) ≤ 4096) × (length (now names) ≡ 192) × (length (now out) ≡ 4096) ⌝ }
     ensures { λ r. ⌜ SaysSummary (inLines (now (text .entry))) r × Written (inLines (now (text .entry))) (now (out .entry)) (now (out .exit)) ⌝ }
@@ -112,6 +112,7 @@ fn every_line(text: &[u8], names: &mut [u64; 192], out: &mut [u64; 4096]) -> Rea
         at = e + 1;
     }
     if !st.claimed {
+        clear(out);
         return Reading::Refused(Reason::NoClaim, 0);
     }
     Reading::Accepted(known_of(out, st, number - 1))
@@ -130,14 +131,7 @@ fn read_text(text: &[u8], names: &mut [u64; 192], out: &mut [u64; 4096]) -> Read
     if 0 < bad {
         return Reading::Refused(Reason::BadByte, bad);
     }
-    let r = every_line(text, names, out);
-    match r {
-        Reading::Refused(why, line) => {
-            clear(out);
-            Reading::Refused(why, line)
-        }
-        Reading::Accepted(s) => Reading::Accepted(s),
-    }
+    every_line(text, names, out)
 }
 
 // The query that the text is, as codes in `out`, or the first refusal of 1 to 7.

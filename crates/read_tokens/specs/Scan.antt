@@ -51,6 +51,10 @@ tokenFrom s i (b ∷ bs) =
 unfoldable pub tokenAt : List ℕ → ℕ → Token
 tokenAt s at = tokenFrom s (at + front isSpace (drop at s)) (drop (at + front isSpace (drop at s)) s)
 
+-- the byte that stands at `at`, or behind the spaces there; 0 behind the last one
+unfoldable pub firstByte : List ℕ → ℕ → ℕ
+firstByte s at = getD (drop (at + front isSpace (drop at s)) s) 0 0
+
 -- spelled as names are: a letter and then up to 15 letters or digits
 pub record Spelled (w : List ℕ) : Type 0 where
   pub like : wordLike w ≡ true

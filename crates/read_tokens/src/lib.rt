@@ -4,7 +4,7 @@ ghost use mathlib.Core.Path.{_≡_};
 ghost use Prim.Native.Nat.{_+_, _*_, _≤_};
 ghost use lib.ListN.{length, take, drop, getD};
 ghost use Rattle.claims.specs.Bytes.{letter as isLetter};
-ghost use Rattle.read_tokens.specs.Scan.{isSpace, wordByte, isMark, front, halfOf, keyOf, wordAt, tokenAt};
+ghost use Rattle.read_tokens.specs.Scan.{isSpace, wordByte, isMark, front, halfOf, keyOf, wordAt, tokenAt, firstByte};
 
 // The bytes of a name, 8 in each half, zeros behind.
 pub struct Key {
@@ -124,6 +124,20 @@ fn word(s: &[u8], i: usize, b: u8) -> Token
         return Token::Word(key_of(s, i, e - i), e);
     }
     Token::Bad
+}
+
+// The byte at or behind `at` that is no space, and 0 behind the last one: enough to see that a mark does not stand there.
+pub fn first_byte(s: &[u8], at: usize) -> u8
+    ensures { λ r. ⌜ r ≡ firstByte (now (s .entry)) at ⌝ }
+{
+    if s.len() <= at {
+        return 0;
+    }
+    let i = skip(s, at);
+    if s.len() <= i {
+        return 0;
+    }
+    s[i]
 }
 
 // The token at or behind `at`.

@@ -10,14 +10,14 @@ ghost use mathlib.Core.Bool.{cond, true};
 ghost use Rattle.search_atoms.specs.Masks.{rowAlike, rowsAlike, endsAlike, alikeWords};
 
 // Whether the same occurrences that read r may come next after p at atom a and at atom b.
-pub fn row_alike(table: &[u64; 4241], r: usize, a: usize, b: usize, p: usize) -> bool
+fn row_alike(table: &[u64; 4241], r: usize, a: usize, b: usize, p: usize) -> bool
     ensures { λ c. ⌜ c ≡ rowAlike (now (table .entry)) r a b p ⌝ }
 {
     step_from(table, p, a, r) == step_from(table, p, b, r)
 }
 
 // Whether that is so after each p, from 0 to n.
-pub fn rows_alike(table: &[u64; 4241], n: usize, r: usize, a: usize, b: usize) -> bool
+fn rows_alike(table: &[u64; 4241], n: usize, r: usize, a: usize, b: usize) -> bool
     ensures { λ c. ⌜ c ≡ rowsAlike (now (table .entry)) n r a b ⌝ }
 {
     let end = least(n, 64) + 1;
@@ -33,7 +33,7 @@ pub fn rows_alike(table: &[u64; 4241], n: usize, r: usize, a: usize, b: usize) -
 }
 
 // Whether both or neither of the single atoms are words, and the same occurrences may be last.
-pub fn ends_alike(table: &[u64; 4241], a: usize, b: usize) -> bool
+fn ends_alike(table: &[u64; 4241], a: usize, b: usize) -> bool
     ensures { λ c. ⌜ c ≡ endsAlike (now (table .entry)) a b ⌝ }
 {
     if null_at(table, a) != null_at(table, b) {
@@ -43,7 +43,7 @@ pub fn ends_alike(table: &[u64; 4241], a: usize, b: usize) -> bool
 }
 
 // The same in a ring claim; a path claim does not ask.
-pub fn ring_ends_alike(ring: bool, table: &[u64; 4241], a: usize, b: usize) -> bool
+fn ring_ends_alike(ring: bool, table: &[u64; 4241], a: usize, b: usize) -> bool
     ensures { λ c. ⌜ c ≡ cond ring (endsAlike (now (table .entry)) a b) true ⌝ }
 {
     if ring { ends_alike(table, a, b) } else { true }

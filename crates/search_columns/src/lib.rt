@@ -18,7 +18,7 @@ ghost use Rattle.search_words.specs.RingWords.{opened, flag};
 ghost use Rattle.search_columns.specs.inner.Columns.{columnJoined, pushed, spreadOver, laidOut};
 
 // Column k + 1 joined with w, where there is such a column.
-pub fn join(to: &mut [u64], k: usize, w: u64)
+fn join(to: &mut [u64], k: usize, w: u64)
     requires { ⌜ length (now to) ≡ 40 ⌝ }
     ensures { λ r. ⌜ now (to .exit) ≡ columnJoined (now (to .entry)) k w ⌝ }
 {
@@ -28,7 +28,7 @@ pub fn join(to: &mut [u64], k: usize, w: u64)
 }
 
 // The columns of the occurrences of s joined with w.
-pub fn push(to: &mut [u64], s: u64, w: u64)
+fn push(to: &mut [u64], s: u64, w: u64)
     requires { ⌜ length (now to) ≡ 40 ⌝ }
     ensures { λ r. ⌜ now (to .exit) ≡ pushed (now (to .entry)) s w ⌝ }
 {

@@ -68,7 +68,7 @@ pub fn answer_of(t: Course) -> Answer
 }
 
 // The level that begins where the last one ends. More standings than the allowance spend it; a level without standings proves.
-pub fn next_level(cap: usize, t: Course) -> Course
+fn next_level(cap: usize, t: Course) -> Course
     requires { ⌜ t .hi ≤ 4097 ⌝ }
     ensures quiet { λ u. ⌜ (u .put ≡ t .put) × (u .seek ≡ t .seek) × (u .count ≡ t .count) ⌝ }
     ensures falls { λ u. ⌜ turnWeight u ≤ levelWeight (t .hi) ⌝ }

@@ -28,7 +28,7 @@ pub fn copy(to: &mut [u64], at: usize, from: &[u64], base: usize)
 }
 
 // Two words, at the start.
-pub fn pair(to: &mut [u64], a: u64, b: u64)
+fn pair(to: &mut [u64], a: u64, b: u64)
     requires { ⌜ 2 ≤ length (now to) ⌝ }
     ensures { λ r. ⌜ take 2 (now (to .exit)) ≡ a ∷ b ∷ [] ⌝ }
 {

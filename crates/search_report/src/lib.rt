@@ -13,7 +13,7 @@ ghost use Rattle.search_outcomes.specs.inner.Found.{Reportable, foundIn, Report
 ghost use Rattle.search_outcomes.specs.inner.Stands.{Stands, turns};
 
 // The sheet of what was found begins.
-pub fn begin(ring: bool, found: Answer, buffer: &mut [u8]) -> Writing
+fn begin(ring: bool, found: Answer, buffer: &mut [u8]) -> Writing
     requires { ⌜ ((r : List (List ℕ)) × (w : List ℕ) × Reportable ring r w found) ⌝ }
     ensures { λ x.
         ⌜ ((r : List (List ℕ)) (w : List ℕ) → Reportable ring r w found
@@ -27,7 +27,7 @@ pub fn begin(ring: bool, found: Answer, buffer: &mut [u8]) -> Writing
 }
 
 // One standing's part of the sheet, by its record or from the words.
-pub fn put(
+fn put(
     ring: bool,
     from: Record,
     words: &[u64],

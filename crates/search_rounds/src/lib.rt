@@ -18,14 +18,14 @@ ghost use Rattle.search_words.specs.RingWords.{ringCovered};
 ghost use Rattle.search_rounds.specs.inner.Rounds.{joinedWhere, round, rounds, endsBy, pairsOf, pairsBy};
 
 // A column w joined with column c where it has k.
-pub fn merged(w: u64, c: u64, k: usize) -> u64
+fn merged(w: u64, c: u64, k: usize) -> u64
     ensures { λ r. ⌜ r ≡ bitOr w (cond (bit k w) c 0) ⌝ }
 {
     if member(w, k) { w | c } else { w }
 }
 
 // The columns below hi that have k, joined with c.
-pub fn join_where(t: &mut [u64], c: u64, k: usize, hi: usize)
+fn join_where(t: &mut [u64], c: u64, k: usize, hi: usize)
     requires { ⌜ hi ≤ length (now t) ⌝ }
     ensures { λ r. ⌜ now (t .exit) ≡ joinedWhere (now (t .entry)) c k hi ⌝ }
 {
@@ -37,7 +37,7 @@ pub fn join_where(t: &mut [u64], c: u64, k: usize, hi: usize)
 }
 
 // The columns below hi that have k, joined with column k. Nothing is done where column k is empty.
-pub fn close_through(t: &mut [u64], k: usize, hi: usize)
+fn close_through(t: &mut [u64], k: usize, hi: usize)
     requires { ⌜ hi ≤ length (now t) ⌝ }
     ensures { λ r. ⌜ now (t .exit) ≡ round (now (t .entry)) k hi ⌝ }
 {
@@ -49,7 +49,7 @@ pub fn close_through(t: &mut [u64], k: usize, hi: usize)
 }
 
 // The turns, one or more, of the columns below hi.
-pub fn close(t: &mut [u64], hi: usize)
+fn close(t: &mut [u64], hi: usize)
     requires { ⌜ hi ≤ length (now t) ⌝ }
     ensures { λ r. ⌜ now (t .exit) ≡ rounds (now (t .entry)) hi hi ⌝ }
 {
@@ -61,7 +61,7 @@ pub fn close(t: &mut [u64], hi: usize)
 }
 
 // The turns of the columns 1 to m of a standing: word 0, which is P, gives way to the empty column of 0.
-pub fn close_columns(t: &mut [u64], m: usize)
+fn close_columns(t: &mut [u64], m: usize)
     requires { ⌜ (length (now t) ≡ 40) × (m ≤ 31) ⌝ }
     ensures { λ r. ⌜ now (t .exit) ≡ rounds (set (now (t .entry)) 0 0) (m + 1) (m + 1) ⌝ }
 {
@@ -70,7 +70,7 @@ pub fn close_columns(t: &mut [u64], m: usize)
 }
 
 // Whether some turns from 0 lead to one of the occurrences of e, up to m.
-pub fn turn_ends(t: &[u64], e: u64, m: usize) -> bool
+fn turn_ends(t: &[u64], e: u64, m: usize) -> bool
     requires { ⌜ (length (now t) ≡ 40) × (m ≤ 31) ⌝ }
     ensures { λ b. ⌜ b ≡ endsBy (now (t .entry)) e m ⌝ }
 {
@@ -78,7 +78,7 @@ pub fn turn_ends(t: &[u64], e: u64, m: usize) -> bool
 }
 
 // Whether for some pair (q, p) of the column w of q, with p up to m, none or more turns lead from q to p.
-pub fn pair_turns(t: &[u64], w: u64, q: usize, m: usize) -> bool
+fn pair_turns(t: &[u64], w: u64, q: usize, m: usize) -> bool
     requires { ⌜ (length (now t) ≡ 40) × (q ≤ m) × (m ≤ 31) ⌝ }
     ensures { λ b. ⌜ b ≡ pairsOf (now (t .entry)) w q m ⌝ }
 {
@@ -90,7 +90,7 @@ pub fn pair_turns(t: &[u64], w: u64, q: usize, m: usize) -> bool
 }
 
 // Whether for some pair none or more turns lead from its q to its p.
-pub fn some_pair_turns(t: &[u64], s: &[u64], m: usize) -> bool
+fn some_pair_turns(t: &[u64], s: &[u64], m: usize) -> bool
     requires { ⌜ (length (now t) ≡ 40) × (m ≤ 31) ⌝ }
     ensures { λ b. ⌜ b ≡ pairsBy (now (t .entry)) (now (s .entry)) m ⌝ }
 {
@@ -105,7 +105,7 @@ pub fn some_pair_turns(t: &[u64], s: &[u64], m: usize) -> bool
 }
 
 // Whether the turns, closed in t, cover the standing s.
-pub fn turns_cover(right: &[u64; 4241], m: usize, t: &[u64], s: &[u64]) -> bool
+fn turns_cover(right: &[u64; 4241], m: usize, t: &[u64], s: &[u64]) -> bool
     requires { ⌜ (length (now t) ≡ 40) × (length (now s) ≡ 34) × (m ≤ 31) ⌝ }
     ensures { λ b. ⌜ b ≡ (endsBy (now (t .entry)) (enders (now (right .entry)) (getD (now (s .entry)) 32 0)) m
         || pairsBy (now (t .entry)) (now (s .entry)) m) ⌝ }

@@ -6,7 +6,7 @@ ghost use Rattle.search_contents.specs.Written.{over};
 ghost use Rattle.search_contents.specs.FieldWords.{numberM, rowNumber, rowsBytes};
 
 // Row p of M: bit q where column q has bit p.
-pub fn row_m(s: &[u64; 40], p: usize) -> u64
+fn row_m(s: &[u64; 40], p: usize) -> u64
     requires { ⌜ p < 32 ⌝ }
     ensures { λ r. ⌜ r ≡ numberM (now (s .entry)) p ⌝ }
 {
@@ -21,7 +21,7 @@ pub fn row_m(s: &[u64; 40], p: usize) -> u64
 }
 
 // Row p of M, or of N.
-pub fn row_of(s: &[u64; 40], upper: bool, p: usize) -> u64
+fn row_of(s: &[u64; 40], upper: bool, p: usize) -> u64
     requires { ⌜ p < 32 ⌝ }
     ensures { λ r. ⌜ r ≡ rowNumber upper (now (s .entry)) p ⌝ }
 {

@@ -8,9 +8,9 @@ use Rattle.claims.specs.Refusals.{Result, ok, refused, afterwards}
 use Rattle.claims.specs.Calls.{Asked, asked, Passed, passedProved, passedRefuted, checked, check-call}
 use Rattle.claims.proofs.Results.{refused-not-ok}
 use Rattle.claims.proofs.Demand3.{passing-proved-judged-to-hold, passing-refuted-judged-to-break}
-use Rattle.sheet.specs.declared.Checked.{Checked}
-use Rattle.sheet.specs.declared.Checked.the-variants.{Proved, Refuted}
-use Rattle.sheet.specs.Checks.{Says}
+use Rattle.sheet_checked.specs.declared.Checked.{Checked}
+use Rattle.sheet_checked.specs.declared.Checked.the-variants.{Proved, Refuted}
+use Rattle.sheet_checked.specs.Checks.{Says}
 use Rattle.sheet.specs.Evidence.{HoldsInEveryGraph, DrawnGraphBreaks}
 
 -- the answers that pass are those of the check

@@ -1,3 +1,2 @@
--- The answer to a sheet from its part, and the evidence that a passing sheet is.
-pub mod Ended
+-- The evidence that a passing sheet is.
 pub mod Evidence

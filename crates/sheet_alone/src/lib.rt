@@ -6,7 +6,7 @@ ghost use Rattle.kat.specs.Lists.{isEmpty};
 ghost use Rattle.standings.specs.Steps.{nullAt, aloneWords};
 
 // Whether the single atom a is a left word and no right word.
-pub fn alone_refutes(left: &[u64; 4241], right: &[u64; 4241], a: usize) -> bool
+fn alone_refutes(left: &[u64; 4241], right: &[u64; 4241], a: usize) -> bool
     ensures { λ b. ⌜ b ≡ (nullAt (now (left .entry)) a && not (nullAt (now (right .entry)) a)) ⌝ }
 {
     if null_at(left, a) {

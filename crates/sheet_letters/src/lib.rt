@@ -5,7 +5,7 @@ ghost use lib.ListN.{getD};
 ghost use Rattle.sheet_letters.specs.ByteWords.{wordFits};
 
 // A byte as a number.
-pub fn wide(b: u8) -> usize
+fn wide(b: u8) -> usize
     ensures { λ r. ⌜ (r ≡ b) × (r < 256) ⌝ }
 {
     b as usize

@@ -12,7 +12,7 @@ ghost use Rattle.sheet_cells.specs.Layout.{standingCells, cellCount};
 ghost use Rattle.sheet_cells.specs.CellSystem.{leftSet};
 
 // As many cells as there is room for, from place at of the sheet, which lies in it or little behind.
-pub fn fill(sheet: &[u8], at: usize, to: &mut [u64])
+fn fill(sheet: &[u8], at: usize, to: &mut [u64])
     requires { ⌜ (at ≤ length (now sheet) + 3) × (length (now to) ≤ 67) ⌝ }
     ensures { λ x. ⌜ now (to .exit) ≡ cellsAt (now (sheet .entry)) at (length (now (to .entry))) ⌝ }
 {
@@ -24,7 +24,7 @@ pub fn fill(sheet: &[u8], at: usize, to: &mut [u64])
 }
 
 // The four cells of a path standing; no other is touched.
-pub fn fill_four(sheet: &[u8], at: usize, to: &mut [u64])
+fn fill_four(sheet: &[u8], at: usize, to: &mut [u64])
     requires { ⌜ (at ≤ length (now sheet) + 3) × (length (now to) ≡ 67) ⌝ }
     ensures { λ x. ⌜ now (to .exit) ≡ cellsAt (now (sheet .entry)) at 4 ++ drop 4 (now (to .entry)) ⌝ }
 {
@@ -54,7 +54,7 @@ pub fn possible(ring: bool, s: &[u64; 67]) -> bool
 }
 
 // Whether one of two cells is not 0.
-pub fn either(high: u64, low: u64) -> bool
+fn either(high: u64, low: u64) -> bool
     ensures { λ b. ⌜ b ≡ not (eqb (high * 2 ^ 32 + low) 0) ⌝ }
 {
     if high != 0 {

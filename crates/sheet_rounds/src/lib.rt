@@ -17,14 +17,14 @@ ghost use Rattle.sheet_cells.specs.RingCells.{firstIn, ringCovered};
 ghost use Rattle.sheet_rounds.specs.inner.Rounds.{joinedWhere, round, rounds, endsBy, pairsOf, pairsBy};
 
 // A row w joined with row c where it has k.
-pub fn merged(w: u64, c: u64, k: usize) -> u64
+fn merged(w: u64, c: u64, k: usize) -> u64
     ensures { λ x. ⌜ x ≡ bitOr w (cond (bit k w) c 0) ⌝ }
 {
     if member(w, k) { w | c } else { w }
 }
 
 // The rows below hi, which are there, that have k, joined with c.
-pub fn join_where(t: &mut [u64], c: u64, k: usize, hi: usize)
+fn join_where(t: &mut [u64], c: u64, k: usize, hi: usize)
     requires { ⌜ hi ≤ length (now t) ⌝ }
     ensures { λ x. ⌜ now (t .exit) ≡ joinedWhere (now (t .entry)) c k hi ⌝ }
 {
@@ -36,7 +36,7 @@ pub fn join_where(t: &mut [u64], c: u64, k: usize, hi: usize)
 }
 
 // The rows below hi, which are there, that have k, joined with row k. Nothing is done where row k is empty.
-pub fn close_through(t: &mut [u64], k: usize, hi: usize)
+fn close_through(t: &mut [u64], k: usize, hi: usize)
     requires { ⌜ hi ≤ length (now t) ⌝ }
     ensures { λ x. ⌜ now (t .exit) ≡ round (now (t .entry)) k hi ⌝ }
 {
@@ -48,7 +48,7 @@ pub fn close_through(t: &mut [u64], k: usize, hi: usize)
 }
 
 // The turns, one or more, of the rows below hi, which are there.
-pub fn close(t: &mut [u64], hi: usize)
+fn close(t: &mut [u64], hi: usize)
     requires { ⌜ hi ≤ length (now t) ⌝ }
     ensures { λ x. ⌜ now (t .exit) ≡ rounds (now (t .entry)) hi hi ⌝ }
 {
@@ -60,7 +60,7 @@ pub fn close(t: &mut [u64], hi: usize)
 }
 
 // Whether the row w of 0 has one of the occurrences of e, up to m, of at most 31.
-pub fn turn_ends(w: u64, e: u64, m: usize) -> bool
+fn turn_ends(w: u64, e: u64, m: usize) -> bool
     requires { ⌜ m ≤ 31 ⌝ }
     ensures { λ b. ⌜ b ≡ endsBy w e m ⌝ }
 {
@@ -68,7 +68,7 @@ pub fn turn_ends(w: u64, e: u64, m: usize) -> bool
 }
 
 // Whether for some pair (q, p) of the row v of N, with p up to m, of at most 31, p is q or the row w of q has it.
-pub fn pair_turns(w: u64, v: u64, q: usize, m: usize) -> bool
+fn pair_turns(w: u64, v: u64, q: usize, m: usize) -> bool
     requires { ⌜ (q ≤ m) × (m ≤ 31) ⌝ }
     ensures { λ b. ⌜ b ≡ pairsOf w v q m ⌝ }
 {
@@ -80,7 +80,7 @@ pub fn pair_turns(w: u64, v: u64, q: usize, m: usize) -> bool
 }
 
 // Whether for some pair none or more turns, closed in t, lead from its q to its p. There are at most 31 right occurrences.
-pub fn some_pair_turns(t: &[u64], s: &[u64], m: usize) -> bool
+fn some_pair_turns(t: &[u64], s: &[u64], m: usize) -> bool
     requires { ⌜ m ≤ 31 ⌝ }
     ensures { λ b. ⌜ b ≡ pairsBy (now (t .entry)) (now (s .entry)) m ⌝ }
 {
@@ -95,7 +95,7 @@ pub fn some_pair_turns(t: &[u64], s: &[u64], m: usize) -> bool
 }
 
 // Whether the turns, closed in t, cover the standing s. There are at most 31 right occurrences.
-pub fn turns_cover(right: &[u64; 4241], m: usize, t: &[u64], s: &[u64]) -> bool
+fn turns_cover(right: &[u64; 4241], m: usize, t: &[u64], s: &[u64]) -> bool
     requires { ⌜ m ≤ 31 ⌝ }
     ensures { λ b. ⌜ b ≡ (endsBy (getD (now (t .entry)) 0 0) (enders (now (right .entry)) (firstIn (now (s .entry)))) m
         || pairsBy (now (t .entry)) (now (s .entry)) m) ⌝ }

@@ -10,7 +10,7 @@ ghost use Rattle.standings.specs.Steps.{stepFrom, stepSet};
 ghost use Rattle.sheet_cells.specs.RingCells.{rowM, raised};
 
 // A row of M one letter on, which is empty where the row is.
-pub fn row_on(right: &[u64; 4241], row: u64, a: usize, r: usize) -> u64
+fn row_on(right: &[u64; 4241], row: u64, a: usize, r: usize) -> u64
     ensures { λ w. ⌜ w ≡ raised (stepSet (now (right .entry)) (row / 2) a r) ⌝ }
 {
     let s = row / 2;

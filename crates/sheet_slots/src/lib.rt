@@ -7,7 +7,7 @@ ghost use Rattle.sheet_cells.specs.Layout.{cellCount, fieldLength, cellStart};
 ghost use Rattle.sheet_slots.specs.Index.{mixed, slotOf};
 
 // A hash with one cell more. The hash is kept below 2^32, so that the product fits.
-pub fn mixed(h: u64, c: u64) -> u64
+fn mixed(h: u64, c: u64) -> u64
     requires { ⌜ h < 4294967296 ⌝ }
     ensures { λ r. ⌜ (r ≡ mixed h c) × (r < 4294967296) ⌝ }
 {

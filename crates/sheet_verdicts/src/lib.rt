@@ -11,7 +11,7 @@ ghost use Rattle.sheet_slots.specs.Index.{Indexed};
 ghost use Rattle.sheet_verdicts.specs.inner.Steps.{VerdictAt, sized, mayList};
 
 // A byte as a word.
-pub fn wide(b: u8) -> u64
+fn wide(b: u8) -> u64
     ensures { λ r. ⌜ r ≡ b ⌝ }
 {
     b as u64
@@ -41,7 +41,7 @@ pub fn verdict(sheet: &[u8], at: usize) -> u64
 }
 
 // Whether the field at a place is whole and as long as a standing's.
-pub fn is_sized(sheet: &[u8], at: usize, ring: bool) -> bool
+fn is_sized(sheet: &[u8], at: usize, ring: bool) -> bool
     ensures { λ b. ⌜ b ≡ sized ring (nextField (drop at (now (sheet .entry)))) ⌝ }
 {
     let Field::Whole(_, from, to) = sheet_reader::field_at(sheet, at) else {

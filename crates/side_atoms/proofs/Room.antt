@@ -1,14 +1,13 @@
--- A stack with room for all codes of a test: how much room there is besides does not matter, so that a short test needs little memory.
+-- A stack with room for all codes of a test: how much room there is besides does not matter.
 -- Assumes nothing.
-use Prim.Native.Nat.{ℕ, suc, _+_, _-_, _≤_, _<_, min}
+use Prim.Native.Nat.{ℕ, _+_, _-_, _≤_, _<_}
 use native.Mathlib.Omega.{arith}
 use mathlib.Core.Path.{_≡_, refl, sym, _∙_, ap}
 use mathlib.Core.Bool.{Bool, true, false, cond}
 use mathlib.Core.List.{List, [], _∷_}
 use lib.Bits.{bitAnd, bitOr}
 use lib.Dec.{eqb, leb}
-use lib.ListN.{length, take, drop, length-take, length-drop}
-use lib.Seq.{slice}
+use lib.ListN.{length}
 use borrow.Author.Tests.{lt-ltb}
 use Rattle.side_atoms.specs.Atoms.{allAtoms}
 use Rattle.side_atoms.specs.Tests.{top, under, push, holding, testStep, runTest}
@@ -69,7 +68,3 @@ module _ (n m : ℕ) where
   run-alike (c ∷ cs) st h i =
       ap (runTest n cs) (step-alike c st (omega arith) (omega arith))
       ∙ run-alike cs (testStep m c st) (omega (arith, step-short m c st (omega arith))) (omega (arith, step-short m c st (omega arith)))
-
--- few codes from one place to before another
-pub few-codes : (from to : ℕ) (ks : List ℕ) → to ≤ from + 64 → length (slice from to ks) ≤ 64
-few-codes from to ks h = omega (arith, length-drop from (take to ks), length-take to ks)

@@ -5,6 +5,7 @@ ghost use mathlib.Core.Path.{_≡_};
 ghost use mathlib.Core.List.{[]};
 ghost use lib.ListN.{length};
 ghost use lib.Seq.{slice};
+ghost use Rattle.words.specs.Memory.{zeros};
 ghost use Rattle.side_atoms.specs.Tests.{top, push, stacked, holding, testStep, runTest, testSet};
 
 // What is on top of a stack of height n.
@@ -76,25 +77,12 @@ fn run(codes: &[u64], from: usize, to: usize, stack: &mut [u64]) -> u64
     peek(stack, n)
 }
 
-// The set that no more than 64 codes give: their sets need no more room.
-fn few_atoms(codes: &[u64], from: usize, to: usize) -> u64
-    requires { ⌜ length (slice from to (now codes)) ≤ 64 ⌝ }
-    ensures { λ r. ⌜ r ≡ testSet (slice from to (now (codes .entry))) ⌝ }
+// The set that the codes from one place to before another give. The stack has room for as many sets as there are codes, and is left clear.
+pub fn test_atoms(codes: &[u64], from: usize, to: usize, stack: &mut [u64]) -> u64
+    requires { ⌜ (length (slice from to (now codes)) ≤ length (now stack)) × (length (slice from to (now codes)) ≤ 4096) ⌝ }
+    ensures { λ r. ⌜ (r ≡ testSet (slice from to (now (codes .entry)))) × (now (stack .exit) ≡ zeros (length (now (stack .entry)))) ⌝ }
 {
-    let mut stack = [0u64; 64];
-    run(codes, from, to, &mut stack)
-}
-
-// The set that the codes from one place to before another give.
-pub fn test_atoms(codes: &[u64], from: usize, to: usize) -> u64
-    ensures { λ r. ⌜ r ≡ testSet (slice from to (now (codes .entry))) ⌝ }
-{
-    if to <= 64 {
-        return few_atoms(codes, from, to);
-    }
-    if to - 64 <= from {
-        return few_atoms(codes, from, to);
-    }
-    let mut stack = [0u64; 4096];
-    run(codes, from, to, &mut stack)
+    let set = run(codes, from, to, stack);
+    words::clear(stack);
+    set
 }

@@ -1,7 +1,7 @@
 -- What is built from the codes of a query within the limits is what document 01 says: the table of each side of its claim, the number of
 -- its occurrences, and the atoms that are left.
 -- Assumes nothing.
-use Prim.Native.Nat.{ℕ, _+_, _/_, _%_, _≤_}
+use Prim.Native.Nat.{ℕ, _%_, _≤_}
 use native.Mathlib.Omega.{arith}
 use mathlib.Core.Path.{_≡_, refl, sym, _∙_, ap, subst, subst⁻¹}
 use mathlib.Core.Bool.{true, not}
@@ -12,11 +12,9 @@ use Rattle.kat.specs.Tables.{occurrences}
 use Rattle.claims.specs.Tree.{Claim}
 use Rattle.claims.specs.Query.{Query, tests, live, bit}
 use Rattle.claims.specs.Fields.{setNumber}
-use Rattle.claims.specs.Sides.{Decision as Sides, decision}
+use Rattle.claims.specs.Sides.{decision}
 use Rattle.claims.specs.Counting.{withinLimits}
-use Rattle.claims.proofs.Limits.{WithinLimits, decision-within-limits}
 use Rattle.codes.specs.Codes.{queryCodes}
-use Rattle.codes.proofs.Orderly.{settled-none, settled-on}
 use Rattle.codes.proofs.Claimed.{Claimed}
 use Rattle.bits.proofs.Bit.{bit-none}
 use Rattle.words.specs.Memory.{zeros}
@@ -30,10 +28,11 @@ use Rattle.side_runs.specs.Program.{itemsIn, setsIn, countsIn}
 use Rattle.side_claim.specs.Sides.{claimed}
 use Rattle.side_claim.specs.Decisions.{decisionUnder}
 use Rattle.side_claim.proofs.Sides.{Prepared}
-use Rattle.side_claim.proofs.Claims.{claim-stands, decision-all, roomy}
+use Rattle.side_claim.proofs.Claims.{claim-stands, decision-all}
+use Rattle.side_claim.proofs.Limits.{within-all}
 use Rattle.side_build.specs.Built.{needsOf, leftTable, rightTable, builtFrom}
 use Rattle.side_build.proofs.Assembled.{args-length, needs-length}
-use Rattle.side_build.proofs.AnyDecision.{BuiltAs, any-built}
+use Rattle.side_build.proofs.AnyDecision.{BuiltAs, within-built}
 
 -- what the codes need is found in the program
 paired-first : (ks xs ys : List ℕ) → length xs ≡ length ks → paired ks (xs ++ ys) ≡ paired ks xs
@@ -75,7 +74,6 @@ decided q c h w few =
     let ns = needsOf ks in
     let all = all-count ks in
     let same : decisionUnder (countsIn ks ns) q c ≡ decision q c = decision-all (countsIn ks ns) all q c in
-    let within : WithinLimits (decision q c) = decision-within-limits q c (settled-on [] q (h .lines) settled-none .room) w in
     let p : Prepared q ns = record {
       items = items-found ks;
       sets = subst⁻¹ (Limited q) (sets-found ks) (limited-sets q (h .lines) few);
@@ -83,9 +81,7 @@ decided q c h w few =
     } in
     let b : BuiltAs ks ns (claimed ks) (decision q c) =
     subst (BuiltAs ks ns (claimed ks)) same
-    (any-built q c h ns p c (claimed ks) (claim-stands q c h) (roomy (countsIn ks ns) all q c w)
-    (subst⁻¹ (λ (D : Sides). occurrences (D .left) ≤ 64) same (within .left))
-    (subst⁻¹ (λ (D : Sides). occurrences (D .right) ≤ 64) same (within .right))) in
+    (within-built q c h ns p c (claimed ks) (claim-stands q c h) (within-all (countsIn ks ns) all q c ∙ w)) in
     record {
       left-table = b .left-table;
       right-table = b .right-table;

@@ -82,8 +82,7 @@ fn prepare(codes: &[u64], needs: &mut [u64])
     ensures { λ r. ⌜ now (needs .exit) ≡ needsOf (now (codes .entry)) ⌝ }
 {
     let n = codes.len();
-    let mut starts = [0u64; codes::MOST_LETS];
-    side_items::find_args(codes, &mut needs[..n], &mut starts);
+    side_items::find_args(codes, &mut needs[..n]);
     let mut rels = [0u64; codes::RELATION_SETS];
     side_relations::relation_sets(codes, &needs[..n], &mut rels);
     words::copy(&rels, &mut needs[n..]);

@@ -1,19 +1,15 @@
--- The claim of a query, where all its lines count: its expressions stand where the codes say, its decision is that of the crate `claims`, and within
--- the limits there is room for its leaves.
+-- The claim of a query, where all its lines count: its expressions stand where the codes say, and its decision is that of the crate `claims`.
 -- Assumes nothing.
 use Prim.Native.Nat.{ℕ, suc, _+_, _≤_}
 use native.Mathlib.Omega.{arith}
-use mathlib.Core.Path.{_≡_, refl, sym, _∙_, ap, ap₂, subst}
+use mathlib.Core.Path.{_≡_, refl, ap, ap₂}
 use mathlib.Core.Bool.{Bool, true, false, cond}
 use mathlib.Core.List.{List, [], _∷_, _++_}
-use lib.Dec.{eqb}
 use Rattle.kat.specs.Expr.{test, alt, none as nowhere}
 use Rattle.kat.specs.Tables.{null}
 use Rattle.claims.specs.Tree.{Tree, Claim, includes, empty, irreflexive, Line}
 use Rattle.claims.specs.Query.{Query, each, assumedEmpty, assumedIrreflexive}
 use Rattle.claims.specs.Sides.{side, unionAll, a0, a1, zero, somewhere, decisionOf, decision}
-use Rattle.claims.specs.Counting.{leavesOf, total, sizeOf, withAnys, leftSize, rightSize, withinLimits}
-use Rattle.claims.proofs.Counts.{total-append}
 use Rattle.codes.specs.Codes.{queryCodes, claimKind}
 use Rattle.codes.proofs.Claimed.{Claimed, claim-kind}
 use Rattle.side_items.specs.Items.{startsOf}
@@ -21,8 +17,7 @@ use Rattle.side_items.proofs.Placed.{Placed, PlacedAll}
 use Rattle.side_claim.specs.Sides.{firstOf, startOf, leftEnd, claimed}
 use Rattle.side_claim.specs.Decisions.{ofLines, emptyUnder, irreflexiveUnder, decisionUnder}
 use Rattle.side_claim.proofs.Endings.{every, claim-placed}
-use Rattle.side_claim.proofs.Leaves.{FewLeaves, within-few}
-use Rattle.side_claim.proofs.Sides.{Stands, leavesLeft, leavesBeside, Roomy}
+use Rattle.side_claim.proofs.Sides.{Stands}
 
 -- one expression that starts at the first of the places
 first-placed : (q : Query) (e : Tree) (ss : List ℕ) → PlacedAll q (e ∷ []) ss → Placed q e (firstOf ss)
@@ -75,27 +70,3 @@ module _ (counts : ℕ → Bool) (all : (l : ℕ) → counts l ≡ true) where
     decision-all (empty e) =
         ap₂ (λ x y. decisionOf q false (side q e) (alt nowhere (somewhere (alt x (test (null y)))))) empty-all irreflexive-all
     decision-all (irreflexive e) = ap₂ (λ x y. decisionOf q true (side q e) (alt y (somewhere x))) empty-all irreflexive-all
-
-    left-few : (c : Claim) → leftSize q c .leaves ≤ 512 → leavesLeft q c ≤ 520
-    unfolding leftSize sizeOf
-    left-few (includes e f) h = omega arith
-    left-few (empty e) h = omega arith
-    left-few (irreflexive e) h = omega arith
-
-    right-few : (c : Claim) → rightSize q c .leaves ≤ 512
-        → leavesBeside q (each assumedIrreflexive q) c + total (leavesOf q) (each assumedEmpty q) ≤ 520
-    unfolding rightSize withAnys sizeOf
-    right-few (includes e f) h = omega arith
-    right-few (empty e) h = omega arith
-    right-few (irreflexive e) h = omega (arith, total-append (leavesOf q) (each assumedIrreflexive q) (each assumedEmpty q))
-
-    -- room within the limits
-    pub roomy : (c : Claim) → withinLimits q c ≡ true → Roomy q counts c
-    roomy c w =
-        let few = within-few q c w in
-        record {
-          left = left-few c (few .left);
-          right = subst (λ es. leavesBeside q es c + total (leavesOf q) (ofLines counts assumedEmpty 0 q) ≤ 520) (sym (all-lines assumedIrreflexive 0 q))
-              (subst (λ es. leavesBeside q (each assumedIrreflexive q) c + total (leavesOf q) es ≤ 520) (sym (all-lines assumedEmpty 0 q)) (right-few c (few .right)));
-          own = omega (arith, ap (total (leavesOf q)) (all-lines assumedIrreflexive 0 q), few .own);
-        }

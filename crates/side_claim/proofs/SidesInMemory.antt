@@ -2,7 +2,7 @@
 -- Assumes nothing.
 use Prim.Native.Nat.{ℕ, suc, _+_, _≤_, _<_}
 use native.Mathlib.Omega.{arith}
-use mathlib.Core.Path.{_≡_, refl, sym, _∙_, ap, ap₂}
+use mathlib.Core.Path.{_≡_, refl, sym, _∙_, ap, ap₂, subst⁻¹}
 use mathlib.Core.Bool.{Bool, true, false, cond, not, _&&_, _||_, true≢false}
 use mathlib.Core.List.{List, [], _∷_}
 use lib.Dec.{eqb, ltb}
@@ -15,8 +15,11 @@ use Rattle.side_parts.specs.Machine.{Machine, given, united, inOrder, anyStar, 
 use Rattle.side_items.specs.Items.{startsFrom, startsOf}
 use Rattle.side_runs.specs.Program.{itemsIn, setsIn, countsIn}
 use Rattle.side_runs.specs.Execution.{execute, executeAt, executeAll, unitedTimes, executeUnion}
+use Rattle.words.specs.Memory.{zeros}
+use Rattle.side_parts.proofs.Unbuilt.{Unbuilt, unbuilt-start, unbuilt-null}
+use Rattle.side_runs.proofs.Unbuilt.{union-unbuilt}
 use Rattle.side_runs.proofs.RunningAll.{starts-none, starts-inside, starts-other, starts-found}
-use Rattle.side_claim.specs.Sides.{firstOf, startOf, claimed, isRing, placed, assumed, zeroSet, zeroFor, between, around, leftMachine, besides, rightMachine}
+use Rattle.side_claim.specs.Sides.{firstOf, startOf, isRing, placed, assumed, zeroSet, zeroFor, between, around, leftMachine, besides, rightMachine}
 use Rattle.side_claim.specs.declared.Decision.{Decision}
 
 -- a test negated
@@ -92,12 +95,21 @@ pub zero-path : (ks ns : List ℕ) (ring : Bool) (r : ℕ) → ring ≡ false �
 unfolding zeroFor
 zero-path ks ns ring r e f = f ∙ sym (ap (λ b. cond b 0 (zeroSet ks ns)) e)
 
-pub zero-found : (ks ns : List ℕ) (m n : Machine) (a : Part) → m ≡ nothingBuilt
-    → n ≡ executeUnion (setsIn ks ns) (itemsIn ks ns) (startsOf (countsIn ks ns) 134 ks) m → a ≡ topPart (n .stack) → a .null ≡ zeroSet ks ns
-unfolding zeroSet assumed
-zero-found ks ns m n a e f g =
-    ap (λ (p : Part). p .null) g
-    ∙ ap (λ (x : Machine). topPart (x .stack) .null) (f ∙ ap (executeUnion (setsIn ks ns) (itemsIn ks ns) (startsOf (countsIn ks ns) 134 ks)) e)
+-- the set of length-0 words of a1, by a machine that builds nothing
+module _ (ks ns : List ℕ) (m n : Machine) (clear : m .table ≡ zeros 4241) (full : m .used ≡ 64) (none : m .stack ≡ [])
+    (ran : n ≡ executeUnion (setsIn ks ns) (itemsIn ks ns) (startsOf (countsIn ks ns) 134 ks) m) where
+  ran-unbuilt : Unbuilt n (assumed ks ns 134 nothingBuilt)
+  unfolding assumed nothingBuilt
+  ran-unbuilt =
+      subst⁻¹ (λ x. Unbuilt x (executeUnion (setsIn ks ns) (itemsIn ks ns) (startsOf (countsIn ks ns) 134 ks) nothingBuilt)) ran
+      (union-unbuilt (setsIn ks ns) (itemsIn ks ns) (startsOf (countsIn ks ns) 134 ks) m nothingBuilt (unbuilt-start m nothingBuilt clear full none refl))
+
+  pub zero-found : (a : Part) → a ≡ topPart (n .stack) → a .null ≡ zeroSet ks ns
+  unfolding zeroSet
+  zero-found a g = ap (λ (p : Part). p .null) g ∙ unbuilt-null n (assumed ks ns 134 nothingBuilt) ran-unbuilt
+
+  pub still-clear : n .table ≡ zeros 4241
+  still-clear = ran-unbuilt .clear
 
 module _ (ks ns : List ℕ) (d : Decision) where
   pub left-made : (m n : Machine) → m ≡ nothingBuilt → ((k : ℕ) → d .left < k → n ≡ execute k (setsIn ks ns) (itemsIn ks ns) (d .left) m)

@@ -1,3 +1,4 @@
--- The two sides of a decision, from a program; and what they are of a query.
+-- The two sides of a decision, from a program; what they are of a query; and its limits.
 pub mod Sides
 pub mod Decisions
+pub mod Limits

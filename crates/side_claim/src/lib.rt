@@ -74,15 +74,15 @@ pub fn left_side(
     run_from(codes, needs, table, parts, d.left);
 }
 
-// The atoms that are words of a1, where some expression is assumed irreflexive; the table is clear again.
+// The atoms that are words of a1, where some expression is assumed irreflexive. Which atoms are words does not depend on the occurrences, so none
+// is added, and the table stays clear.
 fn zero_of(codes: &[u64], needs: &[u64], table: &mut [u64; TABLE], parts: &mut [u64; STACK]) -> u64
     requires { ⌜ now table ≡ zeros 4241 ⌝ }
     ensures { λ r. ⌜ (r ≡ zeroSet (now (codes .entry)) (now (needs .entry))) × (now (table .exit) ≡ zeros 4241) ⌝ }
 {
-    side_stack::empty(parts);
+    side_stack::full(parts);
     run_union(codes, needs, codes::ASSUME_IRREFLEXIVE, table, parts);
     let a = side_stack::top(parts);
-    words::clear(table);
     a.null
 }
 

@@ -16,6 +16,8 @@ use Rattle.kat.proofs.Bools.{lt-or-le, and-left, and-right}
 use Rattle.side_atoms.specs.Tests.{testSet}
 use Rattle.codes.specs.Lets.{kept}
 use Rattle.side_items.specs.Items.{Scan, ofTest, argOf, scanned, argsFrom, unscanned, argsOf}
+use Rattle.side_items.specs.inner.Blank.{Blank}
+use Rattle.side_items.proofs.Room.{blank-none, blank-more}
 
 module _ (s : Scan) (k : ℕ) where
   pub arg-bracket : k ≡ 6 → argOf s k ≡ testSet (s .pending)
@@ -120,6 +122,7 @@ pub record Follows (ks args starts : List ℕ) (i line from n : ℕ) : Type 0 wh
   pub lets : n ≡ length (scan .starts)
   pub size : length starts ≡ 32
   pub known : (j : ℕ) → j < 32 → getD starts j 0 ≡ getD (scan .starts) j 0
+  pub blank : Blank args from i
   pub done : take i args ++ argsFrom scan (drop i ks) ≡ argsOf ks
 
 -- before the first code
@@ -136,6 +139,7 @@ follows-start ks args =
       lets = refl;
       size = refl;
       known = λ j l. getD-replicate 32 j 0 0 l;
+      blank = blank-none args 0;
       done = refl;
     }
 
@@ -151,15 +155,15 @@ choice-bound true m n k h i = h
 choice-bound false m n k h i = i
 
 -- one code more
-pub follows-on : (ks args starts starts′ : List ℕ) (i line line′ from from′ n n′ k x : ℕ) → Follows ks args starts i line from n
-    → k ≡ getD ks i 0 → x ≡ argOf (record { at = 0; line = 0; pending = slice from i ks; starts = starts }) k
+pub follows-on : (ks args args′ starts starts′ : List ℕ) (i line line′ from from′ n n′ k x : ℕ) → Follows ks args starts i line from n
+    → args′ ≡ args → k ≡ getD ks i 0 → x ≡ argOf (record { at = 0; line = 0; pending = slice from i ks; starts = starts }) k
     → starts′ ≡ kept starts k n line → line′ ≡ cond (leb 128 k) (i + 1) line → from′ ≡ cond (ofTest k) from (i + 1)
-    → n′ ≡ n + cond (eqb k 130) 1 0 → i < length ks → i < length args → Follows ks (set args i x) starts′ (i + 1) line′ from′ n′
+    → n′ ≡ n + cond (eqb k 130) 1 0 → i < length ks → i < length args → Follows ks (set args′ i x) starts′ (i + 1) line′ from′ n′
 unfolding scanned
-follows-on ks args starts starts′ i line line′ from from′ n n′ k x f e g o p q r h l =
+follows-on ks args args′ starts starts′ i line line′ from from′ n n′ k x f a e g o p q r h l =
     let s = f .scan in
     let b = f .behind in
-    rw (o, p, q, r)
+    rw (a, o, p, q, r)
     (record {
       scan = scanned s k;
       at = ap (λ a. a + 1) (f .at);
@@ -170,6 +174,7 @@ follows-on ks args starts starts′ i line line′ from from′ n n′ k x f e g
       lets = ap (λ a. a + cond (eqb k 130) 1 0) (f .lets) ∙ lets-more (eqb k 130) (s .starts) (s .line);
       size = kept-size starts k n line ∙ f .size;
       known = λ j z. rw (f .lets, ← f .start) (starts-kept starts (s .starts) (f .known) k (s .line) (f .size) j z);
+      blank = blank-more args _ from i k x (f .blank) l g;
       done = args-more s ks args i k x e (g ∙ arg-same _ s k (sym (f .before)) (f .known)) h l ∙ f .done;
     })
 

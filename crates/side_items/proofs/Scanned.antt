@@ -76,7 +76,7 @@ module _ (k : ℕ) (h : ofTest k ≡ true) where
       let (l, n) = of-test-small in
       rw (scanned, h, lt-leb 128 k (omega arith), ne-eqb k 130 (λ z. omega arith))
 
-  test-arg : (s : Scan) → argOf s k ≡ 0
+  pub test-arg : (s : Scan) → argOf s k ≡ 0
   unfolding argOf
   test-arg s =
       let (l, n) = of-test-small in

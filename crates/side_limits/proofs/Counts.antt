@@ -1,5 +1,5 @@
 -- What a walk over the codes of a query counts, where no code of an expression counts: each line counts what the codes that end it or
--- divide it count. So the codes have as many ends of lines as the query has lines, and a code for each test and each relation.
+-- divide it count.
 -- Assumes nothing.
 use Prim.Native.Nat.{ℕ, _+_, _≤_, _<_}
 use native.Mathlib.Omega.{arith}
@@ -12,10 +12,10 @@ use lib.ListN.{length, length-append}
 use borrow.Author.Tests.{ne-eqb}
 use Rattle.claims.specs.Tree.{Claim, includes, empty, irreflexive, Line, testLine, relLine, letLine, neverLine, withinLine, closedLine, assumeEmpty, assumeIrreflexive, claimLine}
 use Rattle.claims.specs.Names.{uses, firstSlip}
-use Rattle.claims.specs.Query.{Query, each, indexOf, testNames, relationNames, tests, relations}
+use Rattle.claims.specs.Query.{Query, each, indexOf, relations}
 use Rattle.claims.proofs.Limits.{Declared}
 use Rattle.codes.specs.Codes.{testCodes, treeCodes, claimCodes, lineCodes, linesCodes, queryCodes}
-use Rattle.side_limits.specs.Tally.{howMany, times}
+use Rattle.side_limits.specs.Tally.{howMany}
 use Rattle.side_limits.proofs.Walk.{how-many-append}
 use Rattle.codes.proofs.Orderly.{Orderly, Settled, settled-none, settled-more}
 use Rattle.codes.proofs.Below.{Below, test-below, bracket-below, tree-below}
@@ -85,42 +85,3 @@ module _ (test : ℕ → Bool) (outside : (k : ℕ) → k < 128 → test k ≡ f
 -- a code of an expression is none from 128 on
 pub below-differs : (m : ℕ) → 128 ≤ m → (k : ℕ) → k < 128 → eqb k m ≡ false
 below-differs m h k l = ne-eqb k m (λ e. omega arith)
-
-test-end : (p : Query) (l : Line) → howMany (λ x. eqb x 128) (lineEnds p l) ≡ length (testNames l)
-unfolding testNames
-test-end p (testLine n) = refl
-test-end p (relLine n) = refl
-test-end p (letLine n e) = refl
-test-end p (neverLine t) = refl
-test-end p (withinLine n t u) = ap (λ b. cond b 1 0 + 0) (ne-eqb (144 + indexOf n (relations p)) 128 (λ e. omega arith))
-test-end p (closedLine n) = ap (λ b. cond b 1 0 + 0) (ne-eqb (160 + indexOf n (relations p)) 128 (λ e. omega arith))
-test-end p (assumeEmpty e) = refl
-test-end p (assumeIrreflexive e) = refl
-test-end p (claimLine (includes e f)) = refl
-test-end p (claimLine (empty e)) = refl
-test-end p (claimLine (irreflexive e)) = refl
-
--- as many tests as lines that declare one
-pub tests-counted : (q : Query) → Orderly [] q → times 128 (queryCodes q) ≡ length (tests q)
-unfolding times tests
-tests-counted q o = query-counted (λ x. eqb x 128) (below-differs 128 (omega arith)) testNames q (λ p r l z e s. test-end p l) o
-
-relation-end : (p : Query) (l : Line) → howMany (λ x. eqb x 129) (lineEnds p l) ≡ length (relationNames l)
-unfolding relationNames
-relation-end p (testLine n) = refl
-relation-end p (relLine n) = refl
-relation-end p (letLine n e) = refl
-relation-end p (neverLine t) = refl
-relation-end p (withinLine n t u) = ap (λ b. cond b 1 0 + 0) (ne-eqb (144 + indexOf n (relations p)) 129 (λ e. omega arith))
-relation-end p (closedLine n) = ap (λ b. cond b 1 0 + 0) (ne-eqb (160 + indexOf n (relations p)) 129 (λ e. omega arith))
-relation-end p (assumeEmpty e) = refl
-relation-end p (assumeIrreflexive e) = refl
-relation-end p (claimLine (includes e f)) = refl
-relation-end p (claimLine (empty e)) = refl
-relation-end p (claimLine (irreflexive e)) = refl
-
--- as many relations as lines that declare one
-pub relations-counted : (q : Query) → Orderly [] q → times 129 (queryCodes q) ≡ length (relations q)
-unfolding times relations
-relations-counted q o =
-    query-counted (λ x. eqb x 129) (below-differs 129 (omega arith)) relationNames q (λ p r l z e s. relation-end p l) o

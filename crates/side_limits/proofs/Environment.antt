@@ -2,14 +2,14 @@
 -- before a line counts the same where the line stands as in the whole query, so that each let counts what its expression counts over all
 -- the names, and the code of a name counts what the name does.
 -- Assumes nothing.
-use Prim.Native.Nat.{ℕ, _<_}
+use Prim.Native.Nat.{ℕ, _+_, _<_}
 use native.Mathlib.Omega.{arith}
-use mathlib.Core.Path.{_≡_, sym, _∙_, ap, ap₂}
+use mathlib.Core.Path.{_≡_, refl, sym, _∙_, ap, ap₂}
 use mathlib.Core.Logic.{⊎-elim}
 use mathlib.Core.Bool.{true}
 use mathlib.Core.List.{List, [], _∷_, _++_, map, map-append}
 use mathlib.Core.Option.{some, none}
-use lib.ListN.{getD, length-map}
+use lib.ListN.{length, getD, length-map, List·getD-append}
 use lib.Seq.{getD-at}
 use Rattle.claims.specs.Tree.{Name, Tree, letLine}
 use Rattle.claims.specs.Names.{aRelation, aLet, usesEither, kindOf, slip}
@@ -18,7 +18,7 @@ use Rattle.claims.specs.Counting.{count}
 use Rattle.claims.proofs.Results.{each-append}
 use Rattle.codes.specs.Codes.{letNames, kindCode, codeOf}
 use Rattle.side_limits.specs.Tally.{weight}
-use Rattle.side_limits.proofs.Weights.{relation-weight, let-weight}
+use Rattle.side_limits.proofs.Weights.{relation-weight, let-weight, weight-same}
 use Rattle.codes.proofs.Names.{has, index-lt}
 use Rattle.codes.proofs.Orderly.{Orderly, Settled}
 use Rattle.codes.proofs.Bindings.{let-line, count-grows, relation-bound, let-bound}
@@ -78,3 +78,33 @@ module _ (q : Query) (t : ℕ) (w : Name → ℕ) where
     unfolding slip
     named p r z s n e =
         ⊎-elim (relation-named p r z s n) (let-named p r z s n) (relation-or-let (kindOf p n) e)
+
+    -- by the lets of the whole query it counts the same: it names none but those before
+    module _ (p r : Query) (z : p ++ r ≡ q) (s : Settled p) where
+      more-lets : overLets (each lets q) ≡ overLets (each lets p) ++ overLets (each lets r)
+      more-lets = ap overLets (ap (each lets) (sym z) ∙ each-append lets p r) ∙ map-append (λ b. over (b .means)) (each lets p) (each lets r)
+
+      let-before : (n : Name) → slip p (usesEither n) ≡ none → (j : ℕ) → codeOf p n ≡ 64 + j → j < length (overLets (each lets p))
+      unfolding slip codeOf kindCode letNames
+      let-before n e j c =
+          ⊎-elim
+          (λ k.
+          let i : codeOf p n ≡ 32 + indexOf n (relations p) = ap (kindCode p n) k in
+          omega (arith, index-lt n (relations p) (relation-in p n s k), s .room .relations))
+          (λ k.
+          let i : codeOf p n ≡ 64 + indexOf n (letNames p) = ap (kindCode p n) k in
+          omega (
+            arith,
+            index-lt n (letNames p) (let-in p n s k),
+            length-map (each lets p) (λ (b : Bound Tree). b .called),
+            length-map (each lets p) (λ b. over (b .means)),
+          ))
+          (relation-or-let (kindOf p n) e)
+
+      pub named-in-all : (n : Name) → slip p (usesEither n) ≡ none
+          → weight t v (overLets (each lets q)) (codeOf p n) ≡ lookup 0 n (names q w (count t))
+      named-in-all n e =
+          ap (λ ls. weight t v ls (codeOf p n)) more-lets
+          ∙ weight-same t v v (overLets (each lets p) ++ overLets (each lets r)) (overLets (each lets p)) (codeOf p n) (λ i h c. refl)
+          (λ j h c. List·getD-append (overLets (each lets p)) (overLets (each lets r)) 0 j (let-before n e j c))
+          ∙ named p r z s n e

@@ -8,14 +8,15 @@ use mathlib.Core.Path.{_≡_, refl, sym, _∙_, ap}
 use mathlib.Core.Bool.{cond}
 use mathlib.Core.List.{List, [], _∷_, _++_}
 use mathlib.Core.Option.{none}
-use borrow.Author.Tests.{lt-ltb, ne-eqb}
+use borrow.Author.Tests.{lt-ltb, le-ltb, ne-eqb}
 use Rattle.claims.specs.Tree.{Name, TestTree, testName, trueTest, falseTest, either, both, not, Tree, name, tested, union, sequence, star, plus, opt}
 use Rattle.claims.specs.Names.{usesTest, usesEither, testUses, treeUses, kindOf, slip, firstSlip}
 use Rattle.claims.specs.Query.{Query, Bound, lookup, indexOf, lets, tests}
 use Rattle.claims.specs.Counting.{count}
 use Rattle.claims.proofs.Limits.{Declared}
 use Rattle.codes.specs.Codes.{kindCode, codeOf, testCodes, treeCodes}
-use Rattle.side_limits.specs.Tally.{Tally, weight, endsLeft, rightEnd, step, run}
+use Rattle.side_limits.specs.Tally.{Tally, weight, step, run}
+use Rattle.side_limits.specs.Places.{untilEnd}
 use Rattle.side_limits.proofs.Weights.{weight-test}
 use Rattle.codes.proofs.Names.{index-le}
 use Rattle.codes.proofs.Orderly.{slip-first, slip-append}
@@ -81,28 +82,12 @@ module _ (p : Query) (d : Declared p) (t : ℕ) (w : ℕ → ℕ) (ls : List ℕ
 
 -- the walk with x counted of the expression that is being read
 abbrev pub counting : Tally → ℕ → Tally
-counting d x =
-    record { now = x; lets = d .lets; empty = d .empty; irreflexive = d .irreflexive; left = d .left; right = d .right }
+counting d x = record { now = x; lets = d .lets }
 
 module _ (t : ℕ) (w : ℕ → ℕ) where
   step-below : (d : Tally) (k : ℕ) → k < 128 → step t w d k ≡ counting d (d .now + weight t w (d .lets) k)
-  unfolding step endsLeft rightEnd
-  step-below d k h =
-      rw (
-        step,
-        lt-ltb k 128 h,
-        ne-eqb k 130 (λ e. omega arith),
-        ne-eqb k 133 (λ e. omega arith),
-        ne-eqb k 134 (λ e. omega arith),
-        ne-eqb k 135 (λ e. omega arith),
-        ne-eqb k 137 (λ e. omega arith),
-        ne-eqb k 138 (λ e. omega arith),
-        ne-eqb k 136 (λ e. omega arith),
-        add-zero (d .empty),
-        add-zero (d .irreflexive),
-        add-zero (d .left),
-        add-zero (d .right),
-      )
+  unfolding step
+  step-below d k h = rw (step, lt-ltb k 128 h, ne-eqb k 130 (λ e. omega arith))
 
   -- the walk over an expression
   pub run-below : (d : Tally) (ks : List ℕ) → Below 128 ks → run t w d ks ≡ counting d (d .now + sumOf (weight t w (d .lets)) ks)
@@ -112,3 +97,9 @@ module _ (t : ℕ) (w : ℕ → ℕ) where
       ap (λ x. run t w x ks) (step-below d k h)
       ∙ run-below (counting d (d .now + weight t w (d .lets) k)) ks b
       ∙ ap (counting d) (omega arith)
+
+-- up to the code that ends it, an expression counts what all its codes count
+pub until-tree : (f : ℕ → ℕ) (xs : List ℕ) (m : ℕ) (rest : List ℕ) → Below 128 xs → 128 ≤ m → untilEnd f (xs ++ (m ∷ rest)) ≡ sumOf f xs
+unfolding untilEnd
+until-tree f [] m rest b h = rw (le-ltb m 128 h)
+until-tree f (x ∷ xs) m rest (l, b) h = rw (lt-ltb x 128 l) (ap (λ n. f x + n) (until-tree f xs m rest b h))

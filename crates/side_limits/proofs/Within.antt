@@ -1,8 +1,9 @@
--- The `within` lines of a relation, counted by their codes, wherever they stand in the query.
+-- The `within` lines of a relation, counted by their codes, wherever they stand in the query, and so what its code counts.
 -- Assumes nothing.
-use Prim.Native.Nat.{ℕ, suc, _+_, _*_, _<_}
+use Prim.Native.Nat.{ℕ, _+_, _<_}
+use native.Mathlib.Nat.{mul-zero}
 use native.Mathlib.Omega.{arith}
-use mathlib.Core.Path.{_≡_, refl, _∙_, ap}
+use mathlib.Core.Path.{_≡_, refl, sym, _∙_, ap}
 use mathlib.Core.Bool.{Bool, true, false, cond}
 use mathlib.Core.List.{[], _∷_, _++_}
 use mathlib.Core.Option.{none}
@@ -13,8 +14,10 @@ use Rattle.claims.specs.Bytes.{same}
 use Rattle.claims.specs.Tree.{Name, includes, empty, irreflexive, Line, testLine, relLine, letLine, neverLine, withinLine, closedLine, assumeEmpty, assumeIrreflexive, claimLine}
 use Rattle.claims.specs.Names.{usesRelation, uses, testUses, slip, firstSlip}
 use Rattle.claims.specs.Query.{Query, Limit, each, indexOf, limits, relations}
+use Rattle.claims.specs.Expanded.{standsFor, countExpanded}
+use Rattle.claims.proofs.Counts.{relation-occurs-once, relation-has-leaves}
 use Rattle.codes.specs.Codes.{queryCodes}
-use Rattle.side_limits.specs.Tally.{howMany, times, relationLeaves}
+use Rattle.side_limits.specs.Tally.{howMany, times, relationCount}
 use Rattle.codes.proofs.Names.{has, index-lt}
 use Rattle.codes.proofs.Orderly.{Orderly, slip-first, Settled, settled-none, settled-on}
 use Rattle.codes.proofs.NamedRelations.{same-number}
@@ -49,15 +52,22 @@ module _ (q : Query) (n : Name) (i : ℕ) (small : i < 16) (at : i ≡ indexOf n
     line-limits (claimLine (empty f)) e = another 137 (λ y. omega arith)
     line-limits (claimLine (irreflexive f)) e = another 138 (λ y. omega arith)
 
--- a relation's leaves
-pub relation-leaves : (q : Query) → Orderly [] q → (n : Name) → has n (relations q) ≡ true
-    → relationLeaves (queryCodes q) (indexOf n (relations q)) ≡ suc (2 * length (each (limits n) q))
-unfolding relationLeaves times
-relation-leaves q o n h =
+-- as many as the relation has limits
+limits-counted : (q : Query) → Orderly [] q → (n : Name) → has n (relations q) ≡ true
+    → times (144 + indexOf n (relations q)) (queryCodes q) ≡ length (each (limits n) q)
+unfolding times
+limits-counted q o n h =
     let i = indexOf n (relations q) in
     let l : i < 16 = omega (arith, index-lt n (relations q) h, settled-on [] q o settled-none .room .relations) in
-    omega (
-      arith,
-      query-counted (λ x. eqb x (144 + i)) (below-differs (144 + i) (omega arith)) (limits n) q
-          (λ p r m z e s. line-limits q n i l refl h p (m ∷ r) z s m e) o,
-    )
+    query-counted (λ x. eqb x (144 + i)) (below-differs (144 + i) (omega arith)) (limits n) q
+    (λ p r m z e s. line-limits q n i l refl h p (m ∷ r) z s m e) o
+
+-- a relation is one occurrence, and one leaf with the tests of its limits
+pub relation-occurrence : (q : Query) (n : Name) → relationCount 0 (queryCodes q) (indexOf n (relations q)) ≡ countExpanded 0 (standsFor q n)
+unfolding relationCount
+relation-occurrence q n = ap (λ x. 1 + x) (mul-zero _) ∙ sym (relation-occurs-once q n)
+
+pub relation-leaves : (q : Query) → Orderly [] q → (n : Name) → has n (relations q) ≡ true
+    → relationCount 1 (queryCodes q) (indexOf n (relations q)) ≡ countExpanded 1 (standsFor q n)
+unfolding relationCount
+relation-leaves q o n h = omega (arith, limits-counted q o n h, relation-has-leaves q n)

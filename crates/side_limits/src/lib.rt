@@ -1,12 +1,18 @@
-// Occurrences and leaves of the two sides of a query, counted from its codes, and the limits that refusal 8 is for (document 01,
-// "Standings", Limits). Nothing is expanded: a let counts what its expression counted, and every sum stops at 1,000, above all limits.
+// Occurrences and leaves of the two sides of a decision, counted from the codes of a query by the places where its expressions start, and the
+// limits that refusal 8 is for (document 01, "Standings", Limits). Nothing is expanded: a let counts what its expression counted, and every
+// sum stops at 1,000, above all limits.
+use side_claim::Decision;
+use words::word;
 ghost use mathlib.Core.Path.{_≡_};
-ghost use mathlib.Core.Bool.{cond};
-ghost use Prim.Native.Nat.{ℕ, _+_, _<_, _^_};
-ghost use lib.ListN.{length, getD, replicate};
-ghost use Rattle.side_limits.specs.Tally.{capped, weight as weightOf, endsLeft, rightEnd, times as timesOf, relationLeaves, tally};
-ghost use Rattle.side_limits.specs.Sizes.{sizesOf, withinTest};
-ghost use Rattle.side_limits.specs.inner.CappedSums.{Agrees, Turned, rightSum};
+ghost use mathlib.Core.Bool.{cond, _&&_};
+ghost use mathlib.Core.List.{[]};
+ghost use Prim.Native.Nat.{ℕ, _+_};
+ghost use lib.Dec.{eqb};
+ghost use lib.ListN.{replicate};
+ghost use Rattle.side_limits.specs.Tally.{capped, tally, relationCount};
+ghost use Rattle.side_limits.specs.Places.{countAt, notOut, countKind};
+ghost use Rattle.side_limits.specs.Sizes.{rightOf, sizesOf, withinTest};
+ghost use Rattle.side_limits.specs.inner.CappedSums.{inTable, Table, sumsOf};
 
 // Occurrences and leaves of a side, up to 1,000.
 pub struct Size {
@@ -14,7 +20,7 @@ pub struct Size {
     pub leaves: u64,
 }
 
-// What a query's two sides count, whether its claim is one of rings, and a1's own leaves.
+// What the two sides of a decision count, whether its claim is one of rings, and a1's own leaves.
 pub struct Sizes {
     pub ring: bool,
     pub left: Size,
@@ -22,15 +28,15 @@ pub struct Sizes {
     pub own: u64,
 }
 
-// The sums of a count: of the expression that is being read, how many lets there were, a0, a1, the left side and y.
+// Occurrences, or leaves: of the left side, of the right side and of a1.
 struct Sums {
-    now: u64,
-    lets: usize,
-    empty: u64,
-    irreflexive: u64,
     left: u64,
     right: u64,
+    own: u64,
 }
+
+// A table with what each code of an expression counts: the codes from here on count nothing.
+const TABLE: usize = 96;
 
 // A sum that stops at 1,000.
 fn add(a: u64, b: u64) -> u64
@@ -46,154 +52,168 @@ fn add(a: u64, b: u64) -> u64
     1000
 }
 
-// x where a test holds.
-fn chosen(on: bool, x: u64) -> u64
-    ensures { λ r. ⌜ r ≡ cond on x 0 ⌝ }
+// The first entries: a bracketed test counts `test`, and each relation 1.
+fn start_table(test: u64, table: &mut [u64])
+    requires { ⌜ now table ≡ replicate 96 0 ⌝ }
+    ensures { λ r. ⌜ Table test (λ r. 1) [] (now (table .exit)) ⌝ }
 {
-    if on { x } else { 0 }
+    let mut i = codes::A_RELATION as usize;
+    while i < codes::ANY as usize {
+        words::store(table, i, 1);
+        i += 1;
+    }
+    words::store(table, codes::TESTED as usize, test);
 }
 
-// What a code of an expression counts: a bracketed test, a relation, a let.
-fn weight(k: u64, test: u64, relations: &[u64; 16], lets: &[u64; 32]) -> u64
-    ensures { λ r. ⌜ r ≡ weightOf test (λ n. getD (now (relations .entry)) n 0) (now (lets .entry)) k ⌝ }
+// Each `within` line gives its relation two tests more.
+fn add_limits(codes: &[u64], test: u64, table: &mut [u64])
+    requires { ⌜ Table test (λ r. 1) [] (now table) ⌝ }
+    ensures { λ r. ⌜ Table test (relationCount test (now (codes .entry))) [] (now (table .exit)) ⌝ }
 {
-    if k < codes::A_RELATION {
-        return chosen(k == codes::TESTED, test);
-    }
-    if k < codes::ANY {
-        return relations[(k - codes::A_RELATION) as usize];
-    }
-    if k < codes::A_LET {
-        return 0;
-    }
-    if k < codes::LETS_END {
-        return lets[(k - codes::A_LET) as usize];
-    }
-    0
-}
-
-// Whether the left side ends here.
-fn ends_left(k: u64) -> bool
-    ensures { λ r. ⌜ r ≡ endsLeft k ⌝ }
-{
-    if k == codes::INCLUDED {
-        return true;
-    }
-    if k == codes::CLAIM_EMPTY {
-        return true;
-    }
-    k == codes::CLAIM_IRREFLEXIVE
-}
-
-// What the end of a claim adds to y: the expression after `in`, and `[false]` for empty.
-fn right_end(k: u64, test: u64, now: u64) -> u64
-    ensures { λ r. ⌜ r ≡ rightEnd k test now ⌝ }
-{
-    if k == codes::CLAIM_INCLUDE {
-        return now;
-    }
-    chosen(k == codes::CLAIM_EMPTY, test)
-}
-
-// One code more, which counts w in an expression and else ends a line.
-fn add_code(s: Sums, k: u64, test: u64, w: u64) -> Sums
-    requires { ⌜ s .lets < 2 ^ 62 ⌝ }
-    ensures { λ r. ⌜ Turned s k test w r ⌝ }
-{
-    Sums {
-        now: chosen(k < codes::LINE, add(s.now, w)),
-        lets: codes::lets_after(s.lets, k),
-        empty: add(s.empty, chosen(k == codes::ASSUME_EMPTY, s.now)),
-        irreflexive: add(s.irreflexive, chosen(k == codes::ASSUME_IRREFLEXIVE, s.now)),
-        left: add(s.left, chosen(ends_left(k), s.now)),
-        right: add(s.right, right_end(k, test, s.now)),
-    }
-}
-
-// What the codes count, where a bracketed test counts `test` and each relation what the table says.
-fn count(codes: &[u64], test: u64, relations: &[u64; 16], lets: &mut [u64; 32]) -> Sums
-    requires { ⌜ now lets ≡ replicate 32 0 ⌝ }
-    ensures { λ r. ⌜ Agrees (tally test (λ n. getD (now (relations .entry)) n 0) (now (codes .entry))) r ⌝ }
-{
-    let mut s = Sums {
-        now: 0,
-        lets: 0,
-        empty: 0,
-        irreflexive: 0,
-        left: 0,
-        right: 0,
-    };
+    let tests = add(test, test);
     let mut i = 0;
     while i < codes.len() {
         let k = codes[i];
-        let w = weight(k, test, relations, lets);
-        codes::keep_let(lets, k, s.lets, s.now);
-        s = add_code(s, k, test, w);
         i += 1;
+        if k < codes::WITHIN_LINE {
+            continue;
+        }
+        if codes::CLOSED_LINE <= k {
+            continue;
+        }
+        let at = (codes::A_RELATION + (k - codes::WITHIN_LINE)) as usize;
+        let w = add(word(table, at), tests);
+        words::store(table, at, w);
     }
-    s
 }
 
-// How often k stands among the codes.
-fn times(codes: &[u64], k: u64) -> u64
-    ensures { λ r. ⌜ (r ≡ timesOf k (now (codes .entry))) × (r < 2 ^ 61) ⌝ }
+// Each let counts what its expression counts. A let that the table has no place for is not kept.
+fn count_lets(codes: &[u64], table: &mut [u64])
+    ensures { λ r. ⌜ ((t : ℕ) (w : ℕ → ℕ) → Table t w [] (now (table .entry)) → Table t w (tally t w (now (codes .entry)) .lets) (now (table .exit))) ⌝ }
 {
-    let mut n = 0;
+    let mut sum = 0;
+    let mut n: usize = 0;
     let mut i = 0;
     while i < codes.len() {
-        if codes[i] == k {
-            n += 1;
+        let k = codes[i];
+        i += 1;
+        if k < codes::LINE {
+            sum = add(sum, word(table, k as usize));
+            continue;
         }
+        if k != codes::LET_LINE {
+            sum = 0;
+            continue;
+        }
+        words::store(table, codes::A_LET as usize + n, sum);
+        n += 1;
+        sum = 0;
+    }
+}
+
+// What the expression at a place counts.
+fn count_at(codes: &[u64], from: usize, table: &[u64]) -> u64
+    ensures { λ r. ⌜ r ≡ capped (countAt (inTable (now (table .entry))) (now (codes .entry)) from) ⌝ }
+{
+    let mut sum = 0;
+    let mut i = from;
+    while i < codes.len() {
+        let k = codes[i];
+        if codes::LINE <= k {
+            return sum;
+        }
+        sum = add(sum, word(table, k as usize));
         i += 1;
     }
-    n
+    sum
 }
 
-// The leaves of each relation, with the tests of its `within` lines.
-fn relation_leaves(codes: &[u64], relations: &mut [u64; 16])
-    requires { ⌜ length (now relations) ≡ 16 ⌝ }
-    ensures { λ r. ⌜ ((n : ℕ) → n < 16 → getD (now (relations .exit)) n 0 ≡ relationLeaves (now (codes .entry)) n) ⌝ }
+// Whether the expression that ends with `code` in line l is one of those that end with `kind` and are not left out.
+fn is_one(out: &[u64], code: u64, kind: u64, l: usize) -> bool
+    ensures { λ r. ⌜ r ≡ (eqb code kind && notOut (now (out .entry)) l) ⌝ }
 {
-    let mut i: usize = 0;
-    while i < 16 {
-        relations[i] = 1 + 2 * times(codes, codes::WITHIN_LINE + (i as u64));
+    if code == kind {
+        return !bits::member(word(out, l / 64), l % 64);
+    }
+    false
+}
+
+// What the expressions count that end with the code `kind`, of the lines that are not left out.
+fn count_kind(codes: &[u64], out: &[u64], kind: u64, table: &[u64]) -> u64
+    ensures { λ r. ⌜ r ≡ capped (countKind (inTable (now (table .entry))) (now (codes .entry)) (now (out .entry)) kind) ⌝ }
+{
+    let mut sum = 0;
+    let mut line = 0;
+    let mut start = 0;
+    let mut i = 0;
+    while i < codes.len() {
+        let code = codes[i];
         i += 1;
+        if code < codes::LINE {
+            continue;
+        }
+        let one = is_one(out, code, kind, line);
+        line += 1;
+        if !one {
+            start = i;
+            continue;
+        }
+        sum = add(sum, count_at(codes, start, table));
+        start = i;
+    }
+    sum
+}
+
+// The right side: y of an inclusion, `[false]` of an empty claim, a1 of a ring claim; a0, the anys, and zero in a path claim.
+fn right_side(d: Decision, own: u64, y: u64, test: u64, empty: u64) -> u64
+    ensures { λ r. ⌜ r ≡ capped (rightOf d own y test empty) ⌝ }
+{
+    if d.kind == codes::CLAIM_IRREFLEXIVE {
+        return add(add(own, empty), 2);
+    }
+    let around = add(empty, add(2, test));
+    if d.kind == codes::CLAIM_INCLUDE {
+        return add(y, around);
+    }
+    add(test, around)
+}
+
+// What a decision counts, where a bracketed test counts `test`.
+fn count(codes: &[u64], out: &[u64], d: Decision, test: u64) -> Sums
+    ensures { λ r. ⌜ r ≡ sumsOf test (now (codes .entry)) (now (out .entry)) d ⌝ }
+{
+    let mut table = [0u64; TABLE];
+    start_table(test, &mut table);
+    add_limits(codes, test, &mut table);
+    count_lets(codes, &mut table);
+    let own = count_kind(codes, out, codes::ASSUME_IRREFLEXIVE, &table);
+    let empty = count_kind(codes, out, codes::ASSUME_EMPTY, &table);
+    let y = count_at(codes, d.right, &table);
+    Sums {
+        left: count_at(codes, d.left, &table),
+        right: right_side(d, own, y, test, empty),
+        own,
     }
 }
 
-// The right side of a claim: the anys with what stands between them, and what they are united with.
-fn right_side(ring: bool, test: u64, s: Sums) -> u64
-    ensures { λ r. ⌜ r ≡ rightSum ring test s ⌝ }
+// Occurrences and leaves of the two sides of a decision, under the assumptions of the lines that are not in the set `out`: line l is bit l % 64 of
+// word l / 64, and past its end no line is left out.
+pub fn sizes_of(codes: &[u64], out: &[u64], d: Decision) -> Sizes
+    ensures { λ r. ⌜ r ≡ sizesOf (now (out .entry)) d (now (codes .entry)) ⌝ }
 {
-    if ring {
-        add(add(s.irreflexive, s.empty), 2)
-    } else {
-        add(add(s.right, s.empty), add(2, test))
-    }
-}
-
-// Occurrences and leaves of the two sides; `ring` says whether the claim is one of rings.
-pub fn sizes_of(codes: &[u64], ring: bool) -> Sizes
-    ensures { λ r. ⌜ r ≡ sizesOf ring (now (codes .entry)) ⌝ }
-{
-    let ones = [1u64; 16];
-    let mut lets = [0u64; 32];
-    let o = count(codes, 0, &ones, &mut lets);
-    let mut relations = [0u64; 16];
-    relation_leaves(codes, &mut relations);
-    let mut again = [0u64; 32];
-    let l = count(codes, 1, &relations, &mut again);
+    let o = count(codes, out, d, 0);
+    let l = count(codes, out, d, 1);
     Sizes {
-        ring,
+        ring: d.kind == codes::CLAIM_IRREFLEXIVE,
         left: Size {
             occurrences: o.left,
             leaves: l.left,
         },
         right: Size {
-            occurrences: right_side(ring, 0, o),
-            leaves: right_side(ring, 1, l),
+            occurrences: o.right,
+            leaves: l.right,
         },
-        own: l.irreflexive,
+        own: l.own,
     }
 }
 
@@ -204,7 +224,7 @@ fn right_limit(ring: bool) -> u64
     if ring { 31 } else { 64 }
 }
 
-// Whether a query with these sizes is within the limits; else refusal 8.
+// Whether a decision with these sizes is within the limits; else refusal 8.
 pub fn within_limits(s: Sizes) -> bool
     ensures { λ r. ⌜ r ≡ withinTest s ⌝ }
 {

@@ -6,3 +6,5 @@ pub mod BuildsLeaves
 pub mod BuildsJoined
 pub mod BuildsIterated
 pub mod BuiltAlone
+-- What a machine does that builds nothing.
+pub mod Unbuilt

@@ -1,5 +1,6 @@
 -- The functions.
 pub mod Narrowed
+pub mod ClosedSets
 -- What they give of a query.
 pub mod NarrowedSets
 pub mod RelationSets

@@ -10,7 +10,7 @@ use mathlib.Core.Bool.{Bool, true, false, cond, not, _&&_, _||_}
 use mathlib.Core.List.{List, [], _∷_}
 use lib.Bits.{bitAnd, bitOr, and-le-r, or-zero-r}
 use lib.Dec.{eqb, leb, ltb}
-use lib.ListN.{length, getD, set, drop, replicate, length-set, length-replicate, getD-replicate, drop-of-length-le}
+use lib.ListN.{length, getD, set, take, drop, replicate, length-set, length-replicate, getD-replicate, drop-of-length-le}
 use lib.Seq.{drop-cons}
 use borrow.Author.Tests.{eq-eqb, ne-eqb, lt-ltb, le-ltb, le-leb, lt-leb}
 use Rattle.kat.specs.Lists.{some}
@@ -24,22 +24,23 @@ use Rattle.words.specs.Memory.{words}
 use Rattle.side_atoms.proofs.Atoms.{bit-not, atoms-ext}
 use Rattle.words.proofs.Words.{words-ext, words-same}
 use Rattle.side_items.specs.Items.{Item, paired}
-use Rattle.side_relations.specs.Relations.{narrowed, limitsFrom, limitSets, closedIn, relationAt, relationSets, removedSet, liveSet}
+use Rattle.side_relations.specs.Relations.{narrowed, limitsFrom, limitSets, closedSet, closedIn, relationAt, relationSets, removedSet, liveSet}
+use Rattle.side_relations.proofs.ClosedSets.{closed-bit}
 
 -- codes and what they need, from a place on
-pub paired-more : (ks xs : List ℕ) (i : ℕ) → length xs ≡ length ks → i < length ks
+pub paired-more : (ks xs : List ℕ) (i : ℕ) → i < min (length ks) (length xs)
     → drop i (paired ks xs) ≡ record { code = getD ks i 0; arg = getD xs i 0 } ∷ drop (i + 1) (paired ks xs)
 unfolding paired
-paired-more ks xs i e h = go ks xs i e h ∙ ap (λ j. record { code = getD ks i 0; arg = getD xs i 0 } ∷ drop j (paired ks xs)) (sym (add-one i))
+paired-more ks xs i h = go ks xs i h ∙ ap (λ j. record { code = getD ks i 0; arg = getD xs i 0 } ∷ drop j (paired ks xs)) (sym (add-one i))
   where
-    go : (ks xs : List ℕ) (i : ℕ) → length xs ≡ length ks → i < length ks
+    go : (ks xs : List ℕ) (i : ℕ) → i < min (length ks) (length xs)
         → drop i (paired ks xs) ≡ record { code = getD ks i 0; arg = getD xs i 0 } ∷ drop (suc i) (paired ks xs)
-    go [] xs i e h = absurd (omega arith)
-    go (k ∷ ks) [] i e h = absurd (omega arith)
-    go (k ∷ ks) (x ∷ xs) zero e h = refl
-    go (k ∷ ks) (x ∷ xs) (suc i) e h = go ks xs i (omega arith) (omega arith)
+    go [] xs i h = absurd (omega arith)
+    go (k ∷ ks) [] i h = absurd (omega arith)
+    go (k ∷ ks) (x ∷ xs) zero h = refl
+    go (k ∷ ks) (x ∷ xs) (suc i) h = go ks xs i (omega arith)
 
-pub paired-end : (ks xs : List ℕ) (i : ℕ) → length ks ≤ i → drop i (paired ks xs) ≡ []
+pub paired-end : (ks xs : List ℕ) (i : ℕ) → min (length ks) (length xs) ≤ i → drop i (paired ks xs) ≡ []
 unfolding paired
 paired-end [] xs zero h = refl
 paired-end [] xs (suc i) h = refl
@@ -74,37 +75,43 @@ module _ (k x y : ℕ) (ws : List ℕ) where
       go false = refl
 
 -- the codes from a place on
-module _ (ks xs : List ℕ) (same : length xs ≡ length ks) where
-  pub limits-more : (i x y z w : ℕ) (ws vs : List ℕ) → i < length ks → vs ≡ narrowed (getD ks i 0) x y ws
+module _ (ks xs : List ℕ) where
+  pub limits-more : (i x y z w : ℕ) (ws vs : List ℕ) → i < min (length ks) (length xs) → vs ≡ narrowed (getD ks i 0) x y ws
       → z ≡ cond (eqb (getD ks i 0) 6) y x → w ≡ cond (eqb (getD ks i 0) 6) (getD xs i 0) y
       → limitsFrom z w (drop (i + 1) (paired ks xs)) vs ≡ limitsFrom x y (drop i (paired ks xs)) ws
   unfolding limitsFrom
-  limits-more i x y z w ws vs h a b c = sym (rw (paired-more ks xs i same h, a, b, c))
+  limits-more i x y z w ws vs h a b c = sym (rw (paired-more ks xs i h, a, b, c))
 
-  pub limits-end : (i x y : ℕ) (ws : List ℕ) → length ks ≤ i → limitsFrom x y (drop i (paired ks xs)) ws ≡ ws
+  pub limits-end : (i x y : ℕ) (ws : List ℕ) → min (length ks) (length xs) ≤ i → limitsFrom x y (drop i (paired ks xs)) ws ≡ ws
   unfolding limitsFrom
   limits-end i x y ws h = rw (paired-end ks xs i h)
 
-  pub removed-more : (i s d : ℕ) → i < length ks → d ≡ cond (eqb (getD ks i 0) 131) (getD xs i 0) 0
+  pub removed-more : (i s d : ℕ) → i < min (length ks) (length xs) → d ≡ cond (eqb (getD ks i 0) 131) (getD xs i 0) 0
       → bitOr (bitOr s d) (removedSet (drop (i + 1) (paired ks xs))) ≡ bitOr s (removedSet (drop i (paired ks xs)))
   unfolding removedSet
   removed-more i s d h a =
       or-assoc s d (removedSet (drop (i + 1) (paired ks xs)))
-      ∙ ap (bitOr s) (sym (ap removedSet (paired-more ks xs i same h) ∙ ap (λ e. bitOr e (removedSet (drop (i + 1) (paired ks xs)))) (sym a)))
+      ∙ ap (bitOr s) (sym (ap removedSet (paired-more ks xs i h) ∙ ap (λ e. bitOr e (removedSet (drop (i + 1) (paired ks xs)))) (sym a)))
 
-  pub removed-end : (i s : ℕ) → length ks ≤ i → bitOr s (removedSet (drop i (paired ks xs))) ≡ s
+  pub removed-end : (i s : ℕ) → min (length ks) (length xs) ≤ i → bitOr s (removedSet (drop i (paired ks xs))) ≡ s
   unfolding removedSet
   removed-end i s h = ap (λ l. bitOr s (removedSet l)) (paired-end ks xs i h) ∙ or-zero-r s
 
   -- a code is among them
-  pub closed-codes : (r : ℕ) → closedIn (paired ks xs) r ≡ some (λ k. eqb k (160 + r)) ks
+  pub closed-codes : (r : ℕ) → closedIn (paired ks xs) r ≡ some (λ k. eqb k (160 + r)) (take (min (length ks) (length xs)) ks)
   unfolding closedIn paired
-  closed-codes r = go ks xs same
+  closed-codes r = go ks xs
     where
-      go : (ks xs : List ℕ) → length xs ≡ length ks → some (λ (i : Item). eqb (i .code) (160 + r)) (paired ks xs) ≡ some (λ k. eqb k (160 + r)) ks
-      go [] xs e = refl
-      go (k ∷ ks) [] e = absurd (omega arith)
-      go (k ∷ ks) (x ∷ xs) e = ap (λ b. eqb k (160 + r) || b) (go ks xs (omega arith))
+      go : (ks xs : List ℕ)
+          → some (λ (i : Item). eqb (i .code) (160 + r)) (paired ks xs) ≡ some (λ k. eqb k (160 + r)) (take (min (length ks) (length xs)) ks)
+      go [] xs = sym (ap (λ n. some (λ k. eqb k (160 + r)) (take n [])) (none-of (length xs)))
+        where
+          none-of : (n : ℕ) → min 0 n ≡ 0
+          none-of n = omega arith
+      go (k ∷ ks) [] = let z : min (suc (length ks)) 0 ≡ 0 = omega arith in sym (ap (λ n. some (λ k. eqb k (160 + r)) (take n (k ∷ ks))) z)
+      go (k ∷ ks) (x ∷ xs) =
+          let z : min (suc (length ks)) (suc (length xs)) ≡ suc (min (length ks) (length xs)) = omega arith in
+          ap (λ b. eqb k (160 + r) || b) (go ks xs) ∙ sym (ap (λ n. some (λ k. eqb k (160 + r)) (take n (k ∷ ks))) z)
 
 -- a code among those from a place on
 module _ (ks : List ℕ) (k i : ℕ) where
@@ -138,13 +145,15 @@ same-tests : (f g : ℕ → Bool) (ws : List ℕ) (i : ℕ) → f (i - 32) ≡ g
 unfolding relationAt
 same-tests f g ws i e = ap (λ b. cond (ltb i 32) (getD ws i 0) (cond b (bitAnd (getD ws (i - 32) 0) (getD ws (i - 16) 0)) 0)) e
 
--- all of them
-pub relation-words : (ks xs ws : List ℕ) (n : ℕ) → n ≡ 48 → length xs ≡ length ks → ws ≡ limitsFrom 0 0 (paired ks xs) (replicate 32 allAtoms)
-    → words n (relationAt (λ k. some (λ c. eqb c (160 + k)) ks) ws) ≡ relationSets (paired ks xs)
+-- all of them, where the closed relations are those of the codes
+pub relation-words : (ks xs ws us : List ℕ) (closed n : ℕ) → us ≡ take (min (length ks) (length xs)) ks → closed ≡ closedSet 0 us → n ≡ 48
+    → ws ≡ limitsFrom 0 0 (paired ks xs) (replicate 32 allAtoms)
+    → words n (relationAt (λ k. bit k closed) ws) ≡ relationSets (paired ks xs)
 unfolding relationSets limitSets
-relation-words ks xs ws n z e h =
-    words-same n 48 (relationAt (λ k. some (λ c. eqb c (160 + k)) ks) ws) (relationAt (closedIn (paired ks xs)) (limitSets (paired ks xs))) z
-    (λ i l. same-tests (λ k. some (λ c. eqb c (160 + k)) ks) (closedIn (paired ks xs)) ws i (sym (closed-codes ks xs e (i - 32)))
+relation-words ks xs ws us closed n t c z h =
+    words-same n 48 (relationAt (λ k. bit k closed) ws) (relationAt (closedIn (paired ks xs)) (limitSets (paired ks xs))) z
+    (λ i l. same-tests (λ k. bit k closed) (closedIn (paired ks xs)) ws i
+    (ap (bit (i - 32)) c ∙ closed-bit us (i - 32) (omega arith) ∙ ap (some (λ k. eqb k (160 + (i - 32)))) t ∙ sym (closed-codes ks xs (i - 32)))
     ∙ ap (λ v. relationAt (closedIn (paired ks xs)) v i) (h ∙ ap (limitsFrom 0 0 (paired ks xs)) start))
   where
     start : replicate 32 allAtoms ≡ words 32 (λ i. allAtoms)

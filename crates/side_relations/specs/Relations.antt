@@ -10,6 +10,7 @@ use lib.Dec.{eqb, leb, ltb}
 use lib.ListN.{getD, set}
 use Rattle.kat.specs.Lists.{some}
 use Rattle.claims.specs.Query.{bit}
+use Rattle.bits.specs.Sets.{including}
 use Rattle.codes.specs.Codes.{TESTED, NEVER-LINE, WITHIN-LINE, CLOSED-LINE, RELATION-SETS}
 use Rattle.side_atoms.specs.Atoms.{atomsOf, allAtoms}
 use Rattle.words.specs.Memory.{words}
@@ -31,6 +32,15 @@ limitsFrom x y (i ∷ is) ws =
 -- 32 sets: at r where relation r may start, at 16 + r where it may stop
 unfoldable pub limitSets : List Item → List ℕ
 limitSets is = limitsFrom 0 0 is (words 32 (λ i. allAtoms))
+
+-- the set s, and the relation whose `closed` line ends with code k ("The query")
+unfoldable pub closedWith : ℕ → ℕ → ℕ
+closedWith s k = cond (ltb k CLOSED-LINE) s (including 64 s (k - CLOSED-LINE))
+
+-- the set s, and the relations that the lines with these codes close ("The query")
+unfoldable pub closedSet : ℕ → List ℕ → ℕ
+closedSet s [] = s
+closedSet s (k ∷ ks) = closedSet (closedWith s k) ks
 
 -- relation r is closed
 unfoldable pub closedIn : List Item → ℕ → Bool

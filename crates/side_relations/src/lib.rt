@@ -1,18 +1,16 @@
-// What the lines of a query say of its relations and atoms, from its codes and what they need: where the step of each relation may start,
+// What the lines of a query say of its relations and atoms, from its codes and what they need, as many as there are of both: where the step of each relation may start,
 // stop and follow itself, which atoms are removed, and which are left. (Document 01, "The query" and "Words".)
+use words::least;
 ghost use Prim.Native.Nat.{_+_, _≤_, _^_, min};
 ghost use mathlib.Core.Path.{_≡_};
 ghost use mathlib.Core.Bool.{cond};
 ghost use lib.Dec.{eqb};
 ghost use lib.ListN.{length};
-ghost use Rattle.codes.specs.Codes.{CLOSED-LINE};
+ghost use Rattle.claims.specs.Query.{bit};
 ghost use Rattle.kat.specs.Lists.{some};
 ghost use Rattle.words.specs.Memory.{words};
 ghost use Rattle.side_items.specs.Items.{paired};
-ghost use Rattle.side_relations.specs.Relations.{narrowed, limitsFrom, relationAt, relationSets, removedSet, liveSet};
-
-// The line `closed` of the relation whose set stands at place i of the sets is `CLOSED + i`.
-const CLOSED: u64 = codes::CLOSED_LINE - 32;
+ghost use Rattle.side_relations.specs.Relations.{narrowed, limitsFrom, closedWith, closedSet, relationAt, relationSets, removedSet, liveSet};
 
 // How many atoms the tests make, and no more than 64.
 pub fn atom_count(tests: u64) -> usize
@@ -54,13 +52,14 @@ fn behind(code: u64, k: u64, a: u64, b: u64) -> u64
 
 // All codes, one after another; x and y are the sets of the last two bracketed tests.
 fn narrow_all(codes: &[u64], args: &[u64], limits: &mut [u64])
-    requires { ⌜ (length (now args) ≡ length (now codes)) × (length (now limits) ≡ 32) ⌝ }
+    requires { ⌜ length (now limits) ≡ 32 ⌝ }
     ensures { λ r. ⌜ now (limits .exit) ≡ limitsFrom 0 0 (paired (now (codes .entry)) (now (args .entry))) (now (limits .entry)) ⌝ }
 {
+    let n = least(codes.len(), args.len());
     let mut x: u64 = 0;
     let mut y: u64 = 0;
     let mut i = 0;
-    while i < codes.len() {
+    while i < n {
         narrow(limits, codes[i], x, y);
         x = behind(codes[i], codes::TESTED, y, x);
         y = behind(codes[i], codes::TESTED, args[i], y);
@@ -82,52 +81,74 @@ pub fn among(codes: &[u64], k: u64) -> bool
     false
 }
 
-// What stands at place i of the sets of the relations.
-fn relation_at(codes: &[u64], limits: &[u64], i: usize) -> u64
+// The set s, and the relation whose `closed` line ends with the code.
+fn closed_with(s: u64, code: u64) -> u64
+    ensures { λ r. ⌜ r ≡ closedWith s code ⌝ }
+{
+    if code < codes::CLOSED_LINE {
+        return s;
+    }
+    bits::with(s, (code - codes::CLOSED_LINE) as usize)
+}
+
+// The relations that the lines with these codes close.
+pub fn closed_set(codes: &[u64]) -> u64
+    ensures { λ r. ⌜ r ≡ closedSet 0 (now (codes .entry)) ⌝ }
+{
+    let mut s: u64 = 0;
+    let mut i = 0;
+    while i < codes.len() {
+        s = closed_with(s, codes[i]);
+        i += 1;
+    }
+    s
+}
+
+// What stands at place i of the sets of the relations, where `closed` has the closed ones.
+fn relation_at(closed: u64, limits: &[u64], i: usize) -> u64
     requires { ⌜ (i ≤ 47) × (length (now limits) ≡ 32) ⌝ }
-    ensures { λ r. ⌜ r ≡ relationAt (λ k. some (λ c. eqb c (CLOSED-LINE + k)) (now (codes .entry))) (now (limits .entry)) i ⌝ }
+    ensures { λ r. ⌜ r ≡ relationAt (λ k. bit k closed) (now (limits .entry)) i ⌝ }
 {
     if i < 32 {
         return limits[i];
     }
-    let closed = among(codes, CLOSED + (i as u64));
-    if closed {
+    if bits::member(closed, i - 32) {
         return limits[i - 32] & limits[i - 16];
     }
     0
 }
 
 // The sets of the relations, one after another.
-fn relation_words(codes: &[u64], limits: &[u64], rels: &mut [u64])
+fn relation_words(closed: u64, limits: &[u64], rels: &mut [u64])
     requires { ⌜ (length (now limits) ≡ 32) × (length (now rels) ≤ 48) ⌝ }
-    ensures { λ r. ⌜ now (rels .exit) ≡ words (length (now (rels .entry)))
-        (relationAt (λ k. some (λ c. eqb c (CLOSED-LINE + k)) (now (codes .entry))) (now (limits .entry))) ⌝ }
+    ensures { λ r. ⌜ now (rels .exit) ≡ words (length (now (rels .entry))) (relationAt (λ k. bit k closed) (now (limits .entry))) ⌝ }
 {
     let mut i = 0;
     while i < rels.len() {
-        rels[i] = relation_at(codes, limits, i);
+        rels[i] = relation_at(closed, limits, i);
         i += 1;
     }
 }
 
 // The sets of the relations: at r where the step of relation r may start, at 16 + r where it may stop, at 32 + r where it may follow itself.
 pub fn relation_sets(codes: &[u64], args: &[u64], rels: &mut [u64; codes::RELATION_SETS])
-    requires { ⌜ length (now args) ≡ length (now codes) ⌝ }
     ensures { λ r. ⌜ now (rels .exit) ≡ relationSets (paired (now (codes .entry)) (now (args .entry))) ⌝ }
 {
     let mut limits = [bits::ALL; 32];
     narrow_all(codes, args, &mut limits);
-    relation_words(codes, &limits, rels);
+    let n = least(codes.len(), args.len());
+    let closed = closed_set(&codes[..n]);
+    relation_words(closed, &limits, rels);
 }
 
 // The atoms that the `never` lines remove.
 pub fn removed_set(codes: &[u64], args: &[u64]) -> u64
-    requires { ⌜ length (now args) ≡ length (now codes) ⌝ }
     ensures { λ r. ⌜ r ≡ removedSet (paired (now (codes .entry)) (now (args .entry))) ⌝ }
 {
+    let n = least(codes.len(), args.len());
     let mut s: u64 = 0;
     let mut i = 0;
-    while i < codes.len() {
+    while i < n {
         s = s | behind(codes[i], codes::NEVER_LINE, args[i], 0);
         i += 1;
     }

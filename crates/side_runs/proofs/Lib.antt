@@ -7,3 +7,5 @@ pub mod Executed
 -- Items run in memory.
 pub mod Running
 pub mod RunningAll
+-- What a machine does that builds nothing.
+pub mod Unbuilt

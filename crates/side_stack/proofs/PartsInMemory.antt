@@ -128,10 +128,10 @@ used-stored ws n long = (
       ∙ parts-same ws (set ws 0 n) (min (getD ws 1 0) 544) (λ j a b. getD-set-other ws 0 j n 0 (λ e. omega arith)),
 )
 
--- none of either
-pub emptied : (ws : List ℕ) → length ws ≡ 1090 → (usedIn (set (set ws 0 0) 1 0) ≡ 0) × (stackIn (set (set ws 0 0) 1 0) ≡ [])
+-- so many occurrences, and no part
+pub restarted : (ws : List ℕ) (n : ℕ) → length ws ≡ 1090 → (usedIn (set (set ws 0 n) 1 0) ≡ min n 64) × (stackIn (set (set ws 0 n) 1 0) ≡ [])
 unfolding usedIn stackIn heightIn partsIn
-emptied ws long = (
-  ap (λ v. min v 64) (getD-set-other (set ws 0 0) 1 0 0 0 (λ e. omega arith) ∙ getD-set-same ws 0 0 0 (omega arith)),
-  ap (λ h. partsIn (set (set ws 0 0) 1 0) (min h 544)) (getD-set-same (set ws 0 0) 1 0 0 (omega (arith, length-set ws 0 0))),
+restarted ws n long = (
+  ap (λ v. min v 64) (getD-set-other (set ws 0 n) 1 0 0 0 (λ e. omega arith) ∙ getD-set-same ws 0 n 0 (omega arith)),
+  ap (λ h. partsIn (set (set ws 0 n) 1 0) (min h 544)) (getD-set-same (set ws 0 n) 1 0 0 (omega (arith, length-set ws 0 n))),
 )

@@ -30,7 +30,7 @@ pub fn used(parts: &[u64; STACK]) -> usize
 }
 
 // How many parts wait.
-pub fn height(parts: &[u64; STACK]) -> usize
+fn height(parts: &[u64; STACK]) -> usize
     ensures { λ r. ⌜ r ≡ heightIn (now (parts .entry)) ⌝ }
 {
     least(word(parts, 1) as usize, MOST_PARTS)
@@ -132,10 +132,24 @@ pub fn one_more(parts: &mut [u64; STACK])
     words::store(parts, 0, (n + 1) as u64);
 }
 
+// No part waits, and there are n occurrences, up to 64.
+fn restart(parts: &mut [u64; STACK], n: u64)
+    ensures { λ r. ⌜ (usedIn (now (parts .exit)) ≡ min n 64) × (stackIn (now (parts .exit)) ≡ []) ⌝ }
+{
+    words::store(parts, 0, n);
+    words::store(parts, 1, 0);
+}
+
 // No part waits, and there is no occurrence.
 pub fn empty(parts: &mut [u64; STACK])
     ensures { λ r. ⌜ (usedIn (now (parts .exit)) ≡ 0) × (stackIn (now (parts .exit)) ≡ []) ⌝ }
 {
-    words::store(parts, 0, 0);
-    words::store(parts, 1, 0);
+    restart(parts, 0);
+}
+
+// No part waits, and there are as many occurrences as there can be: what is built now adds none.
+pub fn full(parts: &mut [u64; STACK])
+    ensures { λ r. ⌜ (usedIn (now (parts .exit)) ≡ 64) × (stackIn (now (parts .exit)) ≡ []) ⌝ }
+{
+    restart(parts, 64);
 }

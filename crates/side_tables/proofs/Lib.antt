@@ -3,6 +3,7 @@ pub mod Walks
 pub mod EachNumber
 pub mod Changes
 pub mod Marks
+pub mod ClearTables
 -- The bits of a range.
 pub mod RangeSets
 -- The table of a side shows its expression: while it is built, and in the end.

@@ -7,8 +7,8 @@ use Rattle.claims.specs.Calls.{Passed, passedProved, passedRefuted}
 use Rattle.refusals.specs.declared.Reason.the-variants.{DoesNotPass}
 use Rattle.search_outcomes.specs.declared.Outcome.{Outcome}
 use Rattle.search_outcomes.specs.declared.Outcome.the-variants.{Proved, Refuted, Refused}
-use Rattle.sheet.specs.declared.Checked.{Checked}
-use Rattle.sheet.specs.declared.Checked.the-variants.{Proved as PassesProved, Refuted as PassesRefuted, Refused as Fails}
+use Rattle.sheet_checked.specs.declared.Checked.{Checked}
+use Rattle.sheet_checked.specs.declared.Checked.the-variants.{Proved as PassesProved, Refuted as PassesRefuted, Refused as Fails}
 
 -- proved, where the check says proved; else refused ("Sheet and graph bytes")
 abbrev pub keptProved : ℕ → Checked → Outcome

@@ -26,7 +26,7 @@ slice-aggregate-find-args-2 : tie.Need-slice-aggregate-find-args-2
 slice-aggregate-find-args-2 c = simp length-take (omega arith)
 
 find-args-requires : tie.Need-find-args-requires
-find-args-requires c κs = (simp length-take (omega arith), simp length-take (omega arith), refl)
+find-args-requires c κs = (simp length-take (omega arith), simp length-take (omega arith))
 
 slice-aggregate-judge : tie.Need-slice-aggregate-judge
 slice-aggregate-judge c = simp length-take (omega arith)
@@ -48,7 +48,7 @@ returns : tie.Need-returns
 returns c =
     let t = c .before .before .before .before in
     let k = simp length-take at (t .find-args .kept .1) in
-    let s = t .before .before .before .before in
+    let s = t .before .before .before in
     let a = s .before .before .before .args in
     items-read (a .listed .now) (a .codes .now) _ _ (a .n) _ _ _ (t .find-args .ensures) (omega arith) (s .least2 .ensures) (c .judge .ensures)
     ∙ ap (λ i. performedAll (a .listed .now) (beginning (a .n)) (itemsOf (take i (a .codes .now))) .state) (s .before .least .ensures)

@@ -1,17 +1,12 @@
--- `query::sizes` meets its contract: as many codes as there are count.
+-- `query::sizes` meets its contract: as many codes as there are count, and no line is left out.
 -- Assumes nothing.
-use Rattle.side_build.proofs.Assembled.{first-codes}
-use Rattle.side_limits.specs.Sizes.{sizesOf}
-use lib.Seq.{length-take-le}
 use native.Mathlib.Omega.{arith}
-use mathlib.Core.Path.{sym, _∙_, ap}
+use mathlib.Core.Path.{sym}
+use lib.Seq.{length-take-le}
 use borrow.Author.Needs.{needs}
+use Rattle.query.proofs.Limits.{sizes-told}
 use Rattle.query.proofs.sizes.Statement.{statement}
 use Rattle.query.proofs.sizes.Tie as tie
-use Rattle.query.proofs.sizes.Reads as reads
-use Rattle.query.proofs.sizes.Lts as lts
-use Rattle.side_limits.proofs.sizes_of.Reads as sizes-of-reads
-use Rattle.words.proofs.least.Reads as least-reads
 
 least-requires : tie.Need-least-requires
 least-requires c κs = search needs
@@ -19,11 +14,28 @@ least-requires c κs = search needs
 slice-aggregate-part : tie.Need-slice-aggregate-part
 slice-aggregate-part c = sym (length-take-le _ _ (omega (arith, c .before .least .ensures)))
 
+claimed-in-requires : tie.Need-claimed-in-requires
+claimed-in-requires c κs = search needs
+
+slice-aggregate-sizes-of : tie.Need-slice-aggregate-sizes-of
+slice-aggregate-sizes-of c = search needs
+
 sizes-of-requires : tie.Need-sizes-of-requires
 sizes-of-requires c κs = search needs
 
 returns : tie.Need-returns
-returns c = c .sizes-of .ensures ∙ ap (sizesOf (c .before .before .before .before .args .ring)) (first-codes (c .before .before .before .before .args .n) _ (c .before .before .before .before .args .codes .now) (c .before .before .least .ensures))
+returns c =
+    let a = c .before .before .before .before .before .before .args in
+    sizes-told (a .n) (c .before .before .before .before .least .result) (a .codes .now) (c .before .before .claimed-in .result) (c .sizes-of .result) (c .before .before .before .before .least .ensures) (c .before .before .claimed-in .ensures)
+    (c .sizes-of .ensures)
 
 pub sizes-spec : {M : Type 1} → statement M
-sizes-spec = tie.close (tie.spec least-requires slice-aggregate-part sizes-of-requires returns)
+sizes-spec =
+    tie.close
+    (tie.spec
+    least-requires
+    slice-aggregate-part
+    claimed-in-requires
+    slice-aggregate-sizes-of
+    sizes-of-requires
+    returns)

@@ -2,11 +2,13 @@
 -- Assumes nothing.
 use Prim.Native.Nat.{ℕ, _^_, min}
 use mathlib.Core.Bool.{Bool}
-use mathlib.Core.List.{List}
+use mathlib.Core.List.{List, []}
 use lib.Dec.{eqb}
 use lib.ListN.{take}
 use Rattle.codes.specs.Codes.{CLAIM-IRREFLEXIVE}
+use Rattle.side_claim.specs.Sides.{claimed}
 use Rattle.side_limits.specs.Sizes.{sizesOf, withinTest}
+use Rattle.side_limits.specs.declared.Sizes.{Sizes}
 use Rattle.side_build.specs.declared.Built.{Built}
 use Rattle.read_text.specs.declared.Summary.{Summary}
 use Rattle.query.specs.declared.Facts.{Facts}
@@ -28,6 +30,10 @@ factsBy s b =
       relations = s .relations;
     }
 
+-- what the claim of a query counts, of which no line is left out
+abbrev pub claimSizes : List ℕ → Sizes
+claimSizes ks = sizesOf [] (claimed ks) ks
+
 -- what the test of the limits says of the codes of the query, the first of the array
 abbrev pub inLimits : Summary → List ℕ → Bool
-inLimits s out = withinTest (sizesOf (isRing s) (take (s .codes) out))
+inLimits s out = withinTest (claimSizes (take (s .codes) out))

@@ -8,10 +8,16 @@ use Rattle.read_bodies.proofs.bracketed.Statement.{statement}
 use Rattle.read_bodies.proofs.bracketed.Tie as tie
 
 mark-next-requires : tie.Need-mark-next-requires
-mark-next-requires c κs = search needs
+mark-next-requires c κs = tt
+
+wrong-requires : tie.Need-wrong-requires
+wrong-requires c κs = tt
 
 returns : tie.Need-returns
-returns c = (tt, λ q k. bracket-missing _ (mark-missing _ _ _ _ (c .before .mark-next .ensures) (c .if1 .taken)))
+returns c =
+    let w = c .wrong .ensures in
+    let b = c .before .before in
+    rw (w .0) (w .1, λ q k. bracket-missing _ (mark-missing _ _ _ _ (b .before .mark-next .ensures) (b .if1 .taken)))
 
 condition-then-requires : tie.Need-condition-then-requires
 condition-then-requires c κs =
@@ -27,12 +33,18 @@ returns-2 c =
     bracket-failed _ _ _ _ _ (mark-stands _ _ _ _ (c .before .before .before .before .mark-next .ensures) (c .before .before .before .if1 .left)) _ _ (r .result) (r .ensures) (failed (r .result) (c .match .keys2))
 
 mark-next-requires-2 : tie.Need-mark-next-requires-2
-mark-next-requires-2 c κs = search needs
+mark-next-requires-2 c κs = tt
+
+wrong-requires-2 : tie.Need-wrong-requires-2
+wrong-requires-2 c κs = tt
 
 returns-3 : tie.Need-returns-3
 returns-3 c =
-    let r = c .before .before .before .before .before .condition-then in
-    bracket-unclosed _ _ _ _ _ (mark-stands _ _ _ _ (c .before .before .before .before .before .before .before .before .mark-next .ensures) (c .before .before .before .before .before .before .before .if1 .left)) _ _ (r .result) _ (c .before .before .before .r .given .1) (r .ensures) (mark-missing _ _ _ _ (c .before .mark-next2 .ensures) (c .if2 .taken))
+    let w = c .wrong2 .ensures in
+    let b = c .before .before in
+    let r = b .before .before .before .before .before .condition-then in
+    rw (w .0)
+    (bracket-unclosed _ _ _ _ _ (mark-stands _ _ _ _ (b .before .before .before .before .before .before .before .before .mark-next .ensures) (b .before .before .before .before .before .before .before .if1 .left)) _ _ (r .result) _ (b .before .before .before .r .given .1) (r .ensures) (mark-missing _ _ _ _ (b .before .mark-next2 .ensures) (b .if2 .taken)) _ (w .1))
 
 returns-4 : tie.Need-returns-4
 returns-4 c =
@@ -44,10 +56,12 @@ bracketed-spec =
     tie.close
     (tie.spec
     mark-next-requires
+    wrong-requires
     returns
     condition-then-requires
     enum-known-r
     returns-2
     mark-next-requires-2
+    wrong-requires-2
     returns-3
     returns-4)

@@ -7,15 +7,14 @@ use mathlib.Core.Bool.{true}
 use Rattle.claims.specs.Tree.{empty, irreflexive, claimLine}
 use Rattle.claims.specs.Lines.{choose, includeReader, claims}
 use native.Mathlib.Omega.{arith}
-use borrow.Author.Needs.{needs}
 use Rattle.read_bodies.proofs.claim_body.Statement.{statement}
 use Rattle.read_bodies.proofs.claim_body.Tie as tie
 
 word-key-requires : tie.Need-word-key-requires
-word-key-requires c κs = search needs
+word-key-requires c κs = tt
 
 word-next-requires : tie.Need-word-next-requires
-word-next-requires c κs = search needs
+word-next-requires c κs = tt
 
 two-sides-requires : tie.Need-two-sides-requires
 two-sides-requires c κs =
@@ -28,7 +27,7 @@ returns c =
     body-via (choose claims) includeReader (Bare true) _ _ _ (c .before .before .before .before .before .before .before .args .at) _ (c .before .before .before .before .before .before .before .args .used) _ _ (claim-include _ _ _ w) (omega (arith, w .after)) (c .two-sides .result) (c .two-sides .ensures)
 
 one-side-requires : tie.Need-one-side-requires
-one-side-requires c κs = search needs
+one-side-requires c κs = omega arith
 
 returns-2 : tie.Need-returns-2
 returns-2 c =

@@ -9,22 +9,34 @@ use Rattle.read_bodies.proofs.let_body.Statement.{statement}
 use Rattle.read_bodies.proofs.let_body.Tie as tie
 
 token-at-requires : tie.Need-token-at-requires
-token-at-requires c κs = search needs
+token-at-requires c κs = tt
 
 enum-known-t : tie.Need-enum-known-t
 enum-known-t c = search needs
 
+wrong-requires : tie.Need-wrong-requires
+wrong-requires c κs = tt
+
 returns : tie.Need-returns
-returns c = (tt, λ q m. let-none _ (declared-missing _ _ _ (c .before .token-at .ensures) (no-word (c .before .token-at .result) (c .match .keys2))))
+returns c =
+    let w = c .wrong .ensures in
+    let b = c .before .before in
+    rw (w .0) (w .1, λ q m. let-none _ (declared-missing _ _ _ (b .before .token-at .ensures) (no-word (b .before .token-at .result) (b .match .keys2))))
 
 mark-next-requires : tie.Need-mark-next-requires
-mark-next-requires c κs = search needs
+mark-next-requires c κs = tt
+
+wrong-requires-2 : tie.Need-wrong-requires-2
+wrong-requires-2 c κs = tt
 
 returns-2 : tie.Need-returns-2
-returns-2 c = (tt, λ q m. let-unequal _ _ _ _ (token-found _ _ _ _ (c .before .before .before .before .before .token-at .ensures) (c .before .before .before .t .given .1)) (mark-missing _ _ _ _ (c .before .mark-next .ensures) (c .if1 .taken)))
+returns-2 c =
+    let w = c .wrong2 .ensures in
+    let b = c .before .before in
+    rw (w .0) (w .1, λ q m. let-unequal _ _ _ _ (token-found _ _ _ _ (b .before .before .before .before .before .token-at .ensures) (b .before .before .before .t .given .1)) (mark-missing _ _ _ _ (b .before .mark-next .ensures) (b .if1 .taken)))
 
 declaration-slip-requires : tie.Need-declaration-slip-requires
-declaration-slip-requires c κs = search needs
+declaration-slip-requires c κs = tt
 
 expression-then-requires : tie.Need-expression-then-requires
 expression-then-requires c κs =
@@ -44,8 +56,10 @@ let-body-spec =
     (tie.spec
     token-at-requires
     enum-known-t
+    wrong-requires
     returns
     mark-next-requires
+    wrong-requires-2
     returns-2
     declaration-slip-requires
     expression-then-requires

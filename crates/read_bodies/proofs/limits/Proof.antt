@@ -8,7 +8,7 @@ use Rattle.read_bodies.proofs.limits.Statement.{statement}
 use Rattle.read_bodies.proofs.limits.Tie as tie
 
 bracketed-requires : tie.Need-bracketed-requires
-bracketed-requires c κs = search needs
+bracketed-requires c κs = omega arith
 
 enum-known-t : tie.Need-enum-known-t
 enum-known-t c = search needs
@@ -19,14 +19,14 @@ returns c =
     limits-failed _ _ _ _ _ _ (t .result) (t .ensures) (failed (t .result) (c .match .keys2)) _
 
 bracketed-requires-2 : tie.Need-bracketed-requires-2
-bracketed-requires-2 c κs = omega (arith, behind-of _ _ _ _ _ _ (c .before .before .t .given .1) (c .before .before .before .before .bracketed .ensures .0) .room, c .before .before .before .before .before .before .before .before .pre)
+bracketed-requires-2 c κs = omega (arith, behind-of _ _ _ _ _ _ _ (c .before .before .t .given .1) (c .before .before .before .before .bracketed .ensures .0) .room, c .before .before .before .before .before .before .before .before .pre)
 
 code-behind-requires : tie.Need-code-behind-requires
 code-behind-requires c κs =
     let t = c .before .before .before .before .before .before .bracketed in
     let u = c .before .bracketed2 in
     let a = c .before .before .before .before .before .before .before .before .before .before .args in
-    code-fits (a .s .now) (a .p .at) (a .p .used) (u .result) (limits-read _ _ _ _ _ _ (t .result) _ (c .before .before .before .before .t .given .1) (t .ensures) _ (u .result) (u .ensures) .0) (c .before .before .before .before .before .before .before .before .before .before .pre)
+    code-fits (a .s .now) (a .p .at) (a .p .used) _ (u .result) (limits-read _ _ _ _ _ _ (t .result) _ (c .before .before .before .before .t .given .1) (t .ensures) _ (u .result) (u .ensures) .0) (c .before .before .before .before .before .before .before .before .before .before .pre)
 
 returns-2 : tie.Need-returns-2
 returns-2 c =

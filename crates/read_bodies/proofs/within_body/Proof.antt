@@ -9,31 +9,43 @@ use Rattle.read_bodies.proofs.within_body.Statement.{statement}
 use Rattle.read_bodies.proofs.within_body.Tie as tie
 
 token-at-requires : tie.Need-token-at-requires
-token-at-requires c κs = search needs
+token-at-requires c κs = tt
 
 enum-known-t : tie.Need-enum-known-t
 enum-known-t c = search needs
 
+wrong-requires : tie.Need-wrong-requires
+wrong-requires c κs = tt
+
 returns : tie.Need-returns
-returns c = (tt, λ q m. within-none _ (name-missing _ _ _ (c .before .token-at .ensures) (no-word (c .before .token-at .result) (c .match .keys2)) (λ n. n)))
+returns c =
+    let w = c .wrong .ensures in
+    let b = c .before .before in
+    rw (w .0) (w .1, λ q m. within-none _ (name-missing _ _ _ (b .before .token-at .ensures) (no-word (b .before .token-at .result) (b .match .keys2)) (λ n. n)))
 
 reserved-requires : tie.Need-reserved-requires
-reserved-requires c κs = search needs
+reserved-requires c κs = tt
+
+wrong-requires-2 : tie.Need-wrong-requires-2
+wrong-requires-2 c κs = tt
 
 returns-2 : tie.Need-returns-2
-returns-2 c = within-reserved _ _ _ _ 0 _ _ (token-found _ _ _ _ (c .before .before .before .before .before .token-at .ensures) (c .before .before .before .t .given .1)) _ (c .before .reserved .ensures) (c .if1 .taken) [] []
+returns-2 c =
+    let w = c .wrong2 .ensures in
+    let b = c .before .before in
+    rw (w .0) (w .1, λ q m. within-reserved _ [] 0 _ 0 _ _ (token-found _ _ _ _ (b .before .before .before .before .before .token-at .ensures) (b .before .before .before .t .given .1)) _ (b .before .reserved .ensures) (b .if1 .taken))
 
 find-requires : tie.Need-find-requires
-find-requires c κs = search needs
+find-requires c κs = tt
 
 slip-of-requires : tie.Need-slip-of-requires
-slip-of-requires c κs = search needs
+slip-of-requires c κs = tt
 
 relation-number-requires : tie.Need-relation-number-requires
-relation-number-requires c κs = search needs
+relation-number-requires c κs = tt
 
 add-limits : tie.Need-add-limits
-add-limits c = search needs
+add-limits c = omega arith
 
 limits-requires : tie.Need-limits-requires
 limits-requires c κs =
@@ -51,8 +63,10 @@ within-body-spec =
     (tie.spec
     token-at-requires
     enum-known-t
+    wrong-requires
     returns
     reserved-requires
+    wrong-requires-2
     returns-2
     find-requires
     slip-of-requires

@@ -6,7 +6,7 @@ use Prim.Native.Nat.{ℕ, _+_, _-_, _*_, _<_}
 use native.Mathlib.Omega.{arith}
 use lib.ListN.{length}
 use Rattle.read_next.proofs.Next.{mark-stands}
-use Rattle.read_tests.proofs.Loops.{loop-fault, loop-room, loop-onward, loop-got, loop-turn}
+use Rattle.read_tests.proofs.Loops.{loop-fault, loop-onward, loop-got, loop-turn}
 use Rattle.read_tests.proofs.Chains.{Waiting, chain-start}
 use Rattle.read_tests.proofs.Bracketed.{inner-fault, inner-open, inner-closed}
 use Rattle.read_tests.proofs.Rounds.{roundBracket, round-deep}
@@ -31,6 +31,8 @@ use Rattle.read_exprs.proofs.leaf.Reads as leaf-reads
 use Rattle.read_exprs.proofs.postfixes.Reads as postfixes-reads
 use Rattle.read_next.proofs.mark_next.Reads as mark-next-reads
 use Rattle.read_next.proofs.write.Reads as write-reads
+use Rattle.read_tests.proofs.deep.Reads as deep-reads
+use Rattle.read_tests.proofs.wrong.Reads as wrong-reads
 use Rattle.read_exprs.proofs.+factor+postfix+sequence+union.{statement}
 use Rattle.read_exprs.proofs.+factor+postfix+sequence+union.Tie.{close}
 
@@ -73,7 +75,18 @@ union-below t = and 3 union-kinds.ps (falls 3 union-kinds.ps _<_ μ-union t) uni
 
 -- what `factor` knows of the functions that it calls
 abbrev factor-calls : ℕ → factor-lts.Claims
-factor-calls t = (mark-next-reads.Asked, mark-next-reads.Learnt, leaf-reads.Asked, leaf-reads.Learnt, union-below t, union.Post)
+factor-calls t = (
+  mark-next-reads.Asked,
+  mark-next-reads.Learnt,
+  leaf-reads.Asked,
+  leaf-reads.Learnt,
+  deep-reads.Asked,
+  deep-reads.Learnt,
+  union-below t,
+  union.Post,
+  wrong-reads.Asked,
+  wrong-reads.Learnt,
+)
 
 -- what `postfix` knows of the functions that it calls
 abbrev postfix-calls : ℕ → postfix-lts.Claims
@@ -88,7 +101,7 @@ abbrev union-calls : ℕ → union-lts.Claims
 union-calls t = (sequence-below t, sequence.Post, write-reads.Asked, write-reads.Learnt, mark-next-reads.Asked, mark-next-reads.Learnt)
 
 factor-mark-next-requires : (t : ℕ) → factor-lts.Need-mark-next-requires (factor-calls t) (factor-at t) factor.Post
-factor-mark-next-requires t c κs = search needs
+factor-mark-next-requires t c κs = tt
 
 factor-leaf-requires : (t : ℕ) → factor-lts.Need-leaf-requires (factor-calls t) (factor-at t) factor.Post
 factor-leaf-requires t c κs =
@@ -98,11 +111,16 @@ factor-leaf-requires t c κs =
 factor-returns : (t : ℕ) → factor-lts.Need-returns (factor-calls t) (factor-at t) factor.Post
 factor-returns t c = c .leaf .ensures
 
+factor-deep-requires : (t : ℕ) → factor-lts.Need-deep-requires (factor-calls t) (factor-at t) factor.Post
+factor-deep-requires t c κs = tt
+
 factor-returns-2 : (t : ℕ) → factor-lts.Need-returns-2 (factor-calls t) (factor-at t) factor.Post
 factor-returns-2 t c =
-    let b = c .before .before in
+    let w = c .deep .ensures in
+    let d = c .before .before in
+    let b = d .before .before in
     let a = b .before .before .before .args in
-    round-deep factors (a .depth) (a .s .now) (a .p) _ (b .mark-next .ensures) (c .before .if1 .left) (c .if2 .taken)
+    rw (w .0) (round-deep factors (a .depth) (a .s .now) (a .p) _ (b .mark-next .ensures) (d .before .if1 .left) (d .if2 .taken), w .1)
 
 factor-add-union : (t : ℕ) → factor-lts.Need-add-union (factor-calls t) (factor-at t) factor.Post
 factor-add-union t c =
@@ -131,17 +149,25 @@ factor-returns-3 t c =
     (b .before .before .mark-next .ensures) (b .before .if1 .left) (c .before .union .result) _ (c .before .union .ensures) (c .match .keys2)
 
 factor-mark-next-requires-2 : (t : ℕ) → factor-lts.Need-mark-next-requires-2 (factor-calls t) (factor-at t) factor.Post
-factor-mark-next-requires-2 t c κs = search needs
+factor-mark-next-requires-2 t c κs = tt
+
+factor-wrong-requires : (t : ℕ) → factor-lts.Need-wrong-requires (factor-calls t) (factor-at t) factor.Post
+factor-wrong-requires t c κs = tt
 
 factor-returns-4 : (t : ℕ) → factor-lts.Need-returns-4 (factor-calls t) (factor-at t) factor.Post
 factor-returns-4 t c =
-    let b = c .before .before .before .before in
+    let w = c .wrong .ensures in
+    let f = c .before .before in
+    let b = f .before .before .before .before in
     let d = b .before .before .before .before in
     let e = d .before .before .before .before in
     let a = e .args in
-    inner-open (roundBracket factors (a .depth) (b .before .before .before .if2 .left)) (a .s .now) (a .names .now) (a .n) (a .p) (a .out .now) _
-    (d .before .mark-next .ensures) (d .if1 .left) _ _ (b .before .union .ensures) _ (c .before .before .before .r .given .1) _
-    (c .before .mark-next2 .ensures) (c .if3 .taken)
+    rw (w .0) (
+      inner-open (roundBracket factors (a .depth) (b .before .before .before .if2 .left)) (a .s .now) (a .names .now) (a .n) (a .p) (a .out .now) _
+          (d .before .mark-next .ensures) (d .if1 .left) _ _ (b .before .union .ensures) _ (f .before .before .before .r .given .1) _
+          (f .before .mark-next2 .ensures) (f .if3 .taken),
+      w .1,
+    )
 
 factor-returns-5 : (t : ℕ) → factor-lts.Need-returns-5 (factor-calls t) (factor-at t) factor.Post
 factor-returns-5 t c =
@@ -204,20 +230,17 @@ sequence-returns t c =
     loop-fault (c .before .before .before .loop .inv) (c .before .postfix .result) _ (c .before .postfix .ensures) (c .match .keys2)
 
 sequence-write-requires : (t : ℕ) → sequence-lts.Need-write-requires (sequence-calls t) (sequence-at t) sequence.Post sequence-Inv-loop sequence-μ-loop
-sequence-write-requires t c κs =
-    let b = c .before .before .before .before in
-    let d = b .before .before .before .before in
-    loop-room (b .before .before .loop .inv) _ _ (b .postfix .ensures) _ (c .before .before .r .given .1) (d .before .pre .1 .1)
+sequence-write-requires t c κs = tt
 
 sequence-mark-next-requires : (t : ℕ) → sequence-lts.Need-mark-next-requires (sequence-calls t) (sequence-at t) sequence.Post sequence-Inv-loop sequence-μ-loop
-sequence-mark-next-requires t c κs = search needs
+sequence-mark-next-requires t c κs = tt
 
 sequence-returns-2 : (t : ℕ) → sequence-lts.Need-returns-2 (sequence-calls t) (sequence-at t) sequence.Post sequence-Inv-loop sequence-μ-loop
 sequence-returns-2 t c =
     let b = c .before .before .before .before in
     let d = b .before .before .before .before in
     loop-got (d .before .loop .inv) _ _ (b .before .before .before .postfix .ensures) _ (b .before .r .given .1) _ _
-    (c .before .before .write .ensures .0) (c .before .before .write .ensures .1) _ (c .before .mark-next .ensures) (c .if1 .taken)
+    (d .before .before .before .before .pre .1 .1) (c .before .before .write .ensures) _ (c .before .mark-next .ensures) (c .if1 .taken)
 
 sequence-loop-less : (t : ℕ) → sequence-lts.Need-loop-less (sequence-calls t) (sequence-at t) sequence.Post sequence-Inv-loop sequence-μ-loop
 sequence-loop-less t c =
@@ -231,7 +254,7 @@ sequence-loop-again t c =
     let b = c .before .before .before .before in
     let d = b .before .before .before .before in
     loop-turn (d .before .loop .inv) _ _ (b .before .before .before .postfix .ensures) _ (b .before .r .given .1) _ _
-    (c .before .before .write .ensures .0) (c .before .before .write .ensures .1) _ (c .before .mark-next .ensures) (c .if1 .left)
+    (d .before .before .before .before .pre .1 .1) (c .before .before .write .ensures) _ (c .before .mark-next .ensures) (c .if1 .left)
 
 abbrev union-Inv-loop : union-lts.InvT-loop
 union-Inv-loop s names n depth out₀ place₀ more₀ out place more = Waiting unionChain depth 3 s names n place₀ out₀ place more out
@@ -256,20 +279,17 @@ union-returns t c =
     loop-fault (c .before .before .before .loop .inv) (c .before .sequence .result) _ (c .before .sequence .ensures) (c .match .keys2)
 
 union-write-requires : (t : ℕ) → union-lts.Need-write-requires (union-calls t) (union-at t) union.Post union-Inv-loop union-μ-loop
-union-write-requires t c κs =
-    let b = c .before .before .before .before in
-    let d = b .before .before .before .before in
-    loop-room (b .before .before .loop .inv) _ _ (b .sequence .ensures) _ (c .before .before .r .given .1) (d .before .pre .1 .1)
+union-write-requires t c κs = tt
 
 union-mark-next-requires : (t : ℕ) → union-lts.Need-mark-next-requires (union-calls t) (union-at t) union.Post union-Inv-loop union-μ-loop
-union-mark-next-requires t c κs = search needs
+union-mark-next-requires t c κs = tt
 
 union-returns-2 : (t : ℕ) → union-lts.Need-returns-2 (union-calls t) (union-at t) union.Post union-Inv-loop union-μ-loop
 union-returns-2 t c =
     let b = c .before .before .before .before in
     let d = b .before .before .before .before in
     loop-got (d .before .loop .inv) _ _ (b .before .before .before .sequence .ensures) _ (b .before .r .given .1) _ _
-    (c .before .before .write .ensures .0) (c .before .before .write .ensures .1) _ (c .before .mark-next .ensures) (c .if1 .taken)
+    (d .before .before .before .before .pre .1 .1) (c .before .before .write .ensures) _ (c .before .mark-next .ensures) (c .if1 .taken)
 
 union-loop-less : (t : ℕ) → union-lts.Need-loop-less (union-calls t) (union-at t) union.Post union-Inv-loop union-μ-loop
 union-loop-less t c =
@@ -283,7 +303,7 @@ union-loop-again t c =
     let b = c .before .before .before .before in
     let d = b .before .before .before .before in
     loop-turn (d .before .loop .inv) _ _ (b .before .before .before .sequence .ensures) _ (b .before .r .given .1) _ _
-    (c .before .before .write .ensures .0) (c .before .before .write .ensures .1) _ (c .before .mark-next .ensures) (c .if1 .left)
+    (d .before .before .before .before .pre .1 .1) (c .before .before .write .ensures) _ (c .before .mark-next .ensures) (c .if1 .left)
 
 pub +factor+postfix+sequence+union-spec : {M : Type 1} → statement M
 +factor+postfix+sequence+union-spec =
@@ -292,12 +312,14 @@ pub +factor+postfix+sequence+union-spec : {M : Type 1} → statement M
     (factor-mark-next-requires t)
     (factor-leaf-requires t)
     (factor-returns t)
+    (factor-deep-requires t)
     (factor-returns-2 t)
     (factor-add-union t)
     (factor-union-requires t)
     (factor-enum-known-r t)
     (factor-returns-3 t)
     (factor-mark-next-requires-2 t)
+    (factor-wrong-requires t)
     (factor-returns-4 t)
     (factor-returns-5 t))
     (λ t. postfix-lts.spec (postfix-calls t) (postfix-at t)

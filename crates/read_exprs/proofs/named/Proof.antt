@@ -7,30 +7,44 @@ use Rattle.read_exprs.proofs.named.Statement.{statement}
 use Rattle.read_exprs.proofs.named.Tie as tie
 
 token-at-requires : tie.Need-token-at-requires
-token-at-requires c κs = search needs
+token-at-requires c κs = tt
 
 enum-known-t : tie.Need-enum-known-t
 enum-known-t c = search needs
 
+wrong-requires : tie.Need-wrong-requires
+wrong-requires c κs = tt
+
 returns : tie.Need-returns
-returns c = name-no-word _ _ (c .before .token-at .ensures) (c .match .keys2)
+returns c =
+    let w = c .wrong .ensures in
+    let b = c .before .before in
+    rw (w .0) (name-no-word _ _ (b .before .token-at .ensures) (b .match .keys2), w .1)
 
 reserved-requires : tie.Need-reserved-requires
-reserved-requires c κs = search needs
+reserved-requires c κs = tt
+
+wrong-requires-2 : tie.Need-wrong-requires-2
+wrong-requires-2 c κs = tt
 
 returns-2 : tie.Need-returns-2
 returns-2 c =
-    let b = c .before .before .before .before in
+    let w = c .wrong2 .ensures in
+    let e = c .before .before in
+    let b = e .before .before .before .before in
     let d = b .before .before .before .before in
     let a = d .args in
-    named-reserved (a .s .now) (a .names .now) (a .n) (a .p) (a .out .now) _ _
-    (scanned _ _ (b .before .token-at .ensures) (c .before .before .before .t .given .1)) _ (c .before .reserved .ensures) (c .if1 .taken)
+    rw (w .0) (
+      named-reserved (a .s .now) (a .names .now) (a .n) (a .p) (a .out .now) _ _
+          (scanned _ _ (b .before .token-at .ensures) (e .before .before .before .t .given .1)) _ (e .before .reserved .ensures) (e .if1 .taken),
+      w .1,
+    )
 
 find-requires : tie.Need-find-requires
-find-requires c κs = search needs
+find-requires c κs = tt
 
 mul-out : tie.Need-mul-out
-mul-out c = search needs
+mul-out c = omega arith
 
 element-write-out : tie.Need-element-write-out
 element-write-out c =
@@ -39,14 +53,14 @@ element-write-out c =
     let w = scanned _ _ (b .before .before .token-at .ensures) (b .t .given .1) in
     omega (arith, w .after, w .within, d .before .pre)
 
-add-t12 : tie.Need-add-t12
-add-t12 c = search needs
+add-t14 : tie.Need-add-t14
+add-t14 c = omega arith
 
 slip-of-requires : tie.Need-slip-of-requires
-slip-of-requires c κs = search needs
+slip-of-requires c κs = tt
 
 first-slip-requires : tie.Need-first-slip-requires
-first-slip-requires c κs = search needs
+first-slip-requires c κs = tt
 
 returns-3 : tie.Need-returns-3
 returns-3 c =
@@ -63,13 +77,15 @@ named-spec =
     (tie.spec
     token-at-requires
     enum-known-t
+    wrong-requires
     returns
     reserved-requires
+    wrong-requires-2
     returns-2
     find-requires
     mul-out
     element-write-out
-    add-t12
+    add-t14
     slip-of-requires
     first-slip-requires
     returns-3)

@@ -5,7 +5,6 @@ use Prim.Native.Nat.{_-_}
 use native.Mathlib.Omega.{arith}
 use lib.ListN.{length}
 use Rattle.read_exprs.proofs.PostfixRuns.{Wrapping, wrapping-start, wrapping-end, sign-room, sign-onward, wrapping-more}
-use borrow.Author.Needs.{needs}
 use Rattle.read_exprs.proofs.postfixes.Statement.{statement}
 use Rattle.read_exprs.proofs.postfixes.Tie as tie
 
@@ -21,7 +20,7 @@ loop-holds c =
     wrapping-start (a .s .now) (a .p) (a .out .now)
 
 sign-next-requires : tie.Need-sign-next-requires Inv-loop μ-loop
-sign-next-requires c κs = search needs
+sign-next-requires c κs = tt
 
 returns : tie.Need-returns Inv-loop μ-loop
 returns c =
@@ -31,7 +30,7 @@ returns c =
     wrapping-end (a .s .now) (a .p) (a .out .now) (l .at) (l .used) (l .out) (l .inv) _ (c .before .before .sign-next .ensures) (c .if1 .taken)
 
 mul-out : tie.Need-mul-out Inv-loop μ-loop
-mul-out c = search needs
+mul-out c = omega arith
 
 element-write-out : tie.Need-element-write-out Inv-loop μ-loop
 element-write-out c =

@@ -1,12 +1,11 @@
 -- `read_exprs::sign_next` meets its contract. One law for each way out.
 -- Assumes nothing.
 use Rattle.read_exprs.proofs.PostfixRuns.{sign-star, sign-plus, sign-opt, sign-none}
-use borrow.Author.Needs.{needs}
 use Rattle.read_exprs.proofs.sign_next.Statement.{statement}
 use Rattle.read_exprs.proofs.sign_next.Tie as tie
 
 mark-next-requires : tie.Need-mark-next-requires
-mark-next-requires c κs = search needs
+mark-next-requires c κs = tt
 
 returns : tie.Need-returns
 returns c =
@@ -14,7 +13,7 @@ returns c =
     sign-star (a .s .now) (a .at) _ (c .before .mark-next .ensures) (c .if1 .taken)
 
 mark-next-requires-2 : tie.Need-mark-next-requires-2
-mark-next-requires-2 c κs = search needs
+mark-next-requires-2 c κs = tt
 
 returns-2 : tie.Need-returns-2
 returns-2 c =
@@ -24,7 +23,7 @@ returns-2 c =
     (c .before .mark-next2 .ensures) (c .if2 .taken)
 
 mark-next-requires-3 : tie.Need-mark-next-requires-3
-mark-next-requires-3 c κs = search needs
+mark-next-requires-3 c κs = tt
 
 returns-3 : tie.Need-returns-3
 returns-3 c =

@@ -85,8 +85,13 @@ returns-8 c =
     let a = c .before .before .before .before .before .args in
     body-at _ _ _ _ _ _ _ (c .claim-body .result) _ 7 (c .before .before .match .keys8) (c .claim-body .ensures)
 
+wrong-requires : tie.Need-wrong-requires
+wrong-requires c κs = tt
+
 returns-9 : tie.Need-returns-9
-returns-9 c = (tt, λ q m. reads-none _ (c .match .rest) _)
+returns-9 c =
+    let w = c .wrong .ensures in
+    rw (w .0) (w .1, λ q m. reads-none _ (c .before .before .match .rest) _)
 
 pub body-spec : {M : Type 1} → statement M
 body-spec =
@@ -100,6 +105,7 @@ body-spec =
     closed-body-requires
     one-side-requires
     claim-body-requires
+    wrong-requires
     returns
     returns-2
     returns-3

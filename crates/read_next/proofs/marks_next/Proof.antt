@@ -5,7 +5,6 @@ use native.Mathlib.Omega.{arith}
 use Rattle.read_next.proofs.Next.{Passed, run-start, run-more, run-end, mark-stands, mark-missing}
 use Prim.Native.Nat.{_-_}
 use lib.ListN.{length}
-use borrow.Author.Needs.{needs}
 use Rattle.read_next.proofs.marks_next.Statement.{statement}
 use Rattle.read_next.proofs.marks_next.Tie as tie
 
@@ -19,7 +18,7 @@ loop-holds : tie.Need-loop-holds Inv-loop μ-loop
 loop-holds c = run-start _ _ _
 
 mark-next-requires : tie.Need-mark-next-requires Inv-loop μ-loop
-mark-next-requires c κs = search needs
+mark-next-requires c κs = tt
 
 returns : tie.Need-returns Inv-loop μ-loop
 returns c = run-end _ _ _ _ _ (c .before .before .loop .inv) (mark-missing _ _ _ _ (c .before .mark-next .ensures) (c .if1 .taken))

@@ -8,7 +8,7 @@ use Rattle.read_next.proofs.word_next.Statement.{statement}
 use Rattle.read_next.proofs.word_next.Tie as tie
 
 token-at-requires : tie.Need-token-at-requires
-token-at-requires c κs = search needs
+token-at-requires c κs = tt
 
 enum-known-t : tie.Need-enum-known-t
 enum-known-t c = search needs
@@ -17,7 +17,7 @@ returns : tie.Need-returns
 returns c = word-none _ _ _ (c .before .token-at .ensures) (c .match .keys2)
 
 same-key-requires : tie.Need-same-key-requires
-same-key-requires c κs = search needs
+same-key-requires c κs = tt
 
 returns-2 : tie.Need-returns-2
 returns-2 c =

@@ -7,11 +7,11 @@ use lib.ListN.{length}
 use Rattle.claims.specs.Grammar.{testWord}
 use Rattle.read_tests.specs.Places.{Is}
 use Rattle.read_next.proofs.Next.{mark-stands}
-use Rattle.read_tests.proofs.Loops.{loop-fault, loop-room, loop-onward, loop-got, loop-turn}
+use Rattle.read_tests.proofs.Loops.{loop-fault, loop-onward, loop-got, loop-turn}
 use Rattle.read_tests.proofs.Chains.{Waiting, chain-start}
 use Rattle.read_tests.proofs.Bracketed.{inner-fault, inner-open, inner-closed}
 use Rattle.read_tests.proofs.Rounds.{roundBracket, round-deep, round-none}
-use Rattle.read_tests.proofs.Tests.{unionChain, unions, meetChain, meets, basics, nots-fault, nots-room, nots-got}
+use Rattle.read_tests.proofs.Tests.{unionChain, unions, meetChain, meets, basics, nots-fault, nots-got}
 use borrow.Author.Needs.{needs}
 use borrow.Fn.Kinds.{In}
 use borrow.Fn.PlainCycle.{Measures, is, falls, and}
@@ -29,7 +29,9 @@ use Rattle.read_tests.proofs.union.Kinds as union-kinds
 use Rattle.read_tests.proofs.+basic+meet+not+union.Lts-union as union-lts
 use Rattle.read_next.proofs.mark_next.Reads as mark-next-reads
 use Rattle.read_next.proofs.marks_next.Reads as marks-next-reads
+use Rattle.read_tests.proofs.deep.Reads as deep-reads
 use Rattle.read_tests.proofs.word.Reads as word-reads
+use Rattle.read_tests.proofs.wrong.Reads as wrong-reads
 use Rattle.read_next.proofs.write.Reads as write-reads
 use Rattle.read_tests.proofs.+basic+meet+not+union.{statement}
 use Rattle.read_tests.proofs.+basic+meet+not+union.Tie.{close}
@@ -72,7 +74,18 @@ union-below t = and 3 union-kinds.ps (falls 3 union-kinds.ps _<_ μ-union t) uni
 
 -- what `basic` knows of the functions that it calls
 abbrev basic-calls : ℕ → basic-lts.Claims
-basic-calls t = (mark-next-reads.Asked, mark-next-reads.Learnt, word-reads.Asked, word-reads.Learnt, union-below t, union.Post)
+basic-calls t = (
+  mark-next-reads.Asked,
+  mark-next-reads.Learnt,
+  word-reads.Asked,
+  word-reads.Learnt,
+  deep-reads.Asked,
+  deep-reads.Learnt,
+  union-below t,
+  union.Post,
+  wrong-reads.Asked,
+  wrong-reads.Learnt,
+)
 
 -- what `meet` knows of the functions that it calls
 abbrev meet-calls : ℕ → meet-lts.Claims
@@ -87,7 +100,7 @@ abbrev union-calls : ℕ → union-lts.Claims
 union-calls t = (meet-below t, meet.Post, write-reads.Asked, write-reads.Learnt, mark-next-reads.Asked, mark-next-reads.Learnt)
 
 basic-mark-next-requires : (t : ℕ) → basic-lts.Need-mark-next-requires (basic-calls t) (basic-at t) basic.Post
-basic-mark-next-requires t c κs = search needs
+basic-mark-next-requires t c κs = tt
 
 basic-word-requires : (t : ℕ) → basic-lts.Need-word-requires (basic-calls t) (basic-at t) basic.Post
 basic-word-requires t c κs =
@@ -101,11 +114,16 @@ basic-returns t c =
     round-none basics (a .depth) (a .s .now) (a .p) _ (b .mark-next .ensures) (c .before .before .if1 .taken) (Is testWord) (λ y h f. h)
     (a .names .now) (a .n) (a .out .now) (c .word .last .1 .1 .1 .1 .0) (c .word .result) (c .word .ensures)
 
+basic-deep-requires : (t : ℕ) → basic-lts.Need-deep-requires (basic-calls t) (basic-at t) basic.Post
+basic-deep-requires t c κs = tt
+
 basic-returns-2 : (t : ℕ) → basic-lts.Need-returns-2 (basic-calls t) (basic-at t) basic.Post
 basic-returns-2 t c =
-    let b = c .before .before in
+    let w = c .deep .ensures in
+    let d = c .before .before in
+    let b = d .before .before in
     let a = b .before .before .before .args in
-    round-deep basics (a .depth) (a .s .now) (a .p) _ (b .mark-next .ensures) (c .before .if1 .left) (c .if2 .taken)
+    rw (w .0) (round-deep basics (a .depth) (a .s .now) (a .p) _ (b .mark-next .ensures) (d .before .if1 .left) (d .if2 .taken), w .1)
 
 basic-add-union : (t : ℕ) → basic-lts.Need-add-union (basic-calls t) (basic-at t) basic.Post
 basic-add-union t c =
@@ -134,17 +152,25 @@ basic-returns-3 t c =
     (b .before .before .mark-next .ensures) (b .before .if1 .left) (c .before .union .result) _ (c .before .union .ensures) (c .match .keys2)
 
 basic-mark-next-requires-2 : (t : ℕ) → basic-lts.Need-mark-next-requires-2 (basic-calls t) (basic-at t) basic.Post
-basic-mark-next-requires-2 t c κs = search needs
+basic-mark-next-requires-2 t c κs = tt
+
+basic-wrong-requires : (t : ℕ) → basic-lts.Need-wrong-requires (basic-calls t) (basic-at t) basic.Post
+basic-wrong-requires t c κs = tt
 
 basic-returns-4 : (t : ℕ) → basic-lts.Need-returns-4 (basic-calls t) (basic-at t) basic.Post
 basic-returns-4 t c =
-    let b = c .before .before .before .before in
+    let w = c .wrong .ensures in
+    let f = c .before .before in
+    let b = f .before .before .before .before in
     let d = b .before .before .before .before in
     let e = d .before .before .before .before in
     let a = e .args in
-    inner-open (roundBracket basics (a .depth) (b .before .before .before .if2 .left)) (a .s .now) (a .names .now) (a .n) (a .p) (a .out .now) _
-    (d .before .mark-next .ensures) (d .if1 .left) _ _ (b .before .union .ensures) _ (c .before .before .before .r .given .1) _
-    (c .before .mark-next2 .ensures) (c .if3 .taken)
+    rw (w .0) (
+      inner-open (roundBracket basics (a .depth) (b .before .before .before .if2 .left)) (a .s .now) (a .names .now) (a .n) (a .p) (a .out .now) _
+          (d .before .mark-next .ensures) (d .if1 .left) _ _ (b .before .union .ensures) _ (f .before .before .before .r .given .1) _
+          (f .before .mark-next2 .ensures) (f .if3 .taken),
+      w .1,
+    )
 
 basic-returns-5 : (t : ℕ) → basic-lts.Need-returns-5 (basic-calls t) (basic-at t) basic.Post
 basic-returns-5 t c =
@@ -179,20 +205,17 @@ meet-returns t c =
     loop-fault (c .before .before .before .loop .inv) (c .before .not .result) _ (c .before .not .ensures) (c .match .keys2)
 
 meet-write-requires : (t : ℕ) → meet-lts.Need-write-requires (meet-calls t) (meet-at t) meet.Post meet-Inv-loop meet-μ-loop
-meet-write-requires t c κs =
-    let b = c .before .before .before .before in
-    let d = b .before .before .before .before in
-    loop-room (b .before .before .loop .inv) _ _ (b .not .ensures) _ (c .before .before .r .given .1) (d .before .pre .1 .1)
+meet-write-requires t c κs = tt
 
 meet-mark-next-requires : (t : ℕ) → meet-lts.Need-mark-next-requires (meet-calls t) (meet-at t) meet.Post meet-Inv-loop meet-μ-loop
-meet-mark-next-requires t c κs = search needs
+meet-mark-next-requires t c κs = tt
 
 meet-returns-2 : (t : ℕ) → meet-lts.Need-returns-2 (meet-calls t) (meet-at t) meet.Post meet-Inv-loop meet-μ-loop
 meet-returns-2 t c =
     let b = c .before .before .before .before in
     let d = b .before .before .before .before in
     loop-got (d .before .loop .inv) _ _ (b .before .before .before .not .ensures) _ (b .before .r .given .1) _ _
-    (c .before .before .write .ensures .0) (c .before .before .write .ensures .1) _ (c .before .mark-next .ensures) (c .if1 .taken)
+    (d .before .before .before .before .pre .1 .1) (c .before .before .write .ensures) _ (c .before .mark-next .ensures) (c .if1 .taken)
 
 meet-loop-less : (t : ℕ) → meet-lts.Need-loop-less (meet-calls t) (meet-at t) meet.Post meet-Inv-loop meet-μ-loop
 meet-loop-less t c =
@@ -206,10 +229,10 @@ meet-loop-again t c =
     let b = c .before .before .before .before in
     let d = b .before .before .before .before in
     loop-turn (d .before .loop .inv) _ _ (b .before .before .before .not .ensures) _ (b .before .r .given .1) _ _
-    (c .before .before .write .ensures .0) (c .before .before .write .ensures .1) _ (c .before .mark-next .ensures) (c .if1 .left)
+    (d .before .before .before .before .pre .1 .1) (c .before .before .write .ensures) _ (c .before .mark-next .ensures) (c .if1 .left)
 
 not-marks-next-requires : (t : ℕ) → not-lts.Need-marks-next-requires (not-calls t) (not-at t) not.Post
-not-marks-next-requires t c κs = search needs
+not-marks-next-requires t c κs = tt
 
 not-basic-requires : (t : ℕ) → not-lts.Need-basic-requires (not-calls t) (not-at t) not.Post
 not-basic-requires t c κs =
@@ -227,12 +250,7 @@ not-returns t c =
     (c .before .basic .result) _ (c .before .basic .ensures) (c .match .keys2)
 
 not-write-requires : (t : ℕ) → not-lts.Need-write-requires (not-calls t) (not-at t) not.Post
-not-write-requires t c κs =
-    let b = c .before .before .before .before in
-    let d = b .before .before .before .before in
-    let a = d .before .args in
-    nots-room (a .depth) (a .s .now) (a .names .now) (a .n) (a .p) (a .out .now) _ (b .before .before .marks-next .ensures) _ _
-    (b .basic .ensures) _ (c .before .before .r .given .1) (d .before .pre .1 .1)
+not-write-requires t c κs = tt
 
 not-returns-2 : (t : ℕ) → not-lts.Need-returns-2 (not-calls t) (not-at t) not.Post
 not-returns-2 t c =
@@ -240,7 +258,8 @@ not-returns-2 t c =
     let d = b .before .before .before .before in
     let a = d .before .before .args in
     nots-got (a .depth) (a .s .now) (a .names .now) (a .n) (a .p) (a .out .now) _ (b .before .before .before .marks-next .ensures) _ _
-    (b .before .basic .ensures) _ (c .before .before .before .r .given .1) _ _ (c .write .ensures .0) (c .write .ensures .1)
+    (b .before .basic .ensures) _ (c .before .before .before .r .given .1) _ _ (d .before .before .pre .1 .1)
+    (c .write .ensures)
 
 abbrev union-Inv-loop : union-lts.InvT-loop
 union-Inv-loop s names n depth out₀ place₀ more₀ out place more = Waiting unionChain depth 3 s names n place₀ out₀ place more out
@@ -265,20 +284,17 @@ union-returns t c =
     loop-fault (c .before .before .before .loop .inv) (c .before .meet .result) _ (c .before .meet .ensures) (c .match .keys2)
 
 union-write-requires : (t : ℕ) → union-lts.Need-write-requires (union-calls t) (union-at t) union.Post union-Inv-loop union-μ-loop
-union-write-requires t c κs =
-    let b = c .before .before .before .before in
-    let d = b .before .before .before .before in
-    loop-room (b .before .before .loop .inv) _ _ (b .meet .ensures) _ (c .before .before .r .given .1) (d .before .pre .1 .1)
+union-write-requires t c κs = tt
 
 union-mark-next-requires : (t : ℕ) → union-lts.Need-mark-next-requires (union-calls t) (union-at t) union.Post union-Inv-loop union-μ-loop
-union-mark-next-requires t c κs = search needs
+union-mark-next-requires t c κs = tt
 
 union-returns-2 : (t : ℕ) → union-lts.Need-returns-2 (union-calls t) (union-at t) union.Post union-Inv-loop union-μ-loop
 union-returns-2 t c =
     let b = c .before .before .before .before in
     let d = b .before .before .before .before in
     loop-got (d .before .loop .inv) _ _ (b .before .before .before .meet .ensures) _ (b .before .r .given .1) _ _
-    (c .before .before .write .ensures .0) (c .before .before .write .ensures .1) _ (c .before .mark-next .ensures) (c .if1 .taken)
+    (d .before .before .before .before .pre .1 .1) (c .before .before .write .ensures) _ (c .before .mark-next .ensures) (c .if1 .taken)
 
 union-loop-less : (t : ℕ) → union-lts.Need-loop-less (union-calls t) (union-at t) union.Post union-Inv-loop union-μ-loop
 union-loop-less t c =
@@ -292,7 +308,7 @@ union-loop-again t c =
     let b = c .before .before .before .before in
     let d = b .before .before .before .before in
     loop-turn (d .before .loop .inv) _ _ (b .before .before .before .meet .ensures) _ (b .before .r .given .1) _ _
-    (c .before .before .write .ensures .0) (c .before .before .write .ensures .1) _ (c .before .mark-next .ensures) (c .if1 .left)
+    (d .before .before .before .before .pre .1 .1) (c .before .before .write .ensures) _ (c .before .mark-next .ensures) (c .if1 .left)
 
 pub +basic+meet+not+union-spec : {M : Type 1} → statement M
 +basic+meet+not+union-spec = close μ-basic μ-meet μ-not μ-union (λ t. basic-lts.spec (basic-calls t) (basic-at t)
@@ -300,12 +316,14 @@ pub +basic+meet+not+union-spec : {M : Type 1} → statement M
     (basic-mark-next-requires t)
     (basic-word-requires t)
     (basic-returns t)
+    (basic-deep-requires t)
     (basic-returns-2 t)
     (basic-add-union t)
     (basic-union-requires t)
     (basic-enum-known-r t)
     (basic-returns-3 t)
     (basic-mark-next-requires-2 t)
+    (basic-wrong-requires t)
     (basic-returns-4 t)
     (basic-returns-5 t))
     (λ t. meet-lts.spec (meet-calls t) (meet-at t)

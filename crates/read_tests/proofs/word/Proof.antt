@@ -7,22 +7,28 @@ use Rattle.read_tests.proofs.word.Statement.{statement}
 use Rattle.read_tests.proofs.word.Tie as tie
 
 token-at-requires : tie.Need-token-at-requires
-token-at-requires c κs = search needs
+token-at-requires c κs = tt
 
 enum-known-t : tie.Need-enum-known-t
 enum-known-t c = search needs
 
+wrong-requires : tie.Need-wrong-requires
+wrong-requires c κs = tt
+
 returns : tie.Need-returns
-returns c = test-no-word _ _ (c .before .token-at .ensures) (c .match .keys2)
+returns c =
+    let w = c .wrong .ensures in
+    let b = c .before .before in
+    rw (w .0) (test-no-word _ _ (b .before .token-at .ensures) (b .match .keys2), w .1)
 
 word-key-requires : tie.Need-word-key-requires
-word-key-requires c κs = search needs
+word-key-requires c κs = tt
 
 same-key-requires : tie.Need-same-key-requires
-same-key-requires c κs = search needs
+same-key-requires c κs = tt
 
 mul-out : tie.Need-mul-out
-mul-out c = search needs
+mul-out c = omega arith
 
 element-write-out : tie.Need-element-write-out
 element-write-out c =
@@ -31,8 +37,8 @@ element-write-out c =
     let w = scanned _ _ (b .before .before .token-at .ensures) (b .t .given .1) in
     omega (arith, w .after, w .within, d .before .pre)
 
-add-t13 : tie.Need-add-t13
-add-t13 c = search needs
+add-t14 : tie.Need-add-t14
+add-t14 c = omega arith
 
 returns-2 : tie.Need-returns-2
 returns-2 c =
@@ -44,13 +50,13 @@ returns-2 c =
     (c .before .same-key .ensures) (c .if1 .taken)
 
 word-key-requires-2 : tie.Need-word-key-requires-2
-word-key-requires-2 c κs = search needs
+word-key-requires-2 c κs = tt
 
 same-key-requires-2 : tie.Need-same-key-requires-2
-same-key-requires-2 c κs = search needs
+same-key-requires-2 c κs = tt
 
 mul-out-2 : tie.Need-mul-out-2
-mul-out-2 c = search needs
+mul-out-2 c = omega arith
 
 element-write-out-2 : tie.Need-element-write-out-2
 element-write-out-2 c =
@@ -60,8 +66,8 @@ element-write-out-2 c =
     let w = scanned _ _ (d .before .token-at .ensures) (b .before .before .before .t .given .1) in
     omega (arith, w .after, w .within, e .pre)
 
-add-t18 : tie.Need-add-t18
-add-t18 c = search needs
+add-t19 : tie.Need-add-t19
+add-t19 c = omega arith
 
 returns-3 : tie.Need-returns-3
 returns-3 c =
@@ -75,24 +81,32 @@ returns-3 c =
     (c .before .same-key2 .ensures) (c .if2 .taken)
 
 reserved-requires : tie.Need-reserved-requires
-reserved-requires c κs = search needs
+reserved-requires c κs = tt
+
+wrong-requires-2 : tie.Need-wrong-requires-2
+wrong-requires-2 c κs = tt
 
 returns-4 : tie.Need-returns-4
 returns-4 c =
-    let b = c .before .before .before .before in
+    let w = c .wrong2 .ensures in
+    let f = c .before .before in
+    let b = f .before .before .before .before in
     let d = b .before .before .before .before in
     let e = d .before .before .before .before in
     let a = e .before .before .args in
-    word-reserved (a .s .now) (a .names .now) (a .n) (a .p) (a .out .now) _ _
-    (scanned _ _ (d .before .before .before .token-at .ensures) (d .before .t .given .1)) _ _ (b .before .before .before .word-key .ensures)
-    (b .before .before .same-key .ensures) _ _ (b .before .if1 .left) (b .word-key2 .ensures)
-    (c .before .before .before .same-key2 .ensures) _ (c .before .before .if2 .left) (c .before .reserved .ensures) (c .if3 .taken)
+    rw (w .0) (
+      word-reserved (a .s .now) (a .names .now) (a .n) (a .p) (a .out .now) _ _
+          (scanned _ _ (d .before .before .before .token-at .ensures) (d .before .t .given .1)) _ _ (b .before .before .before .word-key .ensures)
+          (b .before .before .same-key .ensures) _ _ (b .before .if1 .left) (b .word-key2 .ensures)
+          (f .before .before .before .same-key2 .ensures) _ (f .before .before .if2 .left) (f .before .reserved .ensures) (f .if3 .taken),
+      w .1,
+    )
 
 find-requires : tie.Need-find-requires
-find-requires c κs = search needs
+find-requires c κs = tt
 
 mul-out-3 : tie.Need-mul-out-3
-mul-out-3 c = search needs
+mul-out-3 c = omega arith
 
 element-write-out-3 : tie.Need-element-write-out-3
 element-write-out-3 c =
@@ -102,14 +116,14 @@ element-write-out-3 c =
     let w = scanned _ _ (e .token-at .ensures) (d .before .before .t .given .1) in
     omega (arith, w .after, w .within, e .before .before .before .pre)
 
-add-t23 : tie.Need-add-t23
-add-t23 c = search needs
+add-t25 : tie.Need-add-t25
+add-t25 c = omega arith
 
 slip-of-requires : tie.Need-slip-of-requires
-slip-of-requires c κs = search needs
+slip-of-requires c κs = tt
 
 first-slip-requires : tie.Need-first-slip-requires
-first-slip-requires c κs = search needs
+first-slip-requires c κs = tt
 
 returns-5 : tie.Need-returns-5
 returns-5 c =
@@ -130,25 +144,27 @@ word-spec =
     (tie.spec
     token-at-requires
     enum-known-t
+    wrong-requires
     returns
     word-key-requires
     same-key-requires
     mul-out
     element-write-out
-    add-t13
+    add-t14
     returns-2
     word-key-requires-2
     same-key-requires-2
     mul-out-2
     element-write-out-2
-    add-t18
+    add-t19
     returns-3
     reserved-requires
+    wrong-requires-2
     returns-4
     find-requires
     mul-out-3
     element-write-out-3
-    add-t23
+    add-t25
     slip-of-requires
     first-slip-requires
     returns-5)

@@ -5,7 +5,7 @@ use native.Mathlib.Omega.{arith}
 use lib.ListN.{length}
 use borrow.Author.Needs.{needs}
 use borrow.Author.Tests.{not-true, not-false}
-use Rattle.read_text.proofs.Lines.{Going, going-start, going-on, line-fits, refused-here, refused-answer, over-unclaimed, over-claimed}
+use Rattle.read_text.proofs.Lines.{Going, going-start, going-on, line-fits, refused-here, over-unclaimed, over-claimed}
 use Rattle.read_text.proofs.every_line.Statement.{statement}
 use Rattle.read_text.proofs.every_line.Tie as tie
 
@@ -43,7 +43,7 @@ returns c =
     let l = c .before .before .before .before .before .before .before .before .before .loop in
     let e = c .before .before .before .before .before .before .before .line-end in
     let t = c .before .before .before .read-line in
-    refused-answer _ _ _ _ _ (refused-here _ _ _ _ _ _ _ _ (l .inv) (omega arith) (e .ensures .0) (e .ensures .1) _ _ (t .result) _ (t .ensures) (c .before .r .given .1))
+    refused-here _ _ _ _ _ _ _ _ (l .inv) (omega arith) (e .ensures .0) (e .ensures .1) _ _ (t .result) _ (t .ensures) (c .before .r .given .1)
 
 enum-known-next : tie.Need-enum-known-next Inv-loop μ-loop
 enum-known-next c = search needs
@@ -64,10 +64,15 @@ loop-again c =
     let t = c .before .before .before .read-line in
     going-on _ _ _ _ _ _ _ _ (l .inv) (omega arith) (e .ensures .0) (e .ensures .1) _ _ (t .result) _ (t .ensures) (c .before .next .given .1)
 
+clear-requires : tie.Need-clear-requires Inv-loop μ-loop
+clear-requires c κs = tt
+
 returns-2 : tie.Need-returns-2 Inv-loop μ-loop
 returns-2 c =
-    let l = c .before .before .before .loop in
-    over-unclaimed _ _ _ _ _ _ _ (l .inv) (c .before .before .loop-test .left) (not-true _ (c .if1 .taken))
+    let b = c .before .before in
+    let l = b .before .before .before .loop in
+    over-unclaimed _ _ _ _ _ _ _ (l .inv) (b .before .before .loop-test .left) (not-true _ (b .if1 .taken)) _ _ (c .before .clear-arg .given .0 .1)
+    (c .clear .ensures)
 
 sub-known-of : tie.Need-sub-known-of Inv-loop μ-loop
 sub-known-of c = omega (arith, c .before .before .before .before .before .loop .inv .numbered)
@@ -102,6 +107,7 @@ every-line-spec =
     add-at
     loop-less
     loop-again
+    clear-requires
     returns-2
     sub-known-of
     known-of-requires

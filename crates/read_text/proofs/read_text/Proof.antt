@@ -1,6 +1,6 @@
 -- `read_text::read_text` meets its contract: each way out gives the answer that the text has.
 -- Assumes nothing.
-use Rattle.read_text.proofs.Answers.{answer-long, answer-bad, answer-refused, answer-accepted}
+use Rattle.read_text.proofs.Answers.{answer-long, answer-bad, answer-lines}
 use borrow.Author.Needs.{needs}
 use Rattle.read_text.proofs.read_text.Statement.{statement}
 use Rattle.read_text.proofs.read_text.Tie as tie
@@ -23,31 +23,13 @@ returns-2 c =
 every-line-requires : tie.Need-every-line-requires
 every-line-requires c κs = search needs
 
-enum-known-r : tie.Need-enum-known-r
-enum-known-r c = search needs
-
-clear-requires-2 : tie.Need-clear-requires-2
-clear-requires-2 c κs = search needs
-
-enum-known-r-2 : tie.Need-enum-known-r-2
-enum-known-r-2 c = search needs
-
 returns-3 : tie.Need-returns-3
 returns-3 c =
-    let b = c .before .before .before .before .before .before .before .before .before .bad-line in
-    let l = c .before .before .before .before .before .every-line in
-    answer-refused _ _ (b .result) (c .before .before .before .before .before .before .before .before .before .before .if1 .left) (b .ensures)
-    (c .before .before .before .before .before .before .before .before .if2 .left) (l .result) _ _ _ (l .ensures .0)
-    (c .before .before .before .r .given .1) (c .before .clear-arg2 .given .0 .1) (c .clear2 .ensures)
-
-returns-4 : tie.Need-returns-4
-returns-4 c =
-    let b = c .before .before .before .before .before .before .before .bad-line in
-    let l = c .before .before .before .every-line in
-    answer-accepted _ _ (b .result) (c .before .before .before .before .before .before .before .before .if1 .left) (b .ensures)
-    (c .before .before .before .before .before .before .if2 .left) (l .result) _ _ _ (l .ensures .0) (l .ensures .1)
-    (c .before .r2 .given .1) (c .before .before .before .before .before .before .before .before .before .before .clear-arg .given .0 .1)
-    (c .before .before .before .before .before .before .before .before .before .clear .ensures)
+    let b = c .before .before .before .before .bad-line in
+    let l = c .every-line in
+    answer-lines _ _ (b .result) (c .before .before .before .before .before .if1 .left) (b .ensures) (c .before .before .before .if2 .left) (l .result) _ _
+    (l .ensures .0) (l .ensures .1) (c .before .before .before .before .before .before .before .clear-arg .given .0 .1)
+    (c .before .before .before .before .before .before .clear .ensures)
 
 pub read-text-spec : {M : Type 1} → statement M
 read-text-spec =
@@ -58,8 +40,4 @@ read-text-spec =
     bad-line-requires
     returns-2
     every-line-requires
-    enum-known-r
-    clear-requires-2
-    enum-known-r-2
-    returns-3
-    returns-4)
+    returns-3)

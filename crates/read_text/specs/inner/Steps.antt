@@ -9,6 +9,7 @@ use lib.Dec.{eqb}
 use lib.ListN.{length, drop}
 use Rattle.claims.specs.Query.{Query, tests, relations}
 use Rattle.claims.specs.Refusals.{Result, ok, refused}
+use Rattle.words.specs.Memory.{zeros}
 use Rattle.codes.specs.Codes.{queryCodes, claimKind}
 use Rattle.read_declarations.specs.declared.State.{State}
 use Rattle.read_text.specs.declared.Summary.{Summary}
@@ -22,10 +23,10 @@ unfoldable pub orZero : Option ℕ → ℕ
 orZero none = 0
 orZero (some n) = n
 
--- the array after the lines were read over it: the codes of the query, and behind them what stood there; after a refusal nothing is said
+-- the array after the lines were read over it: the codes of the query, and behind them what stood there; all zeros after a refusal
 abbrev pub Written : Result Query → List ℕ → List ℕ → Type 0
 Written (ok q) before out = out ≡ queryCodes q ++ drop (length (queryCodes q)) before
-Written (refused r) before out = Unit {0}
+Written (refused r) before out = out ≡ zeros 4096
 
 -- what the reader's state says after so many lines with these codes
 unfoldable pub known : State → ℕ → List ℕ → Summary

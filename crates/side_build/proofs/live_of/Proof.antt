@@ -17,7 +17,7 @@ slice-aggregate-removed-set : tie.Need-slice-aggregate-removed-set
 slice-aggregate-removed-set c = sym (length-take-le _ _ (omega (arith, ap length (c .before .before .before .pre), needs-length (c .before .before .before .args .codes .now))))
 
 removed-set-requires : tie.Need-removed-set-requires
-removed-set-requires c κs = length-take-le _ _ (omega (arith, ap length (c .before .before .before .pre), needs-length (c .before .before .before .args .codes .now)))
+removed-set-requires c κs = search needs
 
 live-set-requires : tie.Need-live-set-requires
 live-set-requires c κs = search needs

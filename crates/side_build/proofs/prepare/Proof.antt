@@ -21,40 +21,56 @@ slice-aggregate-find-args : tie.Need-slice-aggregate-find-args
 slice-aggregate-find-args c = sym (length-take-le _ _ (omega (arith, c .before .before .before .pre .0)))
 
 find-args-requires : tie.Need-find-args-requires
-find-args-requires c κs = (length-take-le _ _ (omega (arith, c .before .before .before .before .pre .0)), c .before .before .before .before .pre .1, refl)
+find-args-requires c κs =
+    let s = c .before .before .before in
+    (length-take-le _ _ (omega (arith, s .pre .0)), s .pre .1)
 
 slice-reshare-prefix-relation-sets : tie.Need-slice-reshare-prefix-relation-sets
 slice-reshare-prefix-relation-sets c = search needs
 
 slice-aggregate-relation-sets : tie.Need-slice-aggregate-relation-sets
-slice-aggregate-relation-sets c = sym (ap length (half-args (c .before .before .before .before .before .before .before .before .args .codes .now) _ (c .before .before .before .before .before .before .before .before .args .needs .now) (c .before .before .before .find-args .ensures) (c .before .before .before .before .before .before .before .before .pre .0)) ∙ args-length (c .before .before .before .before .before .before .before .before .args .codes .now))
+slice-aggregate-relation-sets c =
+    let s = c .before .before .before .before .before .before .before in
+    sym (ap length (half-args (s .args .codes .now) _ (s .args .needs .now) (c .before .before .before .find-args .ensures) (s .pre .0)) ∙ args-length (s .args .codes .now))
 
 relation-sets-requires : tie.Need-relation-sets-requires
-relation-sets-requires c κs = ap length (half-args (c .before .before .before .before .before .before .before .before .before .args .codes .now) _ (c .before .before .before .before .before .before .before .before .before .args .needs .now) (c .before .before .before .before .find-args .ensures) (c .before .before .before .before .before .before .before .before .before .pre .0)) ∙ args-length (c .before .before .before .before .before .before .before .before .before .args .codes .now)
+relation-sets-requires c κs = search needs
 
 slice-aggregate-copy : tie.Need-slice-aggregate-copy
 slice-aggregate-copy c = sym (ap length (c .before .relation-sets .ensures) ∙ sets-length _)
 
 mul-copy : tie.Need-mul-copy
-mul-copy c = omega (arith, half-length (c .before .before .before .before .before .before .before .before .before .before .before .args .codes .now) _ (c .before .before .before .before .before .before .before .before .before .before .before .args .needs .now) (c .before .before .before .before .before .before .find-args .ensures) (c .before .before .before .before .before .before .before .before .before .before .before .pre .0))
+mul-copy c =
+    let s = c .before .before .before .before .before .before .before .before .before .before in
+    omega (arith, half-length (s .args .codes .now) _ (s .args .needs .now) (c .before .before .before .before .before .before .find-args .ensures) (s .pre .0))
 
 sub-copy : tie.Need-sub-copy
-sub-copy c = omega (arith, half-length (c .before .before .before .before .before .before .before .before .before .before .before .args .codes .now) _ (c .before .before .before .before .before .before .before .before .before .before .before .args .needs .now) (c .before .before .before .before .before .before .find-args .ensures) (c .before .before .before .before .before .before .before .before .before .before .before .pre .0))
+sub-copy c =
+    let s = c .before .before .before .before .before .before .before .before .before .before in
+    omega (arith, half-length (s .args .codes .now) _ (s .args .needs .now) (c .before .before .before .before .before .before .find-args .ensures) (s .pre .0))
 
 part-copy-start : tie.Need-part-copy-start
-part-copy-start c = omega (arith, half-length (c .before .before .before .before .before .before .before .before .before .before .before .args .codes .now) _ (c .before .before .before .before .before .before .before .before .before .before .before .args .needs .now) (c .before .before .before .before .before .before .find-args .ensures) (c .before .before .before .before .before .before .before .before .before .before .before .pre .0))
+part-copy-start c =
+    let s = c .before .before .before .before .before .before .before .before .before .before in
+    omega (arith, half-length (s .args .codes .now) _ (s .args .needs .now) (c .before .before .before .before .before .before .find-args .ensures) (s .pre .0))
 
 part-copy-end : tie.Need-part-copy-end
-part-copy-end c = omega (arith, half-length (c .before .before .before .before .before .before .before .before .before .before .before .args .codes .now) _ (c .before .before .before .before .before .before .before .before .before .before .before .args .needs .now) (c .before .before .before .before .before .before .find-args .ensures) (c .before .before .before .before .before .before .before .before .before .before .before .pre .0))
+part-copy-end c =
+    let s = c .before .before .before .before .before .before .before .before .before .before in
+    omega (arith, half-length (s .args .codes .now) _ (s .args .needs .now) (c .before .before .before .before .before .before .find-args .ensures) (s .pre .0))
 
 copy-requires : tie.Need-copy-requires
 copy-requires c κs = search needs
 
 same-length : tie.Need-same-length
-same-length c = prepared-length (c .before .before .before .before .before .before .before .before .before .before .before .before .before .before .before .args .codes .now) _ (c .before .before .before .before .before .before .before .before .before .before .before .before .before .before .before .args .needs .now) (c .before .before .before .before .before .before .before .before .before .before .find-args .ensures) (c .before .before .before .before .before .before .before .before .before .before .before .before .before .before .before .pre .0) _ _ (c .before .before .before .before .before .relation-sets .ensures) (c .before .before .copy .ensures)
+same-length c =
+    let s = c .before .before .before .before .before .before .before .before .before .before .before .before .before .before in
+    prepared-length (s .args .codes .now) _ (s .args .needs .now) (c .before .before .before .before .before .before .before .before .before .before .find-args .ensures) (s .pre .0) _ _ (c .before .before .before .before .before .relation-sets .ensures) (c .before .before .copy .ensures)
 
 returns : tie.Need-returns
-returns c = prepared (c .before .before .before .before .before .before .before .before .before .before .before .before .before .before .before .args .codes .now) _ (c .before .before .before .before .before .before .before .before .before .before .before .before .before .before .before .args .needs .now) (c .before .before .before .before .before .before .before .before .before .before .find-args .ensures) (c .before .before .before .before .before .before .before .before .before .before .before .before .before .before .before .pre .0) _ _ (c .before .before .before .before .before .relation-sets .ensures) (c .before .before .copy .ensures)
+returns c =
+    let s = c .before .before .before .before .before .before .before .before .before .before .before .before .before .before in
+    prepared (s .args .codes .now) _ (s .args .needs .now) (c .before .before .before .before .before .before .before .before .before .before .find-args .ensures) (s .pre .0) _ _ (c .before .before .before .before .before .relation-sets .ensures) (c .before .before .copy .ensures)
 
 pub prepare-spec : {M : Type 1} → statement M
 prepare-spec =

@@ -3,7 +3,7 @@
 -- Assumes nothing.
 use Prim.Native.Nat.{_-_, _≤_}
 use native.Mathlib.Omega.{arith}
-use mathlib.Core.Path.{_≡_, refl, sym, _∙_}
+use mathlib.Core.Path.{_≡_, refl, sym, _∙_, ap}
 use lib.ListN.{length, getD, length-set}
 use borrow.Author.Needs.{needs}
 use Rattle.side_items.proofs.Needed.{Follows, follows-start, follows-on, follows-end}
@@ -20,8 +20,7 @@ abbrev μ-loop : tie.MeasureT-loop
 loop-holds : tie.Need-loop-holds Inv-loop μ-loop
 loop-holds c =
     let a = c .before .before .args in
-    let p = c .before .before .pre in
-    (p .0, omega arith, rw (p .2) (follows-start (a .codes .now) (a .args .now)))
+    (c .before .before .pre .0, omega arith, follows-start (a .codes .now) (a .args .now))
 
 mul-k : tie.Need-mul-k Inv-loop μ-loop
 mul-k c = search needs
@@ -30,13 +29,15 @@ shared-slice-read-k : tie.Need-shared-slice-read-k Inv-loop μ-loop
 shared-slice-read-k c = omega arith
 
 arg-of-requires : tie.Need-arg-of-requires Inv-loop μ-loop
-arg-of-requires c κs = search needs
+arg-of-requires c κs =
+    let l = c .before .before .before .before .loop in
+    (l .inv .2 .behind, omega arith, omega arith, l .inv .2 .blank)
 
 mul-args : tie.Need-mul-args Inv-loop μ-loop
 mul-args c = search needs
 
 slice-write-args : tie.Need-slice-write-args Inv-loop μ-loop
-slice-write-args c = omega arith
+slice-write-args c = simp (c .before .before .arg-of .ensures .1) (omega arith)
 
 keep-let-requires : tie.Need-keep-let-requires Inv-loop μ-loop
 keep-let-requires c κs = search needs
@@ -59,13 +60,13 @@ loop-less c = omega arith
 loop-again : tie.Need-loop-again Inv-loop μ-loop
 loop-again c =
     let k = c .before .before .before .keep-let in
-    let x = c .before .before .before .before .before .arg-of in
-    let l = c .before .before .before .before .before .before .before .before .before .loop in
-    let codes = c .before .before .before .before .before .before .before .before .before .before .before .before .args .codes .now in (
-      length-set (l .args) (l .i) (x .result) ∙ l .inv .0,
+    let x = c .before .before .before .before .before .before .before .arg-of in
+    let l = c .before .before .before .before .before .before .before .before .before .before .before .before .loop in
+    let codes = c .before .before .before .before .before .before .before .before .before .before .before .before .before .before .before .args .codes .now in (
+      simp length-set (ap length (x .ensures .1) ∙ l .inv .0),
       omega arith,
-      follows-on codes (l .args) (l .starts) (k .last .0) (l .i) (l .line) (c .before .line-after .result) (l .from) (c .from-after .result) (l .lets)
-          (c .before .before .lets-after .result) (getD codes (l .i) 0) (x .result) (l .inv .2) refl (x .ensures) (k .ensures)
+      follows-on codes (l .args) _ (l .starts) (k .last .0) (l .i) (l .line) (c .before .line-after .result) (l .from) (c .from-after .result) (l .lets)
+          (c .before .before .lets-after .result) (getD codes (l .i) 0) (x .result) (l .inv .2) (x .ensures .1) refl (x .ensures .0) (k .ensures)
           (c .before .line-after .ensures) (c .from-after .ensures) (c .before .before .lets-after .ensures) (omega arith) (omega arith),
     )
 

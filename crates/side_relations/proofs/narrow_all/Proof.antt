@@ -1,7 +1,7 @@
 -- `side_relations::narrow_all` meets its contract. The invariant: the codes that are left, on the sets as they are, give what all codes give
 -- on the sets at the start. The measure is what is left.
 -- Assumes nothing.
-use Prim.Native.Nat.{_-_, _≤_}
+use Prim.Native.Nat.{_-_, min}
 use native.Mathlib.Omega.{arith}
 use mathlib.Core.Path.{_≡_, refl, sym, _∙_}
 use lib.ListN.{length, drop}
@@ -13,15 +13,18 @@ use Rattle.side_relations.proofs.narrow_all.Statement.{statement}
 use Rattle.side_relations.proofs.narrow_all.Tie as tie
 
 abbrev Inv-loop : tie.InvT-loop
-Inv-loop codes args limits₀ x₀ y₀ i₀ limits x y i =
-    (length limits ≡ length limits₀) × (i ≤ length codes)
+Inv-loop codes args limits₀ n x₀ y₀ i₀ limits x y i =
+    (length limits ≡ length limits₀) × (n ≡ min (length codes) (length args))
     × (limitsFrom x y (drop i (paired codes args)) limits ≡ limitsFrom 0 0 (paired codes args) limits₀)
 
 abbrev μ-loop : tie.MeasureT-loop
-μ-loop codes args limits₀ x₀ y₀ i₀ limits x y i = length codes - i
+μ-loop codes args limits₀ n x₀ y₀ i₀ limits x y i = n - i
+
+least-requires : tie.Need-least-requires Inv-loop μ-loop
+least-requires c κs = search needs
 
 loop-holds : tie.Need-loop-holds Inv-loop μ-loop
-loop-holds c = (refl, omega arith, refl)
+loop-holds c = (refl, c .least .ensures, refl)
 
 mul-narrow : tie.Need-mul-narrow Inv-loop μ-loop
 mul-narrow c = search needs
@@ -67,11 +70,11 @@ loop-again c =
     let b = c .before .before .before in
     let t = b .before .before .before .before .narrow in
     let l = b .before .before .before .before .before .before .before .before .loop in
-    let s = b .before .before .before .before .before .before .before .before .before .before .before .before in
+    let s = b .before .before .before .before .before .before .before .before .before .before .before .before .before in
     let a = s .args in (
       t .kept .0 ∙ l .inv .0,
-      omega arith,
-      limits-more (a .codes .now) (a .args .now) (s .pre .0) (l .i) (l .x) (l .y) (b .behind .result) (c .behind2 .result) (l .limits) (t .last .0)
+      l .inv .1,
+      limits-more (a .codes .now) (a .args .now) (l .i) (l .x) (l .y) (b .behind .result) (c .behind2 .result) (l .limits) (t .last .0)
           (omega arith) (t .ensures) (b .behind .ensures) (c .behind2 .ensures)
           ∙ l .inv .2,
     )
@@ -82,9 +85,9 @@ same-length c = c .before .loop .inv .0
 returns : tie.Need-returns Inv-loop μ-loop
 returns c =
     let l = c .before .loop in
-    let s = c .before .before .before .before .before in
+    let s = c .before .before .before .before .before .before in
     let a = s .args in
-    sym (limits-end (a .codes .now) (a .args .now) (s .pre .0) (l .i) (l .x) (l .y) (l .limits) (omega arith)) ∙ l .inv .2
+    sym (limits-end (a .codes .now) (a .args .now) (l .i) (l .x) (l .y) (l .limits) (omega arith)) ∙ l .inv .2
 
 pub narrow-all-spec : {M : Type 1} → statement M
 narrow-all-spec =
@@ -92,6 +95,7 @@ narrow-all-spec =
     (tie.spec
     Inv-loop
     μ-loop
+    least-requires
     loop-holds
     mul-narrow
     shared-slice-read-narrow

@@ -1,11 +1,10 @@
 -- `side_relations::relation_words` meets its contract. The invariant: with the rest filled, all of it is. The measure is what is left.
 -- Assumes nothing.
-use Prim.Native.Nat.{_+_, _-_}
+use Prim.Native.Nat.{_-_}
 use native.Mathlib.Omega.{arith}
 use mathlib.Core.Path.{_≡_, refl, sym, _∙_}
-use lib.Dec.{eqb}
 use lib.ListN.{length, length-set}
-use Rattle.kat.specs.Lists.{some}
+use Rattle.claims.specs.Query.{bit}
 use Rattle.words.specs.Memory.{words, changed}
 use Rattle.words.proofs.Words.{fill-begin, fill-more, fill-end}
 use Rattle.side_relations.specs.Relations.{relationAt}
@@ -14,18 +13,18 @@ use Rattle.side_relations.proofs.relation_words.Statement.{statement}
 use Rattle.side_relations.proofs.relation_words.Tie as tie
 
 abbrev Inv-loop : tie.InvT-loop
-Inv-loop codes limits rels₀ i₀ rels i =
+Inv-loop closed limits rels₀ i₀ rels i =
     (length rels ≡ length rels₀)
-    × (changed (λ j w. relationAt (λ k. some (λ d. eqb d (160 + k)) codes) limits j) rels i (length rels₀)
-    ≡ words (length rels₀) (relationAt (λ k. some (λ d. eqb d (160 + k)) codes) limits))
+    × (changed (λ j w. relationAt (λ k. bit k closed) limits j) rels i (length rels₀)
+    ≡ words (length rels₀) (relationAt (λ k. bit k closed) limits))
 
 abbrev μ-loop : tie.MeasureT-loop
-μ-loop codes limits rels₀ i₀ rels i = length rels₀ - i
+μ-loop closed limits rels₀ i₀ rels i = length rels₀ - i
 
 loop-holds : tie.Need-loop-holds Inv-loop μ-loop
 loop-holds c =
-    let a = c .before .before .before .args in
-    (refl, fill-begin (relationAt (λ k. some (λ d. eqb d (160 + k)) (a .codes .now)) (a .limits .now)) (a .rels .now))
+    let a = c .before .before .args in
+    (refl, fill-begin (relationAt (λ k. bit k (a .closed)) (a .limits .now)) (a .rels .now))
 
 relation-at-requires : tie.Need-relation-at-requires Inv-loop μ-loop
 relation-at-requires c κs = omega arith
@@ -45,9 +44,9 @@ loop-less c = omega arith
 loop-again : tie.Need-loop-again Inv-loop μ-loop
 loop-again c =
     let l = c .before .before .loop in
-    let a = c .before .before .before .before .before .before .args in (
+    let a = c .before .before .before .before .before .args in (
       simp length-set (l .inv .0),
-      fill-more (relationAt (λ k. some (λ d. eqb d (160 + k)) (a .codes .now)) (a .limits .now)) (l .rels) (length (a .rels .now)) (l .i) _
+      fill-more (relationAt (λ k. bit k (a .closed)) (a .limits .now)) (l .rels) (length (a .rels .now)) (l .i) _
           (omega arith) (omega arith) (c .relation-at .ensures)
           ∙ l .inv .1,
     )
@@ -58,8 +57,8 @@ same-length c = c .before .loop .inv .0
 returns : tie.Need-returns Inv-loop μ-loop
 returns c =
     let l = c .before .loop in
-    let a = c .before .before .before .before .before .args in
-    sym (fill-end (relationAt (λ k. some (λ d. eqb d (160 + k)) (a .codes .now)) (a .limits .now)) (l .rels) (length (a .rels .now)) (l .i) (omega arith))
+    let a = c .before .before .before .before .args in
+    sym (fill-end (relationAt (λ k. bit k (a .closed)) (a .limits .now)) (l .rels) (length (a .rels .now)) (l .i) (omega arith))
     ∙ l .inv .1
 
 pub relation-words-spec : {M : Type 1} → statement M

@@ -1,7 +1,7 @@
 -- `side_relations::removed_set` meets its contract. The invariant: what is removed so far, with what the codes that are left remove, is
 -- what all of them remove. The measure is what is left.
 -- Assumes nothing.
-use Prim.Native.Nat.{_-_, _≤_}
+use Prim.Native.Nat.{_-_, min}
 use native.Mathlib.Omega.{arith}
 use mathlib.Core.Path.{_≡_, sym, _∙_}
 use lib.Bits.{bitOr, or-zero-l}
@@ -14,13 +14,17 @@ use Rattle.side_relations.proofs.removed_set.Statement.{statement}
 use Rattle.side_relations.proofs.removed_set.Tie as tie
 
 abbrev Inv-loop : tie.InvT-loop
-Inv-loop codes args s₀ i₀ s i = (i ≤ length codes) × (bitOr s (removedSet (drop i (paired codes args))) ≡ removedSet (paired codes args))
+Inv-loop codes args n s₀ i₀ s i =
+    (n ≡ min (length codes) (length args)) × (bitOr s (removedSet (drop i (paired codes args))) ≡ removedSet (paired codes args))
 
 abbrev μ-loop : tie.MeasureT-loop
-μ-loop codes args s₀ i₀ s i = length codes - i
+μ-loop codes args n s₀ i₀ s i = n - i
+
+least-requires : tie.Need-least-requires Inv-loop μ-loop
+least-requires c κs = search needs
 
 loop-holds : tie.Need-loop-holds Inv-loop μ-loop
-loop-holds c = let a = c .before .before .args in (omega arith, or-zero-l (removedSet (paired (a .codes .now) (a .args .now))))
+loop-holds c = let a = c .before .before .before .args in (c .least .ensures, or-zero-l (removedSet (paired (a .codes .now) (a .args .now))))
 
 mul-behind : tie.Need-mul-behind Inv-loop μ-loop
 mul-behind c = search needs
@@ -46,18 +50,18 @@ loop-less c = omega arith
 loop-again : tie.Need-loop-again Inv-loop μ-loop
 loop-again c =
     let l = c .before .before .before .before .loop in
-    let s = c .before .before .before .before .before .before .before in
+    let s = c .before .before .before .before .before .before .before .before in
     let a = s .args in (
-      omega arith,
-      removed-more (a .codes .now) (a .args .now) (s .pre) (l .i) (l .s) (c .behind .result) (omega arith) (c .behind .ensures) ∙ l .inv .1,
+      l .inv .0,
+      removed-more (a .codes .now) (a .args .now) (l .i) (l .s) (c .behind .result) (omega arith) (c .behind .ensures) ∙ l .inv .1,
     )
 
 returns : tie.Need-returns Inv-loop μ-loop
 returns c =
     let l = c .before .loop in
-    let s = c .before .before .before .before in
+    let s = c .before .before .before .before .before in
     let a = s .args in
-    sym (removed-end (a .codes .now) (a .args .now) (s .pre) (l .i) (l .s) (omega arith)) ∙ l .inv .1
+    sym (removed-end (a .codes .now) (a .args .now) (l .i) (l .s) (omega arith)) ∙ l .inv .1
 
 pub removed-set-spec : {M : Type 1} → statement M
 removed-set-spec =
@@ -65,6 +69,7 @@ removed-set-spec =
     (tie.spec
     Inv-loop
     μ-loop
+    least-requires
     loop-holds
     mul-behind
     shared-slice-read-behind

@@ -1,7 +1,7 @@
 -- `side_stack::mark_of` meets its contract.
 -- Assumes nothing.
 use native.Mathlib.Omega.{arith}
-use mathlib.Core.Path.{refl, sym, _∙_}
+use mathlib.Core.Path.{refl}
 use borrow.Author.Needs.{needs}
 use Rattle.side_stack.proofs.mark_of.Statement.{statement}
 use Rattle.side_stack.proofs.mark_of.Tie as tie

@@ -3,7 +3,7 @@
 use Rattle.side_stack.proofs.PartsInMemory.{used-stored}
 use Rattle.side_stack.specs.Stack.{usedIn, stackIn}
 use native.Mathlib.Omega.{arith}
-use mathlib.Core.Path.{_≡_, _∙_, ap, subst⁻¹}
+use mathlib.Core.Path.{_∙_, ap}
 use Prim.Native.Nat.{_+_, min}
 use borrow.Author.Needs.{needs}
 use Rattle.side_stack.proofs.one_more.Statement.{statement}

@@ -1,9 +1,9 @@
 -- `side_stack::second` meets its contract.
 -- Assumes nothing.
 use Rattle.side_stack.proofs.PartsInMemory.{under-in}
-use Rattle.side_stack.specs.Stack.{topPart, underPart, pushPart, partsIn, heightIn, stackIn}
+use Rattle.side_stack.specs.Stack.{topPart, heightIn, stackIn}
 use native.Mathlib.Omega.{arith}
-use mathlib.Core.Path.{_≡_, sym, _∙_, ap}
+use mathlib.Core.Path.{_∙_, ap}
 use Prim.Native.Nat.{_-_}
 use borrow.Author.Needs.{needs}
 use Rattle.side_stack.proofs.second.Statement.{statement}

@@ -1,0 +1,2 @@
+-- The answer to a sheet from its part.
+pub mod Ended

@@ -1,0 +1,2 @@
+-- Memory that is 0.
+pub mod Blank
