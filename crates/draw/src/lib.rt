@@ -4,7 +4,7 @@
 use query::Answer;
 use refusals::Reason;
 use sheet_checked::Checked;
-ghost use Prim.Native.Nat.{ℕ, _≤_};
+ghost use Prim.Native.Nat.{ℕ};
 ghost use mathlib.Core.Path.{_≡_};
 ghost use lib.ListN.{length, take};
 ghost use Rattle.draw_rows.specs.Rows.{eventCount};
@@ -24,9 +24,8 @@ pub enum Drawing {
     Refused(Reason, usize),
 }
 
-// The graph drawn from the numbers of a word, for a query of at most 16 relations, as the reader's are.
-fn draw_word(word: &[u8], ring: bool, closed: u64, relations: usize, out: &mut [u8]) -> Drawing
-    requires { ⌜ relations ≤ 16 ⌝ }
+// The graph drawn from the numbers of a word, with so many relations.
+fn draw_word(word: &[u8], ring: bool, closed: u64, relations: u8, out: &mut [u8]) -> Drawing
     ensures { λ r. ⌜ Draws (drew (eventCount ring (length (now (word .entry))))
         (bytesOf (now (word .entry)) (eventCount ring (length (now (word .entry)))) closed relations) (now (out .entry))) r (now (out .exit)) ⌝ }
 {
@@ -34,11 +33,11 @@ fn draw_word(word: &[u8], ring: bool, closed: u64, relations: usize, out: &mut [
     if 64 < n {
         return Drawing::TooLarge(n);
     }
-    let size = draw_bytes::graph_length(word, n as u8, closed, relations as u8);
+    let size = draw_bytes::graph_length(word, n as u8, closed, relations);
     if out.len() < size {
         return Drawing::Short;
     }
-    draw_bytes::put_graph(out, word, n as u8, closed, relations as u8);
+    draw_bytes::put_graph(out, word, n as u8, closed, relations);
     Drawing::Graph(size)
 }
 
@@ -63,7 +62,7 @@ pub fn draw(text: &[u8], sheet: &[u8], out: &mut [u8]) -> Drawing
                     &sheet[7..],
                     f.ring,
                     draw_rows::closed_set(&codes),
-                    f.relations,
+                    f.relations as u8,
                     out,
                 ),
             }

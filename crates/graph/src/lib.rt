@@ -76,10 +76,8 @@ pub fn judge(text: &[u8], graph: &[u8]) -> Judged
     ensures means { λ r. ⌜ ((j : Judgement) → resultOf r ≡ ok j → IsMeaning (now (text .entry)) (now (graph .entry)) j) ⌝ }
 {
     let mut codes = [0u64; 4096];
-    let mut left = [0u64; 4241];
-    let mut right = [0u64; 4241];
     let mut listed = [0u64; 1088];
-    let asked = query::read(text, &mut codes, &mut left, &mut right);
+    let asked = query::read_codes(text, &mut codes);
     match asked {
         Answer::Refused(why, place) => Judged::Refused(why, place),
         Answer::Accepted(f) => {

@@ -100,3 +100,22 @@ pub fn read(
         }
     }
 }
+
+// Reads the query for the tables of its two sides. Its codes are needed no longer then, and their memory is this call's own.
+pub fn read_sides(text: &[u8], left: &mut [u64; 4241], right: &mut [u64; 4241]) -> Answer
+    ensures { λ r. ⌜ Says (reading (now (text .entry))) r
+        × (now (left .exit) ≡ leftAfter (reading (now (text .entry))))
+        × (now (right .exit) ≡ rightAfter (reading (now (text .entry)))) ⌝ }
+{
+    let mut codes = [0u64; 4096];
+    read(text, &mut codes, left, right)
+}
+
+// Reads the query for its codes. The tables of its two sides are built as well, for the facts, in memory that is this call's own.
+pub fn read_codes(text: &[u8], codes: &mut [u64; 4096]) -> Answer
+    ensures { λ r. ⌜ Says (reading (now (text .entry))) r × (now (codes .exit) ≡ leftCodes (reading (now (text .entry)))) ⌝ }
+{
+    let mut left = [0u64; 4241];
+    let mut right = [0u64; 4241];
+    read(text, codes, &mut left, &mut right)
+}

@@ -1,3 +1,2 @@
--- The contracts of the search call and of the call on a decision with records of its own, as a function that calls them takes them.
+-- The contract of the search call, as a function that calls it takes it.
 pub mod Search
-pub mod DecideAlone

@@ -5,8 +5,12 @@ use refusals::Reason;
 use search_outcomes::Outcome;
 use search_records::Record;
 ghost use Prim.Native.Nat.{_≤_, _<_};
+ghost use mathlib.Core.List.{List};
+ghost use lib.ListN.{replicate};
 ghost use Rattle.claims.specs.Sides.{Decision};
 ghost use Rattle.claims.specs.Calls.{Asked, searchAsked, searched, finish};
+ghost use Rattle.search_records.specs.declared.Record.{Record};
+ghost use Rattle.search_records.specs.Records.{blank};
 ghost use Rattle.search_records.specs.Rows.{rows};
 ghost use Rattle.search_grow.specs.Kept.{state, Ready};
 ghost use Rattle.search_outcomes.specs.Outcomes.{lentOf, Gives};
@@ -70,4 +74,29 @@ pub fn decide(
         return Outcome::Refused(Reason::ShortMemory, 0);
     }
     run(f, left, right, allowance, records, words, buffer)
+}
+
+// The search on a decision with records of its own, as if 4,096 records of zeros had been lent. Every decision of the reader has at most 16
+// relations, which is what is required.
+pub fn decide_alone(
+    f: Facts,
+    left: &[u64; 4241],
+    right: &[u64; 4241],
+    allowance: usize,
+    words: &mut [u64],
+    buffer: &mut [u8],
+) -> Outcome
+    requires { ⌜ f .relations ≤ 16 ⌝ }
+    ensures { λ r.
+        ⌜ ((after : List Record) × ((a : Asked) → Decided f (now (left .entry)) (now (right .entry)) (a .decided)
+        → Gives (searchAsked a allowance (lentOf (replicate 4096 blank) (now (words .entry)) (now (buffer .entry)))) r
+        (lentOf after (now (words .exit)) (now (buffer .exit))))) ⌝ }
+{
+    let mut records = [Record {
+        p: 0,
+        s: 0,
+        parent: 0,
+        letter: 0,
+    }; 4096];
+    decide(f, left, right, allowance, &mut records, words, buffer)
 }

@@ -16,10 +16,9 @@ pub fn check(text: &[u8], sheet: &[u8]) -> Checked
     ensures proved { λ r. ⌜ (r ≡ Proved → HoldsInEveryGraph (now (text .entry))) ⌝ }
     ensures refuted { λ r. ⌜ (r ≡ Refuted → DrawnGraphBreaks (now (text .entry)) (now (sheet .entry))) ⌝ }
 {
-    let mut codes = [0u64; 4096];
     let mut left = [0u64; 4241];
     let mut right = [0u64; 4241];
-    let asked = query::read(text, &mut codes, &mut left, &mut right);
+    let asked = query::read_sides(text, &mut left, &mut right);
     match asked {
         Answer::Refused(why, place) => Checked::Refused(why, place),
         Answer::Accepted(f) => sheet_checked::check_decided(f, &left, &right, sheet),

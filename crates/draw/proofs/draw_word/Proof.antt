@@ -18,9 +18,6 @@ returns c =
 cast-graph-length : tie.Need-cast-graph-length
 cast-graph-length c = search needs
 
-cast-graph-length-2 : tie.Need-cast-graph-length-2
-cast-graph-length-2 c = search needs
-
 graph-length-requires : tie.Need-graph-length-requires
 graph-length-requires c κs = search needs
 
@@ -32,9 +29,6 @@ returns-2 c =
 
 cast-put-graph : tie.Need-cast-put-graph
 cast-put-graph c = search needs
-
-cast-put-graph-2 : tie.Need-cast-put-graph-2
-cast-put-graph-2 c = search needs
 
 put-graph-requires : tie.Need-put-graph-requires
 put-graph-requires c κs = search needs
@@ -56,11 +50,9 @@ draw-word-spec =
     event-count-requires
     returns
     cast-graph-length
-    cast-graph-length-2
     graph-length-requires
     returns-2
     cast-put-graph
-    cast-put-graph-2
     put-graph-requires
     same-length
     returns-3)

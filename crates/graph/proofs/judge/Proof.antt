@@ -9,8 +9,8 @@ use borrow.Author.Needs.{needs}
 use Rattle.graph.proofs.judge.Statement.{statement}
 use Rattle.graph.proofs.judge.Tie as tie
 
-read-requires : tie.Need-read-requires
-read-requires c κs = search needs
+read-codes-requires : tie.Need-read-codes-requires
+read-codes-requires c κs = search needs
 
 enum-known-asked : tie.Need-enum-known-asked
 enum-known-asked c = search needs
@@ -18,8 +18,8 @@ enum-known-asked c = search needs
 enum-known-asked-2 : tie.Need-enum-known-asked-2
 enum-known-asked-2 c = search needs
 
-read-requires-2 : tie.Need-read-requires-2
-read-requires-2 c κs = search needs
+read-requires : tie.Need-read-requires
+read-requires c κs = search needs
 
 enum-known-r : tie.Need-enum-known-r
 enum-known-r c = search needs
@@ -38,15 +38,15 @@ answer-requires c κs = search needs
 
 returns : tie.Need-returns
 returns c =
-    let r = c .before .before .before .read in
+    let r = c .before .before .before .read-codes in
     let says = query-refused _ _ (r .result) (r .ensures .0) _ _ (c .before .asked .given .1) in
     (says, answer-means _ _ _ says)
 
 returns-2 : tie.Need-returns-2
 returns-2 c =
-    let g = c .before .before .before .read2 in
+    let g = c .before .before .before .read in
     let a = c .before .before .before .before .before .before in
-    let r = a .before .before .read in
+    let r = a .before .before .read-codes in
     let said = subst (Says (read _)) (a .asked2 .given .1) (r .ensures .0) in
     let says = wrong-field _ _ said _ (r .ensures .1) _ _ refl (g .result) (g .ensures .0) _ (c .before .r .given .1) in
     (says, answer-means _ _ _ says)
@@ -54,9 +54,9 @@ returns-2 c =
 returns-3 : tie.Need-returns-3
 returns-3 c =
     let t = c .before .before .before .before in
-    let g = t .before .before .before .before .before .read2 in
+    let g = t .before .before .before .before .before .read in
     let a = t .before .before .before .before .before .before .before .before in
-    let r = a .before .before .read in
+    let r = a .before .before .read-codes in
     let said = subst (Says (read _)) (a .asked2 .given .1) (r .ensures .0) in
     let says =
     events-judged _ _ said _ (r .ensures .1) _ _ refl (g .result) (g .ensures .0) _ (t .before .before .before .r2 .given .1) _
@@ -68,10 +68,10 @@ pub judge-spec : {M : Type 1} → statement M
 judge-spec =
     tie.close
     (tie.spec
-    read-requires
+    read-codes-requires
     enum-known-asked
     enum-known-asked-2
-    read-requires-2
+    read-requires
     enum-known-r
     enum-known-r-2
     close-relations-requires

@@ -6,8 +6,8 @@ use Rattle.sheet.proofs.Evidence.{passes-proved, passes-refuted}
 use Rattle.sheet.proofs.check.Statement.{statement}
 use Rattle.sheet.proofs.check.Tie as tie
 
-read-requires : tie.Need-read-requires
-read-requires c κs = search needs
+read-sides-requires : tie.Need-read-sides-requires
+read-sides-requires c κs = search needs
 
 enum-known-asked : tie.Need-enum-known-asked
 enum-known-asked c = search needs
@@ -20,22 +20,22 @@ check-decided-requires c κs = search needs
 
 returns : tie.Need-returns
 returns c =
-    let r = c .before .before .before .read in
+    let r = c .before .before .before .read-sides in
     let says = refused-says _ _ (r .result) (r .ensures .0) _ _ (c .before .asked .given .1) in
     (says, (passes-proved _ _ _ says, passes-refuted _ _ _ says))
 
 returns-2 : tie.Need-returns-2
 returns-2 c =
     let a = c .before .before .before .before in
-    let r = a .before .before .read in
-    let says = accepted-says _ _ (r .result) (r .ensures .0) _ (a .asked2 .given .1) _ _ (r .ensures .2) (r .ensures .3) _ (c .check-decided .ensures) in
+    let r = a .before .before .read-sides in
+    let says = accepted-says _ _ (r .result) (r .ensures .0) _ (a .asked2 .given .1) _ _ (r .ensures .1) (r .ensures .2) _ (c .check-decided .ensures) in
     (says, (passes-proved _ _ _ says, passes-refuted _ _ _ says))
 
 pub check-spec : {M : Type 1} → statement M
 check-spec =
     tie.close
     (tie.spec
-    read-requires
+    read-sides-requires
     enum-known-asked
     enum-known-asked-2
     check-decided-requires

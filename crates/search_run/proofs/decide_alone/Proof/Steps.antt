@@ -1,4 +1,4 @@
--- The derivation of `search::decide_alone`, a line for each step of its MIR: the borrow checker's own rules, in the order in which it applies them to the same code
+-- The derivation of `search_run::decide_alone`, a line for each step of its MIR: the borrow checker's own rules, in the order in which it applies them to the same code
 -- over rows of four numbers (`derivations`).
 -- Assumes nothing.
 use Prim.Native.Nat.{suc, ℕ}
@@ -44,14 +44,14 @@ use mir.Syntax.{Ty, erased, field, imm, mut, named, tyArray, tyInt, tyRef, w64, 
 use prog.Wp.{Env, Heap, Tables}
 use types.Kit.{Given}
 use Rattle.derivations.proofs.Plain as Plain
-use Rattle.search.proofs.Contracts.DecideAlone.{ps, r}
+use Rattle.search_run.proofs.Contracts.DecideAlone.{ps, r}
 use Rattle.search_run.proofs.Contracts.Decide as Decide
 use Rattle.query.proofs.Facts.Laws as Facts′
 use Rattle.search_outcomes.proofs.Outcome.Laws as Outcome′
 use Rattle.search_records.proofs.Record.Laws as Record′
 use Rattle.query.proofs.Facts
 use Rattle.search_records.proofs.Record
-use Rattle.search.proofs.decide_alone.Code as code
+use Rattle.search_run.proofs.decide_alone.Code as code
 
 abbrev pub xs : List Ty
 xs = tysOf (suc (code.function .params)) (code.function .locals)

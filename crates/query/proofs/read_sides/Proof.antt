@@ -1,8 +1,8 @@
--- `search::read_sides` meets its contract.
+-- `query::read_sides` meets its contract.
 -- Assumes nothing.
 use borrow.Author.Needs.{needs}
-use Rattle.search.proofs.read_sides.Statement.{statement}
-use Rattle.search.proofs.read_sides.Tie as tie
+use Rattle.query.proofs.read_sides.Statement.{statement}
+use Rattle.query.proofs.read_sides.Tie as tie
 
 read-requires : tie.Need-read-requires
 read-requires c κs = search needs

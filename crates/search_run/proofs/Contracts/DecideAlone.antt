@@ -1,4 +1,4 @@
--- The contract of `search::decide_alone`: the kinds of its parameters and of its result, and the reading of its clauses, which are plain facts.
+-- The contract of `search_run::decide_alone`: the kinds of its parameters and of its result, and the reading of its clauses, which are plain facts.
 -- Assumes nothing.
 use Rattle.derivations.proofs.Derive.{pStruct, rEnum}
 use borrow.Fn.Kind.{PK, RK}
@@ -15,8 +15,8 @@ use Rattle.query.proofs.Facts.Laws as Facts′
 use Rattle.search_outcomes.proofs.Outcome.Laws as Outcome′
 use Rattle.query.proofs.Facts
 use Rattle.search_outcomes.proofs.Outcome
-use Rattle.search.proofs.decide_alone as fn
-use Rattle.search.proofs.decide_alone.Symbol as symbol
+use Rattle.search_run.proofs.decide_alone as fn
+use Rattle.search_run.proofs.decide_alone.Symbol as symbol
 
 abbrev pub ps : List (PK 4)
 ps = (pStruct Facts.the-type Facts′.the-laws Facts′.the-copy Facts′.the-plain) ∷ (pShr (Array (rtF (fInt w64)) 4241) 0 tt) ∷ (pShr (Array (rtF (fInt w64)) 4241) 1 tt) ∷ (pNum w64) ∷ (pMutS (rtF (fInt w64)) 2 tt) ∷ (pMutS (rtF (fInt w8)) 3 tt) ∷ []

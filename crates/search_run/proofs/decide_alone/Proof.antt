@@ -1,4 +1,4 @@
--- `search::decide_alone` meets its contract: it is the search on a decision with records of zeros. `Steps` has the derivation.
+-- `search_run::decide_alone` meets its contract: it is the search on a decision with records of zeros. `Steps` has the derivation.
 -- Assumes nothing.
 use Prim.Native.Nat.{ℕ}
 use mathlib.Core.List.{List}
@@ -18,13 +18,13 @@ use borrow.Fn.Run.{Over}
 use borrow.Fn.World.{World}
 use Rattle.derivations.proofs.Derive.{fix, homesOf}
 use Rattle.derivations.proofs.Plain as Plain
-use Rattle.search.proofs.Contracts.DecideAlone.{ps, r, spec}
+use Rattle.search_run.proofs.Contracts.DecideAlone.{ps, r, spec}
 use Rattle.search_run.proofs.decide.Met as decide-Met
 use Rattle.search_run.proofs.decide.Symbol as decide-Symbol
 use Rattle.search_run.proofs.Contracts.Decide as Decide
-use Rattle.search.proofs.decide_alone.Code as code
-use Rattle.search.proofs.decide_alone.Proof.Steps.{xs, d}
-use Rattle.search.proofs.decide_alone.Statement as stated
+use Rattle.search_run.proofs.decide_alone.Code as code
+use Rattle.search_run.proofs.decide_alone.Proof.Steps.{xs, d}
+use Rattle.search_run.proofs.decide_alone.Statement as stated
 mod Steps
 
 module _ {M : Type 1} (𝓤 : URA M) (H : Heap 𝓤) (A : Atoms 𝓤) (W : Given 𝓤 H A) (𝓣 : Tables 𝓤 H)
