@@ -24,8 +24,9 @@ use Rattle.bits.specs.Sets.{members}
 use Rattle.bits.proofs.Members.{number-in}
 use Rattle.side_tables.specs.SideTable.{sideTable}
 use Rattle.search_words.specs.declared.Shape.{Shape}
-use Rattle.search_atoms.specs.Masks.{maskOf, maskAt, masksOf}
-use Rattle.search_atoms.proofs.Kept.{live-bit, mask-path, mask-ring}
+use Rattle.standings.specs.Alike.{alikeAt}
+use Rattle.standings.proofs.LowestAlike.{live-bit, lowestSet, lowest-path, lowest-ring}
+use Rattle.search_atoms.specs.Masks.{alikeWords, lowestWords, maskOf, maskAt, masksOf}
 
 -- a test that all pass
 pub filter-all : {A : Type 0} (p : A → Bool) (l : List A) → ((x : A) → In x l → p x ≡ true) → filter p l ≡ l
@@ -84,14 +85,23 @@ module _ (D : Decision) (few-left : occurrences (D .left) ≤ 64) (few-right : o
       ∙ ap (λ b. cond b (maskOf k (occurrences (D .left)) (sideTable (D .left)) (sideTable (D .right)) r) 0)
       (lt-ltb r (k .relations) (omega arith))
 
+  -- a mask is the set of the lowest atoms that are alike, by the decision
+  mask-is : (ring : Bool) → k .ring ≡ ring → (r : ℕ)
+      → maskOf k (occurrences (D .left)) (sideTable (D .left)) (sideTable (D .right)) r
+      ≡ lowestSet (alikeAt ring (occurrences (D .left)) (occurrences (D .right)) (sideTable (D .left)) (sideTable (D .right)) r) (setNumber 0 (D .live))
+  unfolding maskOf lowestWords alikeWords
+  mask-is ring e r =
+      ap (λ c. lowestSet (alikeAt c (occurrences (D .left)) (k .right) (sideTable (D .left)) (sideTable (D .right)) r) (k .live)) e
+      ∙ ap₂ (λ m s. lowestSet (alikeAt ring (occurrences (D .left)) m (sideTable (D .left)) (sideTable (D .right)) r) s) right live
+
   -- the letters that a path claim tries
   pub letters-by-path-masks : k .ring ≡ false
       → filter (λ l. bit (l .atom) (getD masks (l .relation) 0)) (lettersOf (members (k .live)) (upto 0 (k .relations)))
       ≡ filter (pathLetter D) (letters (pathSystem D))
   letters-by-path-masks path =
       letters-tried (pathSystem D) (k .live) (k .relations) live rising count few masks (pathLetter D)
-      (λ l a r f. ap (bit (l .atom)) (mask-there (l .relation) r (f .1))
-      ∙ mask-path D few-left few-right k right live rising (l .relation) (l .atom) r a path)
+      (λ l a r f. ap (bit (l .atom)) (mask-there (l .relation) r (f .1) ∙ mask-is false path (l .relation))
+      ∙ lowest-path D few-left few-right rising (l .relation) (l .atom) r a)
 
   -- the letters that a ring claim tries from level 2 on
   pub letters-by-ring-masks : k .ring ≡ true
@@ -99,5 +109,5 @@ module _ (D : Decision) (few-left : occurrences (D .left) ≤ 64) (few-right : o
       ≡ filter (ringLetter D) (letters (ringSystem D))
   letters-by-ring-masks ring =
       letters-tried (ringSystem D) (k .live) (k .relations) live rising count few masks (ringLetter D)
-      (λ l a r f. ap (bit (l .atom)) (mask-there (l .relation) r (f .1))
-      ∙ mask-ring D few-left few-right k right live rising (l .relation) (l .atom) r a ring)
+      (λ l a r f. ap (bit (l .atom)) (mask-there (l .relation) r (f .1) ∙ mask-is true ring (l .relation))
+      ∙ lowest-ring D few-left few-right rising (l .relation) (l .atom) r a)

@@ -2,44 +2,24 @@
 -- atom is alike before it. (Document 01, "Standings".) The tests stand in the order in which the code makes them. `proofs/` shows that a mask
 -- holds the atoms that `claims` keeps, so that the search tries the letters that `claims` lets it try.
 -- Assumes nothing.
-use Prim.Native.Nat.{ℕ, suc, min}
-use mathlib.Core.Bool.{Bool, true, cond, not, _&&_, Bool·beq}
-use mathlib.Core.List.{List, [], _∷_}
-use lib.Bits.{bitAnd}
-use lib.Dec.{eqb, ltb}
-use Rattle.kat.specs.Lists.{upto, some, every}
+use Prim.Native.Nat.{ℕ}
+use mathlib.Core.Bool.{Bool, cond}
+use mathlib.Core.List.{List}
+use lib.Dec.{ltb}
 use Rattle.words.specs.Memory.{words}
-use Rattle.bits.specs.Sets.{including, allBelow, members}
+use Rattle.bits.specs.Sets.{members}
 use Rattle.search_words.specs.declared.Shape.{Shape}
-use Rattle.standings.specs.Steps.{stepFrom, enders, nullAt}
-
--- after p, the same occurrences that read r may come next at atom a and at atom b ("Standings")
-unfoldable pub rowAlike : List ℕ → ℕ → ℕ → ℕ → ℕ → Bool
-rowAlike t r a b p = eqb (stepFrom t p a r) (stepFrom t p b r)
-
--- so after each p, from 0 to n, of a side with n occurrences; it has at most 64 ("Standings")
-unfoldable pub rowsAlike : List ℕ → ℕ → ℕ → ℕ → ℕ → Bool
-rowsAlike t n r a b = every (rowAlike t r a b) (upto 0 (suc (min n 64)))
-
--- both or neither of the single atoms a and b are words, and the same occurrences may be last at a and at b ("Standings")
-unfoldable pub endsAlike : List ℕ → ℕ → ℕ → Bool
-endsAlike t a b = Bool·beq (nullAt t a) (nullAt t b) && eqb (enders t a) (enders t b)
-
--- the set m with those of the numbers listed that pass a test ("Standings")
-unfoldable pub gathered : (ℕ → Bool) → List ℕ → ℕ → ℕ
-gathered p [] m = m
-gathered p (a ∷ as′) m = gathered p as′ (cond (p a) (including 64 m a) m)
+use Rattle.standings.specs.Alike.{gathered, alikeAt, noLower}
 
 -- n left occurrences, and the tables of the two sides ("Standings")
 module _ (k : Shape) (n : ℕ) (left right : List ℕ) where
   -- atoms a and b are alike before r; in a ring claim also the right words that end there are ("Standings")
   unfoldable pub alikeWords : ℕ → ℕ → ℕ → Bool
-  alikeWords r a b =
-      cond (k .ring) (endsAlike right a b) true && rowsAlike left n r a b && rowsAlike right (k .right) r a b
+  alikeWords = alikeAt (k .ring) n (k .right) left right
 
   -- no live atom below a is alike before r ("Standings")
   unfoldable pub lowestWords : ℕ → ℕ → Bool
-  lowestWords r a = not (some (alikeWords r a) (members (bitAnd (k .live) (allBelow 64 a))))
+  lowestWords r = noLower (alikeWords r) (k .live)
 
   -- the live atoms to try before r ("Standings")
   unfoldable pub maskOf : ℕ → ℕ

@@ -4,7 +4,7 @@
 use Prim.Native.Nat.{ℕ, _≤_, _<_}
 use native.Mathlib.Omega.{arith}
 use mathlib.Core.Path.{_≡_, refl, sym, _∙_, ap}
-use mathlib.Core.Bool.{true, false, cond, _&&_, _||_}
+use mathlib.Core.Bool.{Bool, true, false, cond, _&&_, _||_}
 use mathlib.Core.List.{List}
 use lib.ListN.{getD}
 use borrow.Author.Tests.{lt-ltb}
@@ -28,9 +28,10 @@ use Rattle.query.specs.Answer.{factsOf}
 use Rattle.query.specs.Decided.{Decided}
 use Rattle.standings.proofs.LettersOf.{LettersOf, live-below}
 use Rattle.side_tables.specs.SideTable.{sideTable}
-use Rattle.sheet_atoms.specs.Masks.{lowestWords, maskOf, maskAt, masksOf, tried}
+use Rattle.standings.specs.Alike.{alikeAt}
+use Rattle.standings.proofs.LowestAlike.{gathered-bit, lowestSet, lowest-path, lowest-ring}
+use Rattle.sheet_atoms.specs.Masks.{alikeWords, lowestWords, maskOf, maskAt, masksOf, tried}
 use Rattle.sheet_atoms.proofs.Decided.{live-within, by-decided}
-use Rattle.sheet_atoms.proofs.Kept.{gathered-bit, mask-path, mask-ring}
 
 module _ (f : Facts) (left right : List ℕ) where
   -- the mask of a declared relation
@@ -63,17 +64,25 @@ module _ (n : ℕ) (D : Decision) (few-left : occurrences (D .left) ≤ 64) (few
       record { live-set = refl; live-rising = rising; relation-count = refl; few-relations = few } in
       live-below ls a (member-in a (D .live) m)
 
+  -- a mask is the set of the lowest atoms that are alike
+  mask-is : (ring : Bool) → D .ring ≡ ring → (r : ℕ)
+      → maskOf facts (sideTable (D .left)) (sideTable (D .right)) r
+      ≡ lowestSet (alikeAt ring (occurrences (D .left)) (occurrences (D .right)) (sideTable (D .left)) (sideTable (D .right)) r) (setNumber 0 (D .live))
+  unfolding maskOf lowestWords alikeWords factsOf
+  mask-is ring e r =
+      ap (λ c. lowestSet (alikeAt c (occurrences (D .left)) (occurrences (D .right)) (sideTable (D .left)) (sideTable (D .right)) r) (setNumber 0 (D .live))) e
+
   path-tried : D .ring ≡ false → (l : Letter) → Fits (pathSystem D) l → tried masks l ≡ pathLetter D l
   unfolding tried factsOf
   path-tried path l (m, h) =
-      ap (bit (l .atom)) (mask-there facts (sideTable (D .left)) (sideTable (D .right)) (l .relation) (omega arith) h)
-      ∙ mask-path D few-left few-right facts refl refl refl rising (l .relation) (l .atom) (omega arith) (atom-low (l .atom) m) path
+      ap (bit (l .atom)) (mask-there facts (sideTable (D .left)) (sideTable (D .right)) (l .relation) (omega arith) h ∙ mask-is false path (l .relation))
+      ∙ lowest-path D few-left few-right rising (l .relation) (l .atom) (omega arith) (atom-low (l .atom) m)
 
   ring-tried : D .ring ≡ true → (l : Letter) → Fits (ringSystem D) l → tried masks l ≡ ringLetter D l
   unfolding tried factsOf
   ring-tried ring l (m, h) =
-      ap (bit (l .atom)) (mask-there facts (sideTable (D .left)) (sideTable (D .right)) (l .relation) (omega arith) h)
-      ∙ mask-ring D few-left few-right facts refl refl refl rising (l .relation) (l .atom) (omega arith) (atom-low (l .atom) m) ring
+      ap (bit (l .atom)) (mask-there facts (sideTable (D .left)) (sideTable (D .right)) (l .relation) (omega arith) h ∙ mask-is true ring (l .relation))
+      ∙ lowest-ring D few-left few-right rising (l .relation) (l .atom) (omega arith) (atom-low (l .atom) m)
 
 module _ {f : Facts} {left right : List ℕ} {D : Decision} (d : Decided f left right D) where
   -- the letters that a path claim tries

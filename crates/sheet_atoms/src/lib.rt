@@ -7,7 +7,8 @@ use sheet_steps::step_from;
 use words::least;
 ghost use mathlib.Core.Path.{_≡_};
 ghost use mathlib.Core.Bool.{cond, true};
-ghost use Rattle.sheet_atoms.specs.Masks.{rowAlike, rowsAlike, endsAlike, alikeWords};
+ghost use Rattle.standings.specs.Alike.{rowAlike, rowsAlike, endsAlike};
+ghost use Rattle.sheet_atoms.specs.Masks.{alikeWords};
 
 // Whether the same occurrences that read r may come next after p at atom a and at atom b.
 fn row_alike(table: &[u64; 4241], r: usize, a: usize, b: usize, p: usize) -> bool

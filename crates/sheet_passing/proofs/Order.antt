@@ -27,7 +27,7 @@ use Rattle.query.specs.declared.Facts.{Facts}
 use Rattle.sheet_cells.specs.Layout.{listedCells}
 use Rattle.sheet_cells.specs.CellSystem.{beginCells, onwardCells, finalsCells}
 use Rattle.sheet_atoms.specs.Masks.{maskAt, masksOf, tried}
-use Rattle.sheet_atoms.proofs.Tests.{first-fails, second-fails, third-decides}
+use Rattle.standings.proofs.Tests.{first-fails, second-fails, third-decides}
 use Rattle.sheet_atoms.proofs.Letters.{mask-live}
 use Rattle.sheet_listed.specs.Listed.{partCells, listedAmong, atomsTried, stepped, letterListed, atomsListed, relationListed, lettersListed}
 use Rattle.sheet_passing.specs.Proves.{cellsOf, firstTried, laterTried, provesCells}

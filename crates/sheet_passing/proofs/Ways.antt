@@ -13,7 +13,7 @@ use Rattle.standings.specs.Steps.{nullAt, aloneWords}
 use Rattle.query.specs.declared.Facts.{Facts}
 use Rattle.sheet_cells.specs.Layout.{listedCells}
 use Rattle.sheet_cells.specs.CellSystem.{finalsCells}
-use Rattle.sheet_atoms.proofs.Tests.{not-false-true}
+use Rattle.standings.proofs.Tests.{not-false-true}
 use Rattle.sheet_listed.specs.Listed.{lettersListed, partCells}
 use Rattle.sheet_passing.specs.inner.Standings.{standingPasses, placePasses}
 

@@ -13,3 +13,9 @@ pub mod Shows
 -- What a letter reads next, and the turns of a ring.
 pub mod Moves
 pub mod Turns
+-- What the tests and the loops of code say of the definitions' tests.
+pub mod Tests
+pub mod Loops
+-- Alike atoms by the tables are alike by the expressions, and the lowest of them are those that are kept.
+pub mod AlikeRows
+pub mod LowestAlike

@@ -1,4 +1,4 @@
--- `circle_graphs::broken_line` meets its contract. By the case of the judgement.
+-- `broken_lines::broken_line` meets its contract. By the case of the judgement.
 -- Assumes nothing.
 use mathlib.Core.Path.{sym, ap}
 use Rattle.broken_lines.specs.BrokenLine.{brokenLine}

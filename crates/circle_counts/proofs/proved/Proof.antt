@@ -1,4 +1,4 @@
--- `circle_cases::proved` is safe and ends: it makes 24 graphs, and the lent memory keeps its lengths.
+-- `circle_counts::proved` is safe and ends: it makes 24 graphs, and the lent memory keeps its lengths.
 -- Assumes nothing.
 use Prim.Native.Nat.{_-_, _≤_}
 use mathlib.Core.Path.{_≡_}

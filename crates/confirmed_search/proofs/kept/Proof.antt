@@ -1,4 +1,4 @@
--- `evidence::kept` meets its contract. By the case of the outcome; what the check says of the sheet is `check-call`.
+-- `confirmed_search::kept` meets its contract. By the case of the outcome; what the check says of the sheet is `check-call`.
 -- Assumes nothing.
 use Rattle.evidence.proofs.Confirmed.{kept-proved-by, kept-refuted-by, kept-refused-by}
 use borrow.Author.Needs.{needs}

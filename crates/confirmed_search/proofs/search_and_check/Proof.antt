@@ -1,4 +1,4 @@
--- `evidence::search_and_check` meets its contract: the outcome of the search, kept by the check of its sheet, is the outcome. `Steps` has the
+-- `confirmed_search::search_and_check` meets its contract: the outcome of the search, kept by the check of its sheet, is the outcome. `Steps` has the
 -- derivation.
 -- Assumes nothing.
 use Prim.Native.Nat.{ℕ}

@@ -1,4 +1,4 @@
--- `dot::is_step` meets its contract. By the tests in their order.
+-- `dot_steps::is_step` meets its contract. By the tests in their order.
 -- Assumes nothing.
 use Rattle.dot_steps.proofs.Steps.{step-none, step-other, step-last, step-next}
 use borrow.Author.Needs.{needs}

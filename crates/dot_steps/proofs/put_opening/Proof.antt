@@ -1,4 +1,4 @@
--- `dot::put_opening` meets its contract. One text.
+-- `dot_steps::put_opening` meets its contract. One text.
 -- Assumes nothing.
 use Rattle.dot_steps.specs.DotText.{opening}
 use borrow.Author.Needs.{needs}

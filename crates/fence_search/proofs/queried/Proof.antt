@@ -1,4 +1,4 @@
--- `fence::queried` is safe and ends: each array that it lends has the length that its type says.
+-- `fence_search::queried` is safe and ends: each array that it lends has the length that its type says.
 -- Assumes nothing.
 use mathlib.Core.Path.{sym}
 use Prim.Native.Nat.{ℕ}

@@ -1,4 +1,4 @@
--- `fence::with_sheet` is safe and ends: each array that it lends has the length that its type says.
+-- `fence_sheet::with_sheet` is safe and ends: each array that it lends has the length that its type says.
 -- Assumes nothing.
 use mathlib.Core.Path.{sym}
 use Prim.Native.Nat.{ℕ}

@@ -1,4 +1,4 @@
--- `judge_line::judged_line` meets its contract: the line is that of what the judgement says.
+-- `judged_line::judged_line` meets its contract: the line is that of what the judgement says.
 -- Assumes nothing.
 use Rattle.judge_line.proofs.JudgedLaws.{as-said}
 use borrow.Author.Needs.{needs}

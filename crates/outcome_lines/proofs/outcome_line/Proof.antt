@@ -1,4 +1,4 @@
--- `fence_line::outcome_line` meets its contract. By the case of the outcome.
+-- `outcome_lines::outcome_line` meets its contract. By the case of the outcome.
 -- Assumes nothing.
 use Rattle.outcome_lines.proofs.OutcomeLines.{as-outcome, as-refuted}
 use borrow.Author.Needs.{needs}

@@ -1,4 +1,4 @@
--- `fence_line::proved_length` meets its contract. By the tests in their order.
+-- `outcome_lines::proved_length` meets its contract. By the tests in their order.
 -- Assumes nothing.
 use Rattle.outcome_lines.proofs.Lengths.{length-many, length-ring, length-path, length-short}
 use borrow.Author.Needs.{needs}

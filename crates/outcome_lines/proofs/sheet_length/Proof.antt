@@ -1,4 +1,4 @@
--- `fence_line::sheet_length` meets its contract. By the case of the outcome.
+-- `outcome_lines::sheet_length` meets its contract. By the case of the outcome.
 -- Assumes nothing.
 use mathlib.Core.Path.{_∙_, sym, ap}
 use Rattle.outcome_lines.specs.Shown.{lengthShown}

@@ -1,4 +1,4 @@
--- `fence_line::word_in` meets its contract. The part is the word, or all that there is.
+-- `outcome_lines::word_in` meets its contract. The part is the word, or all that there is.
 -- Assumes nothing.
 use Prim.Native.Nat.{_+_, _*_}
 use native.Mathlib.Omega.{arith}

@@ -1,4 +1,4 @@
--- `read_lines::check` meets its contract: the end of the line is judged first, and then its names.
+-- `read_declarations::check` meets its contract: the end of the line is judged first, and then its names.
 -- Assumes nothing.
 use Rattle.read_declarations.proofs.LineEnds.{checked-unended, checked-fine, checked-slip}
 use Rattle.read_declarations.specs.inner.Kinds.{checked}

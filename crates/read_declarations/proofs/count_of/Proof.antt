@@ -1,4 +1,4 @@
--- `read_lines::count_of` meets its contract: each arm gives what the definition's tests give.
+-- `read_declarations::count_of` meets its contract: each arm gives what the definition's tests give.
 -- Assumes nothing.
 use Rattle.read_declarations.specs.inner.Declaring.{countOf}
 use borrow.Author.Tests.{ne-eqb}

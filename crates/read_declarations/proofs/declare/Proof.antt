@@ -1,4 +1,4 @@
--- `read_lines::declare` meets its contract: the line is refused for what its check says or as one too many, or the name is entered.
+-- `read_declarations::declare` meets its contract: the line is refused for what its check says or as one too many, or the name is entered.
 -- Assumes nothing.
 use Rattle.read_declarations.proofs.Declaring.{answer-faulty, answer-crowd, answer-taken}
 use borrow.Author.Needs.{needs}

@@ -1,4 +1,4 @@
--- `read_lines::ends` meets its contract: the line ends where no token is found and byte 10 stands.
+-- `read_declarations::ends` meets its contract: the line ends where no token is found and byte 10 stands.
 -- Assumes nothing.
 use Rattle.read_declarations.proofs.LineEnds.{end-stands, end-missing}
 use borrow.Author.Needs.{needs}

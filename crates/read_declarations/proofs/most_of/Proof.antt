@@ -1,4 +1,4 @@
--- `read_lines::most_of` meets its contract: each arm gives what the definition's tests give.
+-- `read_declarations::most_of` meets its contract: each arm gives what the definition's tests give.
 -- Assumes nothing.
 use Rattle.read_declarations.specs.inner.Declaring.{mostOf}
 use borrow.Author.Tests.{ne-eqb}

@@ -1,4 +1,4 @@
--- `read_lines::one_if` meets its contract, by the test of the two numbers.
+-- `read_declarations::one_if` meets its contract, by the test of the two numbers.
 -- Assumes nothing.
 use borrow.Author.Tests.{eq-eqb, ne-eqb}
 use native.Mathlib.Omega.{arith}

@@ -1,4 +1,4 @@
--- `read_lines::one_more` meets its contract. No sum wraps, since no more is declared than may be.
+-- `read_declarations::one_more` meets its contract. No sum wraps, since no more is declared than may be.
 -- Assumes nothing.
 use Rattle.read_declarations.proofs.Declaring.{one-more-is}
 use borrow.Author.Needs.{needs}

@@ -1,4 +1,4 @@
--- `read_lines::plain` meets its contract: the check of the line says whether it is taken.
+-- `read_declarations::plain` meets its contract: the check of the line says whether it is taken.
 -- Assumes nothing.
 use Rattle.read_declarations.specs.inner.Kinds.{plainRead}
 use mathlib.Core.Path.{sym, ap, _∙_}

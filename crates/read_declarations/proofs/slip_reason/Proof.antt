@@ -1,4 +1,4 @@
--- `read_lines::slip_reason` meets its contract: each arm gives what the definition's tests give.
+-- `read_declarations::slip_reason` meets its contract: each arm gives what the definition's tests give.
 -- Assumes nothing.
 use Rattle.read_declarations.specs.inner.Kinds.{slipReason}
 use borrow.Author.Tests.{ne-eqb}

@@ -1,4 +1,4 @@
--- `read_lines::word_at` meets its contract, by the token that is found.
+-- `read_declarations::word_at` meets its contract, by the token that is found.
 -- Assumes nothing.
 use Rattle.read_bodies.specs.Bodies.{wordOf}
 use Rattle.read_bodies.proofs.NextWords.{no-word}

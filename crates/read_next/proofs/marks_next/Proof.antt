@@ -1,4 +1,4 @@
--- `read_tests::marks_next` meets its contract. The invariant: as many marks as were counted stand between the start and i. The measure is
+-- `read_next::marks_next` meets its contract. The invariant: as many marks as were counted stand between the start and i. The measure is
 -- what is left of the line.
 -- Assumes nothing.
 use native.Mathlib.Omega.{arith}

@@ -1,4 +1,4 @@
--- `read_tests::word_next` meets its contract, by the kind of the token that is found.
+-- `read_next::word_next` meets its contract, by the kind of the token that is found.
 -- Assumes nothing.
 use mathlib.Core.Path.{sym, ap, _∙_}
 use mathlib.Core.Bool.{cond}

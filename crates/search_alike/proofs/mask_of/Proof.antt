@@ -9,8 +9,9 @@ use lib.Bits.{bitAnd}
 use lib.Count.{ones, trailing-le}
 use Rattle.bits.specs.Sets.{members}
 use Rattle.bits.proofs.Lowest.{Lowest, lowest as lowest-member}
-use Rattle.search_atoms.specs.Masks.{gathered, lowestWords, maskOf}
-use Rattle.search_atoms.proofs.Loops.{gathered-end, gathered-more}
+use Rattle.standings.specs.Alike.{gathered}
+use Rattle.search_atoms.specs.Masks.{lowestWords, maskOf}
+use Rattle.standings.proofs.Loops.{gathered-end, gathered-more}
 use Rattle.search_alike.proofs.mask_of.Statement.{statement}
 use Rattle.search_alike.proofs.mask_of.Tie as tie
 

@@ -1,8 +1,8 @@
--- `search_alike::alike` meets its contract: the tests stand in the definition's order.
+-- `search_atoms::alike` meets its contract: the tests stand in the definition's order.
 -- Assumes nothing.
 use borrow.Author.Needs.{needs}
 use Rattle.search_atoms.specs.Masks.{alikeWords}
-use Rattle.search_atoms.proofs.Tests.{first-fails, second-fails, third-decides}
+use Rattle.standings.proofs.Tests.{first-fails, second-fails, third-decides}
 use Rattle.search_atoms.proofs.alike.Statement.{statement}
 use Rattle.search_atoms.proofs.alike.Tie as tie
 

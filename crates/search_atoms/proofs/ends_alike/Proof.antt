@@ -1,7 +1,7 @@
--- `search_alike::ends_alike` meets its contract: the tests stand in the definition's order.
+-- `search_atoms::ends_alike` meets its contract: the tests stand in the definition's order.
 -- Assumes nothing.
 use borrow.Author.Needs.{needs}
-use Rattle.search_atoms.proofs.Tests.{nulls-differ, nulls-agree}
+use Rattle.standings.proofs.Tests.{nulls-differ, nulls-agree}
 use Rattle.search_atoms.proofs.ends_alike.Statement.{statement}
 use Rattle.search_atoms.proofs.ends_alike.Tie as tie
 

@@ -1,8 +1,8 @@
--- `search_alike::ring_ends_alike` meets its contract: by the kind of the claim.
+-- `search_atoms::ring_ends_alike` meets its contract: by the kind of the claim.
 -- Assumes nothing.
 use mathlib.Core.Path.{_∙_, sym, ap}
 use mathlib.Core.Bool.{true, cond}
-use Rattle.search_atoms.specs.Masks.{endsAlike}
+use Rattle.standings.specs.Alike.{endsAlike}
 use borrow.Author.Needs.{needs}
 use Rattle.search_atoms.proofs.ring_ends_alike.Statement.{statement}
 use Rattle.search_atoms.proofs.ring_ends_alike.Tie as tie

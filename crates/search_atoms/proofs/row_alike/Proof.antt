@@ -1,9 +1,9 @@
--- `search_alike::row_alike` meets its contract: the two steps are compared.
+-- `search_atoms::row_alike` meets its contract: the two steps are compared.
 -- Assumes nothing.
 use mathlib.Core.Path.{ap₂}
 use lib.Dec.{eqb}
 use borrow.Author.Needs.{needs}
-use Rattle.search_atoms.specs.Masks.{rowAlike}
+use Rattle.standings.specs.Alike.{rowAlike}
 use Rattle.search_atoms.proofs.row_alike.Statement.{statement}
 use Rattle.search_atoms.proofs.row_alike.Tie as tie
 

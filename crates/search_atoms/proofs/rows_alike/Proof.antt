@@ -1,12 +1,12 @@
--- `search_alike::rows_alike` meets its contract. The invariant: the places left are alike exactly where all are. The measure is what is left.
+-- `search_atoms::rows_alike` meets its contract. The invariant: the places left are alike exactly where all are. The measure is what is left.
 -- Assumes nothing.
 use Prim.Native.Nat.{_+_, _-_, suc, min}
 use native.Mathlib.Omega.{arith}
 use mathlib.Core.Path.{_≡_, sym, _∙_, ap}
 use borrow.Author.Needs.{needs}
 use Rattle.kat.specs.Lists.{upto, every}
-use Rattle.search_atoms.specs.Masks.{rowAlike, rowsAlike}
-use Rattle.search_atoms.proofs.Loops.{every-end, every-fails, every-passes}
+use Rattle.standings.specs.Alike.{rowAlike, rowsAlike}
+use Rattle.standings.proofs.Loops.{every-end, every-fails, every-passes}
 use Rattle.search_atoms.proofs.rows_alike.Statement.{statement}
 use Rattle.search_atoms.proofs.rows_alike.Tie as tie
 

@@ -1,4 +1,4 @@
--- `search_ring::flagged` meets its contract.
+-- `search_columns::flagged` meets its contract.
 -- Assumes nothing.
 use mathlib.Core.Path.{sym, ap, ap₂}
 use mathlib.Core.Bool.{not, _||_}

@@ -1,4 +1,4 @@
--- `search_ring::join` meets its contract: one word is stored, or none.
+-- `search_columns::join` meets its contract: one word is stored, or none.
 -- Assumes nothing.
 use native.Mathlib.Omega.{arith}
 use Rattle.search_columns.proofs.Columns.{join-in, join-out}

@@ -1,4 +1,4 @@
--- `search_ring::lay_out` meets its contract: three words are stored.
+-- `search_columns::lay_out` meets its contract: three words are stored.
 -- Assumes nothing.
 use mathlib.Core.Path.{_∙_, ap}
 use lib.ListN.{set}

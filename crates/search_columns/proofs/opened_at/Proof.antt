@@ -1,4 +1,4 @@
--- `search_ring::opened_at` meets its contract: the union of the columns, its lower half moved up.
+-- `search_columns::opened_at` meets its contract: the union of the columns, its lower half moved up.
 -- Assumes nothing.
 use Prim.Native.Nat.{_*_, _%_, _^_}
 use native.Mathlib.Omega.{arith}

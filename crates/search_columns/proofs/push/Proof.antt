@@ -1,4 +1,4 @@
--- `search_ring::push` meets its contract. The invariant: w joined into the columns of the members left, on the memory as it is, is w joined
+-- `search_columns::push` meets its contract. The invariant: w joined into the columns of the members left, on the memory as it is, is w joined
 -- into those of all members on the memory at the start. The measure is the count of ones of the set left.
 -- Assumes nothing.
 use Prim.Native.Nat.{_-_, _^_, _<_}

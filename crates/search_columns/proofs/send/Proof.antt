@@ -1,4 +1,4 @@
--- `search_ring::send` meets its contract: nothing joined into columns leaves the memory as it is.
+-- `search_columns::send` meets its contract: nothing joined into columns leaves the memory as it is.
 -- Assumes nothing.
 use native.Mathlib.Omega.{arith}
 use mathlib.Core.Path.{_∙_, ap}

@@ -1,4 +1,4 @@
--- `search_ring::spread` meets its contract. The invariant: the columns left, sent on into the memory as it is, give what all columns give on
+-- `search_columns::spread` meets its contract. The invariant: the columns left, sent on into the memory as it is, give what all columns give on
 -- the memory at the start. The measure is what is left of the columns.
 -- Assumes nothing.
 use Prim.Native.Nat.{ℕ, _+_, _-_, _≤_}

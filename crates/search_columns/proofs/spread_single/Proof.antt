@@ -1,4 +1,4 @@
--- `search_ring::spread_single` meets its contract. The invariant: the numbers left, sent on into the memory as it is, give what all of them
+-- `search_columns::spread_single` meets its contract. The invariant: the numbers left, sent on into the memory as it is, give what all of them
 -- give on the memory at the start. The measure is what is left of the numbers.
 -- Assumes nothing.
 use Prim.Native.Nat.{ℕ, suc, _+_, _-_, _^_, _≤_}

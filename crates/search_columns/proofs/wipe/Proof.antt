@@ -1,4 +1,4 @@
--- `search_ring::wipe` meets its contract: the part that is cleared has 34 words.
+-- `search_columns::wipe` meets its contract: the part that is cleared has 34 words.
 -- Assumes nothing.
 use native.Mathlib.Omega.{arith}
 use mathlib.Core.Path.{_≡_, _∙_, ap}

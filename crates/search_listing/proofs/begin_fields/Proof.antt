@@ -1,4 +1,4 @@
--- `search_writing::begin_fields` meets its contract: the length of the sheet is known before it is written.
+-- `search_listing::begin_fields` meets its contract: the length of the sheet is known before it is written.
 -- Assumes nothing.
 use Rattle.search_listing.proofs.Turns.{fields-short, fields-begun, fields-none}
 use borrow.Author.Needs.{needs}

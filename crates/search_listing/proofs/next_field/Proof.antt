@@ -1,4 +1,4 @@
--- `search_writing::next_field` meets its contract: the field is put behind those that are written.
+-- `search_listing::next_field` meets its contract: the field is put behind those that are written.
 -- Assumes nothing.
 use Prim.Native.Nat.{_-_}
 use native.Mathlib.Omega.{arith}

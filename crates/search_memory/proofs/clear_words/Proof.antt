@@ -1,4 +1,4 @@
--- `search_run::clear_words` meets its contract. The invariant: so far zero, and behind them what stood there.
+-- `search_memory::clear_words` meets its contract. The invariant: so far zero, and behind them what stood there.
 -- Assumes nothing.
 use Prim.Native.Nat.{_-_, _≤_}
 use native.Mathlib.Omega.{arith}

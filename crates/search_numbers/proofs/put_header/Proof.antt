@@ -1,4 +1,4 @@
--- `search_fields::put_header` meets its contract: the tag is put, and the length behind it.
+-- `search_numbers::put_header` meets its contract: the tag is put, and the length behind it.
 -- Assumes nothing.
 use native.Mathlib.Omega.{arith}
 use mathlib.Core.Path.{_∙_}

@@ -1,4 +1,4 @@
--- `search_fields::put_number` meets its contract: the bytes are put from the last one to the first. The invariant: the bytes that are left,
+-- `search_numbers::put_number` meets its contract: the bytes are put from the last one to the first. The invariant: the bytes that are left,
 -- put over the slice as it is, are all bytes put over the slice as it was. The measure is how many are left.
 -- Assumes nothing.
 use Prim.Native.Nat.{_≤_}

@@ -1,4 +1,4 @@
--- `search_run::tell` meets its contract, by what was found.
+-- `search_outcomes::tell` meets its contract, by what was found.
 -- Assumes nothing.
 use Rattle.search_outcomes.proofs.Reported.{tell-short, tell-proved, tell-refuted, tell-spent}
 use borrow.Author.Needs.{needs}

@@ -1,4 +1,4 @@
--- `search_store::copy` meets its contract. The invariant: what is left to copy, copied now, is the whole copied at the start.
+-- `search_places::copy` meets its contract. The invariant: what is left to copy, copied now, is the whole copied at the start.
 -- Assumes nothing.
 use Prim.Native.Nat.{_-_, _≤_}
 use native.Mathlib.Omega.{arith}

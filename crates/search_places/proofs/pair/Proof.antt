@@ -1,4 +1,4 @@
--- `search_store::pair` meets its contract.
+-- `search_places::pair` meets its contract.
 -- Assumes nothing.
 use native.Mathlib.Omega.{arith}
 use Rattle.search_places.proofs.Standing.{two-words}

@@ -1,4 +1,4 @@
--- `search_store::parent` meets its contract, by the kind of the claim.
+-- `search_places::parent` meets its contract, by the kind of the claim.
 -- Assumes nothing.
 use native.Mathlib.Omega.{arith}
 use Rattle.search_places.proofs.Standing.{parent-ring}

@@ -1,4 +1,4 @@
--- `search_run::begin` meets its contract, by what was found.
+-- `search_report::begin` meets its contract, by what was found.
 -- Assumes nothing.
 use native.Mathlib.Omega.{arith}
 use Rattle.search_report.proofs.Found.{proved-reportable, refuted-reportable, proved-begun, refuted-begun, spent-begun}

@@ -1,4 +1,4 @@
--- `search_run::put` meets its contract, by what was found.
+-- `search_report::put` meets its contract, by what was found.
 -- Assumes nothing.
 use native.Mathlib.Omega.{arith}
 use Rattle.search_listing.proofs.Stages.{fields-stage, field-asks, fields-turns}

@@ -1,4 +1,4 @@
--- `search_run::report` meets its contract: the sheet is begun, goes on by one record a turn, and ends, by the invariant and the measure of `Loop`.
+-- `search_report::report` meets its contract: the sheet is begun, goes on by one record a turn, and ends, by the invariant and the measure of `Loop`.
 -- `Steps` has the derivation.
 -- Assumes nothing.
 use Prim.Native.Nat.{ℕ}

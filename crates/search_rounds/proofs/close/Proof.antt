@@ -1,4 +1,4 @@
--- `search_cover::close` meets its contract. The invariant: the memory is that after the rounds done so far. The measure is what is left of
+-- `search_rounds::close` meets its contract. The invariant: the memory is that after the rounds done so far. The measure is what is left of
 -- the rounds.
 -- Assumes nothing.
 use Prim.Native.Nat.{_-_, _≤_}

@@ -1,4 +1,4 @@
--- `search_cover::close_columns` meets its contract.
+-- `search_rounds::close_columns` meets its contract.
 -- Assumes nothing.
 use Prim.Native.Nat.{_+_}
 use mathlib.Core.Path.{_∙_, ap}

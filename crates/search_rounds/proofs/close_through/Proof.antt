@@ -1,4 +1,4 @@
--- `search_cover::close_through` meets its contract: a round through a number whose column is empty changes nothing.
+-- `search_rounds::close_through` meets its contract: a round through a number whose column is empty changes nothing.
 -- Assumes nothing.
 use Rattle.search_rounds.proofs.Rounds.{round-none, round-some}
 use borrow.Author.Needs.{needs}

@@ -1,4 +1,4 @@
--- `search_cover::covered` meets its contract: the columns are closed once, in a copy.
+-- `search_rounds::covered` meets its contract: the columns are closed once, in a copy.
 -- Assumes nothing.
 use native.Mathlib.Omega.{arith}
 use mathlib.Core.Path.{_≡_}

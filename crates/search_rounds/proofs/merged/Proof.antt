@@ -1,4 +1,4 @@
--- `search_cover::merged` meets its contract.
+-- `search_rounds::merged` meets its contract.
 -- Assumes nothing.
 use Rattle.search_rounds.proofs.Rounds.{merged-in, merged-out}
 use borrow.Author.Needs.{needs}

@@ -1,4 +1,4 @@
--- `search_cover::pair_turns` meets its contract: a pair of q with itself, or a walk of the p of the others.
+-- `search_rounds::pair_turns` meets its contract: a pair of q with itself, or a walk of the p of the others.
 -- Assumes nothing.
 use Prim.Native.Nat.{_/_, _^_}
 use native.Mathlib.Omega.{arith}

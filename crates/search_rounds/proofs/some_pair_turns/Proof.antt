@@ -1,4 +1,4 @@
--- `search_cover::some_pair_turns` meets its contract. The invariant: a pair is found among the columns left exactly where one is found among
+-- `search_rounds::some_pair_turns` meets its contract. The invariant: a pair is found among the columns left exactly where one is found among
 -- all of them. The measure is what is left of the columns.
 -- Assumes nothing.
 use Prim.Native.Nat.{suc, _-_, _≤_}

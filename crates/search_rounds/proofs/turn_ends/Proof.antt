@@ -1,4 +1,4 @@
--- `search_cover::turn_ends` meets its contract.
+-- `search_rounds::turn_ends` meets its contract.
 -- Assumes nothing.
 use native.Mathlib.Omega.{arith}
 use mathlib.Core.Path.{_∙_}

@@ -1,4 +1,4 @@
--- `search_cover::turns_cover` meets its contract.
+-- `search_rounds::turns_cover` meets its contract.
 -- Assumes nothing.
 use mathlib.Core.Path.{sym, _∙_, ap}
 use mathlib.Core.Bool.{_||_}

@@ -1,4 +1,4 @@
--- `search_fields::put_rows` meets its contract. The invariant: the rows that are left, put over the slice as it is, are all rows put over the
+-- `search_rows::put_rows` meets its contract. The invariant: the rows that are left, put over the slice as it is, are all rows put over the
 -- slice as it was. The measure is how many are left.
 -- Assumes nothing.
 use Prim.Native.Nat.{_+_, _-_, _*_, _≤_}

@@ -1,4 +1,4 @@
--- `search_fields::row_of` meets its contract: row 0 of N is empty, another is the upper half of its column, and a row of M comes from the
+-- `search_rows::row_of` meets its contract: row 0 of N is empty, another is the upper half of its column, and a row of M comes from the
 -- columns.
 -- Assumes nothing.
 use mathlib.Core.Path.{sym, _∙_}

@@ -1,4 +1,4 @@
--- `sheet_proves::alone_refutes` meets its contract: the right side is asked where the left has the word.
+-- `sheet_alone::alone_refutes` meets its contract: the right side is asked where the left has the word.
 -- Assumes nothing.
 use mathlib.Core.Path.{sym, _∙_, ap}
 use mathlib.Core.Bool.{not, _&&_}

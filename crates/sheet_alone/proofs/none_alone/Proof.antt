@@ -1,4 +1,4 @@
--- `sheet_proves::none_alone` meets its contract. The invariant: none of the atoms left refutes exactly where none of all does. The measure is
+-- `sheet_alone::none_alone` meets its contract. The invariant: none of the atoms left refutes exactly where none of all does. The measure is
 -- the count of ones of the set left.
 -- Assumes nothing.
 use Prim.Native.Nat.{_^_, _<_}

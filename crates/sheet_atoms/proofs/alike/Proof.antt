@@ -1,8 +1,8 @@
--- `sheet_alike::alike` meets its contract: the tests stand in the definition's order.
+-- `sheet_atoms::alike` meets its contract: the tests stand in the definition's order.
 -- Assumes nothing.
 use borrow.Author.Needs.{needs}
 use Rattle.sheet_atoms.specs.Masks.{alikeWords}
-use Rattle.sheet_atoms.proofs.Tests.{first-fails, second-fails, third-decides}
+use Rattle.standings.proofs.Tests.{first-fails, second-fails, third-decides}
 use Rattle.sheet_atoms.proofs.alike.Statement.{statement}
 use Rattle.sheet_atoms.proofs.alike.Tie as tie
 

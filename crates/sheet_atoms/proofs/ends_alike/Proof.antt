@@ -1,7 +1,7 @@
--- `sheet_alike::ends_alike` meets its contract: the tests stand in the definition's order.
+-- `sheet_atoms::ends_alike` meets its contract: the tests stand in the definition's order.
 -- Assumes nothing.
 use borrow.Author.Needs.{needs}
-use Rattle.sheet_atoms.proofs.Tests.{nulls-differ, nulls-agree}
+use Rattle.standings.proofs.Tests.{nulls-differ, nulls-agree}
 use Rattle.sheet_atoms.proofs.ends_alike.Statement.{statement}
 use Rattle.sheet_atoms.proofs.ends_alike.Tie as tie
 

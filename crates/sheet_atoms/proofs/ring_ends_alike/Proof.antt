@@ -1,8 +1,8 @@
--- `sheet_alike::ring_ends_alike` meets its contract: by the kind of the claim.
+-- `sheet_atoms::ring_ends_alike` meets its contract: by the kind of the claim.
 -- Assumes nothing.
 use mathlib.Core.Path.{_∙_, sym, ap}
 use mathlib.Core.Bool.{true, cond}
-use Rattle.sheet_atoms.specs.Masks.{endsAlike}
+use Rattle.standings.specs.Alike.{endsAlike}
 use borrow.Author.Needs.{needs}
 use Rattle.sheet_atoms.proofs.ring_ends_alike.Statement.{statement}
 use Rattle.sheet_atoms.proofs.ring_ends_alike.Tie as tie

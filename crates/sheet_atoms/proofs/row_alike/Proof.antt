@@ -1,9 +1,9 @@
--- `sheet_alike::row_alike` meets its contract: the two steps are compared.
+-- `sheet_atoms::row_alike` meets its contract: the two steps are compared.
 -- Assumes nothing.
 use mathlib.Core.Path.{ap₂}
 use lib.Dec.{eqb}
 use borrow.Author.Needs.{needs}
-use Rattle.sheet_atoms.specs.Masks.{rowAlike}
+use Rattle.standings.specs.Alike.{rowAlike}
 use Rattle.sheet_atoms.proofs.row_alike.Statement.{statement}
 use Rattle.sheet_atoms.proofs.row_alike.Tie as tie
 

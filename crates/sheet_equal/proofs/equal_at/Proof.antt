@@ -1,4 +1,4 @@
--- `sheet_index::equal_at` meets its contract. The invariant: the cells so far are equal.
+-- `sheet_equal::equal_at` meets its contract. The invariant: the cells so far are equal.
 -- Assumes nothing.
 use Rattle.sheet_slots.proofs.Listed.{cells-differ, cells-agree}
 use Rattle.sheet_slots.proofs.Hashes.{two-more}

@@ -1,4 +1,4 @@
--- `sheet_word::fits` meets its contract. The invariant: the bytes that are left fit exactly where all do. The measure is how many are left.
+-- `sheet_letters::fits` meets its contract. The invariant: the bytes that are left fit exactly where all do. The measure is how many are left.
 -- Assumes nothing.
 use Prim.Native.Nat.{_-_, _≤_}
 use native.Mathlib.Omega.{arith}

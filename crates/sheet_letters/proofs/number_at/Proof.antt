@@ -1,4 +1,4 @@
--- `sheet_word::number_at` meets its contract: past the end the number is 0.
+-- `sheet_letters::number_at` meets its contract: past the end the number is 0.
 -- Assumes nothing.
 use native.Mathlib.Omega.{arith}
 use mathlib.Core.Path.{sym}

@@ -9,7 +9,7 @@ use lib.ListN.{take}
 use Rattle.kat.specs.Lists.{every}
 use Rattle.bits.specs.Sets.{members}
 use Rattle.bits.proofs.Lowest.{Lowest, lowest}
-use Rattle.sheet_atoms.proofs.Loops.{all-end, all-fails, all-passes}
+use Rattle.standings.proofs.Loops.{all-end, all-fails, all-passes}
 use Rattle.sheet_cells.specs.Layout.{cellCount}
 use Rattle.sheet_listed.specs.Listed.{partCells, letterListed, atomsListed}
 use Rattle.sheet_listed.proofs.atoms_listed.Statement.{statement}

@@ -2,7 +2,7 @@
 -- Assumes nothing.
 use borrow.Author.Needs.{needs}
 use Rattle.kat.proofs.Bools.{not-true-false}
-use Rattle.sheet_atoms.proofs.Tests.{not-false-true}
+use Rattle.standings.proofs.Tests.{not-false-true}
 use Rattle.sheet_listed.proofs.Ways.{all-tried, first-tried, later-tried}
 use Rattle.sheet_listed.proofs.atoms_tried.Statement.{statement}
 use Rattle.sheet_listed.proofs.atoms_tried.Tie as tie

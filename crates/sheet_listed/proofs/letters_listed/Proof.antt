@@ -7,7 +7,7 @@ use mathlib.Core.Path.{_≡_, refl, sym, _∙_}
 use borrow.Author.Needs.{needs}
 use lib.ListN.{take}
 use Rattle.kat.specs.Lists.{upto, every}
-use Rattle.sheet_atoms.proofs.Loops.{every-end, every-fails, every-passes}
+use Rattle.standings.proofs.Loops.{every-end, every-fails, every-passes}
 use Rattle.sheet_cells.specs.Layout.{cellCount}
 use Rattle.sheet_listed.specs.Listed.{partCells, relationListed, lettersListed}
 use Rattle.sheet_listed.proofs.Ways.{relation-passes}

@@ -1,4 +1,4 @@
--- `sheet_kinds::either` meets its contract.
+-- `sheet_load::either` meets its contract.
 -- Assumes nothing.
 use Rattle.sheet_load.proofs.ByKind.{either-high, either-low}
 use Rattle.sheet_load.proofs.either.Statement.{statement}

@@ -1,4 +1,4 @@
--- `sheet_kinds::fill` meets its contract. The invariant: with the rest filled, all of it is. The measure is what is left.
+-- `sheet_load::fill` meets its contract. The invariant: with the rest filled, all of it is. The measure is what is left.
 -- Assumes nothing.
 use Prim.Native.Nat.{_+_, _*_, _-_}
 use native.Mathlib.Omega.{arith}

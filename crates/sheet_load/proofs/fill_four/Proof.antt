@@ -1,4 +1,4 @@
--- `sheet_kinds::fill_four` meets its contract: the part that is filled has 4 words.
+-- `sheet_load::fill_four` meets its contract: the part that is filled has 4 words.
 -- Assumes nothing.
 use native.Mathlib.Omega.{arith}
 use mathlib.Core.Path.{_≡_, _∙_, ap}

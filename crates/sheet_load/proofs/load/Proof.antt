@@ -1,4 +1,4 @@
--- `sheet_kinds::load` meets its contract, by the kind of the claim; a place past the sheet is as good as its end.
+-- `sheet_load::load` meets its contract, by the kind of the claim; a place past the sheet is as good as its end.
 -- Assumes nothing.
 use mathlib.Core.Path.{_∙_, ap}
 use Rattle.fields.specs.Places.{cellsAt}

@@ -1,4 +1,4 @@
--- `sheet_kinds::possible` meets its contract, by the kind of the claim.
+-- `sheet_load::possible` meets its contract, by the kind of the claim.
 -- Assumes nothing.
 use Rattle.sheet_load.proofs.ByKind.{possible-path, possible-ring}
 use borrow.Author.Needs.{needs}

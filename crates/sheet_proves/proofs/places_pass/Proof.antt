@@ -4,7 +4,7 @@ use Prim.Native.Nat.{_-_}
 use native.Mathlib.Omega.{arith}
 use mathlib.Core.Path.{_≡_, refl, sym, _∙_}
 use Rattle.kat.specs.Lists.{upto, every}
-use Rattle.sheet_atoms.proofs.Loops.{every-end, every-fails, every-passes}
+use Rattle.standings.proofs.Loops.{every-end, every-fails, every-passes}
 use Rattle.sheet_passing.specs.inner.Standings.{placePasses, placesPass}
 use Rattle.sheet_proves.proofs.places_pass.Statement.{statement}
 use Rattle.sheet_proves.proofs.places_pass.Tie as tie

@@ -1,4 +1,4 @@
--- `sheet_cover::close_through` meets its contract: a round through a number whose row is empty changes nothing.
+-- `sheet_rounds::close_through` meets its contract: a round through a number whose row is empty changes nothing.
 -- Assumes nothing.
 use Rattle.sheet_rounds.proofs.Rounds.{round-none, round-some}
 use borrow.Author.Needs.{needs}

@@ -1,4 +1,4 @@
--- `sheet_cover::covered` meets its contract: the rows of M are closed once, in a copy.
+-- `sheet_rounds::covered` meets its contract: the rows of M are closed once, in a copy.
 -- Assumes nothing.
 use Prim.Native.Nat.{_+_}
 use native.Mathlib.Omega.{arith}

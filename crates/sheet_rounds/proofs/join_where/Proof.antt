@@ -1,4 +1,4 @@
--- `sheet_cover::join_where` meets its contract. The invariant: what is left of the rows, joined in the memory as it is, is all of them
+-- `sheet_rounds::join_where` meets its contract. The invariant: what is left of the rows, joined in the memory as it is, is all of them
 -- joined in the memory at the start. The measure is what is left of the rows.
 -- Assumes nothing.
 use Prim.Native.Nat.{_-_, _≤_}

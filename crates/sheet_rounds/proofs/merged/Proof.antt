@@ -1,4 +1,4 @@
--- `sheet_cover::merged` meets its contract.
+-- `sheet_rounds::merged` meets its contract.
 -- Assumes nothing.
 use Rattle.sheet_rounds.proofs.Rounds.{merged-in, merged-out}
 use borrow.Author.Needs.{needs}

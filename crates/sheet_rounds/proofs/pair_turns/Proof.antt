@@ -1,4 +1,4 @@
--- `sheet_cover::pair_turns` meets its contract: a pair of q with itself, or one whose p the row of q has.
+-- `sheet_rounds::pair_turns` meets its contract: a pair of q with itself, or one whose p the row of q has.
 -- Assumes nothing.
 use native.Mathlib.Omega.{arith}
 use mathlib.Core.Path.{sym, _∙_, ap}

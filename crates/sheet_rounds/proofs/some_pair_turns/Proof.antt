@@ -1,4 +1,4 @@
--- `sheet_cover::some_pair_turns` meets its contract. The invariant: some row of those left passes exactly where some row does. The measure is
+-- `sheet_rounds::some_pair_turns` meets its contract. The invariant: some row of those left passes exactly where some row does. The measure is
 -- what is left of the rows.
 -- Assumes nothing.
 use Prim.Native.Nat.{suc, _-_, _≤_}

@@ -1,4 +1,4 @@
--- `sheet_cover::turn_ends` meets its contract.
+-- `sheet_rounds::turn_ends` meets its contract.
 -- Assumes nothing.
 use native.Mathlib.Omega.{arith}
 use Rattle.bits.specs.Sets.{meets}

@@ -1,4 +1,4 @@
--- `sheet_cover::turns_cover` meets its contract.
+-- `sheet_rounds::turns_cover` meets its contract.
 -- Assumes nothing.
 use Prim.Native.Nat.{_/_, _%_}
 use mathlib.Core.Path.{sym, _∙_, ap, ap₂}

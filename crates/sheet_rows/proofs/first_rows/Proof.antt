@@ -1,4 +1,4 @@
--- `sheet_ring::first_rows` meets its contract. The invariant: what is left of the rows, filled into the memory as it is, gives all rows. The
+-- `sheet_rows::first_rows` meets its contract. The invariant: what is left of the rows, filled into the memory as it is, gives all rows. The
 -- measure is what is left of the rows.
 -- Assumes nothing.
 use Prim.Native.Nat.{ℕ, _*_, _%_, _^_, _-_, _≤_}

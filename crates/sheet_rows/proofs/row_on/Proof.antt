@@ -1,4 +1,4 @@
--- `sheet_ring::row_on` meets its contract: from an empty row nothing is read.
+-- `sheet_rows::row_on` meets its contract: from an empty row nothing is read.
 -- Assumes nothing.
 use Prim.Native.Nat.{_*_, _%_, _^_}
 use mathlib.Core.Path.{ap}

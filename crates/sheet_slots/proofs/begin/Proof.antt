@@ -1,4 +1,4 @@
--- `sheet_index::begin` meets its contract, by the kind of the claim.
+-- `sheet_slots::begin` meets its contract, by the kind of the claim.
 -- Assumes nothing.
 use Rattle.sheet_slots.proofs.Listed.{ring-fits, path-fits, ring-begin, path-begin}
 use native.Mathlib.Omega.{arith}

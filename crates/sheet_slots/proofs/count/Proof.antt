@@ -1,4 +1,4 @@
--- `sheet_index::count` meets its contract, by the kind of the claim.
+-- `sheet_slots::count` meets its contract, by the kind of the claim.
 -- Assumes nothing.
 use Rattle.sheet_slots.proofs.Listed.{ring-count, path-count}
 use borrow.Author.Needs.{needs}

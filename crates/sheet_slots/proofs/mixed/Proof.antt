@@ -1,4 +1,4 @@
--- `sheet_index::mixed` meets its contract: sums below 2 to the 33 times the factor fit a word.
+-- `sheet_slots::mixed` meets its contract: sums below 2 to the 33 times the factor fit a word.
 -- Assumes nothing.
 use Rattle.sheet_slots.specs.Index.{mixed}
 use mathlib.Core.Path.{refl}

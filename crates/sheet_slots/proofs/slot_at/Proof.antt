@@ -1,4 +1,4 @@
--- `sheet_index::slot_at` meets its contract. The invariant: the hash, with the cells that are left, is that of all.
+-- `sheet_slots::slot_at` meets its contract. The invariant: the hash, with the cells that are left, is that of all.
 -- Assumes nothing.
 use Rattle.sheet_slots.proofs.Listed.{hash-cell}
 use Rattle.sheet_slots.proofs.Hashes.{hash-end}

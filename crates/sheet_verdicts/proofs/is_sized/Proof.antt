@@ -1,4 +1,4 @@
--- `sheet_fields::is_sized` meets its contract, by the kind of the claim.
+-- `sheet_verdicts::is_sized` meets its contract, by the kind of the claim.
 -- Assumes nothing.
 use Prim.Native.Nat.{_-_}
 use mathlib.Core.Path.{sym, _∙_, ap}

@@ -1,4 +1,4 @@
--- `sheet_fields::may_list` meets its contract: the length decides, then the cells, then the index.
+-- `sheet_verdicts::may_list` meets its contract: the length decides, then the cells, then the index.
 -- Assumes nothing.
 use mathlib.Core.Path.{sym, _∙_, ap}
 use lib.Dec.{eqb}

@@ -1,4 +1,4 @@
--- `sheet_fields::verdict` meets its contract: a field that is cut, of another tag, length or byte is none.
+-- `sheet_verdicts::verdict` meets its contract: a field that is cut, of another tag, length or byte is none.
 -- Assumes nothing.
 use native.Mathlib.Omega.{arith}
 use mathlib.Core.Path.{sym, _∙_}

@@ -6,8 +6,8 @@ use mathlib.Core.Bool.{Bool, true, false, not, _&&_, Bool·beq}
 use mathlib.Core.List.{List}
 use lib.Dec.{eqb}
 use Rattle.kat.proofs.Bools.{not-true-false}
 use Rattle.standings.specs.Steps.{enders, nullAt}
-use Rattle.sheet_atoms.specs.Masks.{endsAlike}
+use Rattle.standings.specs.Alike.{endsAlike}
 
 pub not-false-true : (b : Bool) → not b ≡ false → b ≡ true
 not-false-true true e = refl

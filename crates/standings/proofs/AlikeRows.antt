@@ -1,10 +1,10 @@
--- The tests on words are those of `claims` on expressions: a row of the table is the set of occurrences one letter on, so two rows are equal
--- where the two sets are; and so for the words that end. (Document 01, "Standings".)
+-- The tests of alike atoms on words are those of `claims` on expressions: a row of the table is the set of occurrences one letter on, so two rows
+-- are equal where the two sets are; and so for the words that end. (Document 01, "Standings".)
 -- Assumes nothing.
 use Prim.Native.Nat.{ℕ, suc, _-_, _^_, _≤_, _<_, min}
 use native.Mathlib.Omega.{arith}
 use mathlib.Core.Path.{_≡_, refl, _∙_, ap, ap₂, subst}
-use mathlib.Core.Bool.{Bool, true, false, cond, _&&_, Bool·beq}
+use mathlib.Core.Bool.{Bool, true, false, _&&_, Bool·beq}
 use mathlib.Core.List.{List, [], _∷_}
 use lib.Dec.{eqb}
 use borrow.Author.Tests.{eqb-true, eq-eqb}
@@ -20,10 +20,9 @@ use Rattle.claims.specs.Alike.{occurrencesOf, statesOf, sameNext, sameLast, ali
 use Rattle.claims.proofs.Results.{same-is-equal, same-self}
 use Rattle.bits.proofs.Members.{numbers-equal, number-filter}
 use Rattle.side_tables.specs.SideTable.{sideTable}
-use Rattle.search_words.specs.declared.Shape.{Shape}
 use Rattle.standings.specs.Steps.{stepFrom, enders}
+use Rattle.standings.specs.Alike.{rowAlike, rowsAlike, endsAlike, alikeAt}
 use Rattle.standings.proofs.Tables.{null-shown, ends-bit, enders-small, from-small, from-shown}
-use Rattle.search_atoms.specs.Masks.{rowAlike, rowsAlike, endsAlike, alikeWords}
 
 -- tests that agree on the list
 every-same : {A : Type 0} (p q : A → Bool) (l : List A) → ((x : A) → In x l → p x ≡ q x) → every p l ≡ every q l
@@ -72,32 +71,26 @@ module _ (E : Expr) (few : occurrences E ≤ 64) (a b : ℕ) (low : a < 64) (oth
   ends-alike-shown = ap₂ _&&_ (ap₂ Bool·beq (null-shown E a low) (null-shown E b other)) last-shown
 
 module _ (D : Decision) (few-left : occurrences (D .left) ≤ 64) (few-right : occurrences (D .right) ≤ 64)
-    (k : Shape) (right : k .right ≡ occurrences (D .right))
     (r a b : ℕ) (letter : r < 16) (low : a < 64) (other : b < 64) where
   -- what both kinds of claim ask of the two sides
   sides : (c : Bool)
-      → (c && rowsAlike (sideTable (D .left)) (occurrences (D .left)) r a b && rowsAlike (sideTable (D .right)) (k .right) r a b)
+      → (c && rowsAlike (sideTable (D .left)) (occurrences (D .left)) r a b && rowsAlike (sideTable (D .right)) (occurrences (D .right)) r a b)
       ≡ (c && sameNext (D .left) (statesOf (D .left)) r a b && sameNext (D .right) (statesOf (D .right)) r a b)
   sides c =
-      ap₂ (λ x y. c && x && y) (rows-shown (D .left) few-left a b low other r letter)
-      (ap (λ n. rowsAlike (sideTable (D .right)) n r a b) right ∙ rows-shown (D .right) few-right a b low other r letter)
+      ap₂ (λ x y. c && x && y) (rows-shown (D .left) few-left a b low other r letter) (rows-shown (D .right) few-right a b low other r letter)
+
+  abbrev at : Bool → Bool
+  at ring = alikeAt ring (occurrences (D .left)) (occurrences (D .right)) (sideTable (D .left)) (sideTable (D .right)) r a b
 
   -- alike in a path claim
-  pub alike-path-shown : k .ring ≡ false
-      → alikeWords k (occurrences (D .left)) (sideTable (D .left)) (sideTable (D .right)) r a b ≡ alikePath D r a b
-  unfolding alikeWords alikePath
-  alike-path-shown path =
-      ap (λ c. cond c (endsAlike (sideTable (D .right)) a b) true
-      && rowsAlike (sideTable (D .left)) (occurrences (D .left)) r a b && rowsAlike (sideTable (D .right)) (k .right) r a b) path
-      ∙ sides true
+  pub alike-path : at false ≡ alikePath D r a b
+  unfolding alikePath
+  alike-path = sides true
 
   -- alike in a ring claim
-  pub alike-ring-shown : k .ring ≡ true
-      → alikeWords k (occurrences (D .left)) (sideTable (D .left)) (sideTable (D .right)) r a b ≡ alikeRing D r a b
-  unfolding alikeWords alikeRing
-  alike-ring-shown ring =
-      ap (λ c. cond c (endsAlike (sideTable (D .right)) a b) true
-      && rowsAlike (sideTable (D .left)) (occurrences (D .left)) r a b && rowsAlike (sideTable (D .right)) (k .right) r a b) ring
-      ∙ sides (endsAlike (sideTable (D .right)) a b)
+  pub alike-ring : at true ≡ alikeRing D r a b
+  unfolding alikeRing
+  alike-ring =
+      sides (endsAlike (sideTable (D .right)) a b)
       ∙ ap (λ c. c && sameNext (D .left) (statesOf (D .left)) r a b && sameNext (D .right) (statesOf (D .right)) r a b)
       (ends-alike-shown (D .right) few-right a b low other)

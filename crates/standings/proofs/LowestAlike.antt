@@ -1,6 +1,5 @@
--- A mask holds the atoms that `claims` keeps before a relation: the live atoms such that no lower live atom is alike. (Document 01,
--- "Standings".) Lower live atoms are the members of the live set cut to those below; a set gathered from a list has a bit for each number
--- of the list that passes.
+-- The set of the live atoms such that no lower live atom is alike is the set of the atoms that `claims` keeps. (Document 01, "Standings".) Lower
+-- live atoms are the members of the live set cut to those below; a set gathered from a list has a bit for each number of the list that passes.
 -- Assumes nothing.
 use Prim.Native.Nat.{ℕ, _-_, _≤_, _<_, min}
 use native.Mathlib.Omega.{arith}
@@ -24,9 +23,8 @@ use Rattle.bits.proofs.Bit.{bit-none, bit-and}
 use Rattle.bits.proofs.Members.{number-in, in-number, bit-number}
 use Rattle.bits.proofs.Rows.{bit-all, bit-including}
 use Rattle.side_tables.specs.SideTable.{sideTable}
-use Rattle.query.specs.declared.Facts.{Facts}
-use Rattle.sheet_atoms.specs.Masks.{gathered, alikeWords, lowestWords, maskOf}
-use Rattle.sheet_atoms.proofs.Shown.{alike-path-shown, alike-ring-shown}
+use Rattle.standings.specs.Alike.{gathered, alikeAt, noLower}
+use Rattle.standings.proofs.AlikeRows.{alike-path, alike-ring}
 
 -- one number more
 one-more : (x c y d : Bool) → ((x || (c && d)) || (y && d)) ≡ (x || ((c || y) && d))
@@ -103,38 +101,31 @@ module _ (live : List ℕ) (rising : RisingWithin 0 64 live) where
         (in-number 0 64 cut b u l (cut-bit b l ∙ and-both (and-left (member b live) (q b) h) (lt-ltb b a v)))
         (agree b l ∙ and-right (member b live) (q b) h))
 
-module _ (f : Facts) (left right : List ℕ) (live : List ℕ) (set : f .live ≡ setNumber 0 live) (rising : RisingWithin 0 64 live)
-    (r a : ℕ) (low : a < 64) (alike : ℕ → Bool) (agree : (b : ℕ) → b < 64 → alikeWords f left right r a b ≡ alike b) where
-  lowest-shown : lowestWords f left right r a ≡ not (some (λ b. member b live && alike b) (upto 0 a))
-  unfolding lowestWords
-  lowest-shown =
-      ap (λ s. not (some (alikeWords f left right r a) (members (bitAnd s (allBelow 64 a))))) set
-      ∙ ap not (some-lower live rising (alikeWords f left right r a) alike agree a low)
+-- those of a set of which no lower one is alike
+abbrev pub lowestSet : (ℕ → ℕ → Bool) → ℕ → ℕ
+lowestSet alike s = gathered (noLower alike s) (members s) 0
 
-  -- an atom is in the mask where it is live and the lowest of those that are alike
-  pub mask-bit : bit a (maskOf f left right r) ≡ (member a live && not (some (λ b. member b live && alike b) (upto 0 a)))
-  unfolding maskOf
-  mask-bit =
-      gathered-bit (lowestWords f left right r) a (members (f .live)) (λ b i. number-in 0 64 (f .live) b i .1) 0
-      ∙ ap (λ b. b || (member a (members (f .live)) && lowestWords f left right r a)) (bit-none a)
-      ∙ ap₂ _&&_ (ap (member a) (ap members set ∙ set-read-back 0 64 live rising)) lowest-shown
+module _ (live : List ℕ) (rising : RisingWithin 0 64 live) (words alike : ℕ → ℕ → Bool) (a : ℕ) (low : a < 64)
+    (agree : (b : ℕ) → b < 64 → words a b ≡ alike a b) where
+  -- an atom is in the set where it is live and the lowest of those that are alike
+  lowest-bit : bit a (lowestSet words (setNumber 0 live)) ≡ (member a live && not (some (λ b. member b live && alike a b) (upto 0 a)))
+  lowest-bit =
+      gathered-bit (noLower words (setNumber 0 live)) a (members (setNumber 0 live)) (λ b i. number-in 0 64 (setNumber 0 live) b i .1) 0
+      ∙ ap (λ b. b || (member a (members (setNumber 0 live)) && noLower words (setNumber 0 live) a)) (bit-none a)
+      ∙ ap₂ _&&_ (ap (member a) (set-read-back 0 64 live rising)) (ap not (some-lower live rising (words a) (alike a) agree a low))
 
-module _ (D : Decision) (few-left : occurrences (D .left) ≤ 64) (few-right : occurrences (D .right) ≤ 64)
-    (f : Facts) (left : f .left ≡ occurrences (D .left)) (right : f .right ≡ occurrences (D .right))
-    (live : f .live ≡ setNumber 0 (D .live)) (rising : RisingWithin 0 64 (D .live))
+module _ (D : Decision) (few-left : occurrences (D .left) ≤ 64) (few-right : occurrences (D .right) ≤ 64) (rising : RisingWithin 0 64 (D .live))
     (r a : ℕ) (letter : r < 16) (low : a < 64) where
-  -- the atoms of a mask are those that a path claim keeps
-  pub mask-path : f .ring ≡ false
-      → bit a (maskOf f (sideTable (D .left)) (sideTable (D .right)) r) ≡ keptPath D r a
-  unfolding keptPath lowestAlike
-  mask-path path =
-      mask-bit f (sideTable (D .left)) (sideTable (D .right)) (D .live) live rising r a low (alikePath D r a)
-      (λ b h. alike-path-shown D few-left few-right f left right r a b letter low h path)
+  abbrev tried : Bool → ℕ
+  tried ring =
+      lowestSet (alikeAt ring (occurrences (D .left)) (occurrences (D .right)) (sideTable (D .left)) (sideTable (D .right)) r) (setNumber 0 (D .live))
 
-  -- the atoms of a mask are those that a ring claim keeps
-  pub mask-ring : f .ring ≡ true
-      → bit a (maskOf f (sideTable (D .left)) (sideTable (D .right)) r) ≡ keptRing D r a
+  -- the atoms that a path claim keeps
+  pub lowest-path : bit a (tried false) ≡ keptPath D r a
+  unfolding keptPath lowestAlike
+  lowest-path = lowest-bit (D .live) rising _ (alikePath D r) a low (λ b h. alike-path D few-left few-right r a b letter low h)
+
+  -- the atoms that a ring claim keeps
+  pub lowest-ring : bit a (tried true) ≡ keptRing D r a
   unfolding keptRing lowestAlike
-  mask-ring ring =
-      mask-bit f (sideTable (D .left)) (sideTable (D .right)) (D .live) live rising r a low (alikeRing D r a)
-      (λ b h. alike-ring-shown D few-left few-right f left right r a b letter low h ring)
+  lowest-ring = lowest-bit (D .live) rising _ (alikeRing D r) a low (λ b h. alike-ring D few-left few-right r a b letter low h)

@@ -12,9 +12,9 @@ use Rattle.claims.specs.Fields.{numberSet}
 use Rattle.bits.specs.Sets.{including}
 use Rattle.bits.proofs.Members.{number-none}
 use Rattle.bits.proofs.Lowest.{Lowest}
 use Rattle.standings.proofs.Upto.{upto-more, upto-none}
-use Rattle.sheet_atoms.specs.Masks.{gathered}
-use Rattle.sheet_atoms.proofs.Tests.{not-false-true}
+use Rattle.standings.specs.Alike.{gathered}
+use Rattle.standings.proofs.Tests.{not-false-true}
 
 module _ (p : ℕ → Bool) where
   -- nothing left
