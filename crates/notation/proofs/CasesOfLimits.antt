@@ -96,8 +96,21 @@ names =
     -- a line word declared, and one where an expression is wanted
     ∷ record { query = "rel closed\nclaim empty [true]\n"; line = "refusal 5 line 1" }
     ∷ record { query = "rel r\nclaim empty closed\n"; line = "refusal 3 line 2" }
-    -- another reserved word declared
+    -- the other reserved words declared
     ∷ record { query = "rel in\nclaim empty [true]\n"; line = "refusal 5 line 1" }
+    ∷ record { query = "rel empty\nclaim empty [true]\n"; line = "refusal 5 line 1" }
+    ∷ record { query = "rel include\nclaim empty [true]\n"; line = "refusal 5 line 1" }
+    ∷ record { query = "rel irreflexive\nclaim empty [true]\n"; line = "refusal 5 line 1" }
+    ∷ record { query = "rel true\nclaim empty [true]\n"; line = "refusal 5 line 1" }
+    ∷ record { query = "rel false\nclaim empty [true]\n"; line = "refusal 5 line 1" }
+    -- the first and the last of the letters and of the digits, and the bytes next to them
+    ∷ record { query = "rel AZaz09\nclaim empty AZaz09\n"; line = "accepted" }
+    ∷ record { query = "rel r/\nclaim empty r/\n"; line = "refusal 3 line 1" }
+    ∷ record { query = "rel r:\nclaim empty r:\n"; line = "refusal 3 line 1" }
+    ∷ record { query = "rel r@\nclaim empty r@\n"; line = "refusal 3 line 1" }
+    ∷ record { query = "rel r[\nclaim empty r[\n"; line = "refusal 3 line 1" }
+    ∷ record { query = "rel r`\nclaim empty r`\n"; line = "refusal 3 line 1" }
+    ∷ record { query = "rel r{\nclaim empty r{\n"; line = "refusal 3 line 1" }
     ∷ []
 
 pub names-within : map reads names ≡ map expected names

@@ -51,6 +51,17 @@ sides =
     -- assumed emptiness and irreflexivity under a path claim, of which the length-0 words alone count, and under a ring claim
     ∷ record { query = "rel r\nrel s\nassume empty r;s\nassume irreflexive r\nclaim empty r+\n"; line = "live 0 left 1 right 4 begins 0 ends 0 onward 0" }
     ∷ record { query = "rel r\nrel s\nassume empty r;s\nassume irreflexive r\nclaim irreflexive r\n"; line = "live 0 left 1 right 5 begins 0 ends 0 onward" }
+    -- `|`, `&` and `!` of a T: which atoms they leave
+    ∷ record { query = "test A\ntest B\nnever A | B\nclaim empty [true]\n"; line = "live 0 left 0 right 2 begins ends onward" }
+    ∷ record { query = "test A\ntest B\nnever A & B\nclaim empty [true]\n"; line = "live 0 1 2 left 0 right 2 begins ends onward" }
+    ∷ record { query = "test A\nnever !A\nclaim empty [true]\n"; line = "live 1 left 0 right 2 begins ends onward" }
+    -- postfix `*`, `+` and `?` of r, alone and before s: `*` and `?` may be passed over, and after one r `*` and `+` go on with another
+    ∷ record { query = "rel r\nclaim empty r*\n"; line = "live 0 left 1 right 2 begins 0 ends 0 onward 0" }
+    ∷ record { query = "rel r\nclaim empty r+\n"; line = "live 0 left 1 right 2 begins 0 ends 0 onward 0" }
+    ∷ record { query = "rel r\nclaim empty r?\n"; line = "live 0 left 1 right 2 begins 0 ends 0 onward" }
+    ∷ record { query = "rel s\nrel r\nclaim empty r*;s\n"; line = "live 0 left 2 right 2 begins 0 ends onward 0" }
+    ∷ record { query = "rel s\nrel r\nclaim empty r+;s\n"; line = "live 0 left 2 right 2 begins ends onward 0" }
+    ∷ record { query = "rel s\nrel r\nclaim empty r?;s\n"; line = "live 0 left 2 right 2 begins 0 ends onward 0" }
     ∷ []
 
 pub sides-of-claims : map sided sides ≡ map expected sides
