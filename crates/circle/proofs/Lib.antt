@@ -1,2 +1,4 @@
+-- The second demand.
+pub mod SecondDemand
 -- The circle closes.
 pub mod Circle

@@ -1,2 +1,4 @@
 -- What is reported.
 pub mod Reported
+-- The outcome by the words.
+pub mod ByWords

@@ -1,0 +1,47 @@
+-- What the outcome of a search is, by the words of the claim alone, for a text that is an accepted query, whatever the allowance and the lent
+-- memory. (Document 01, "Standings" and "Refusals with an example each".) Of three statements exactly one holds: no word refutes and there
+-- are so many standings; this word refutes and none comes before it; the allowance is spent. The outcome is the one that holds, each way
+-- round. Refusal 9 comes before any search, and 11 stands in place of an answer whose sheet the buffer has no room for.
+-- Assumes nothing.
+use Prim.Native.Nat.{ℕ, _≤_, _<_}
+use mathlib.Core.Path.{_≡_}
+use mathlib.Core.Logic.{_⊎_, _↔_}
+use mathlib.Core.List.{_++_}
+use lib.ListN.{length, drop}
+use Rattle.kat.specs.Word.{Word, size}
+use Rattle.claims.specs.Sides.{Decision}
+use Rattle.claims.specs.Standings.{claimSystem}
+use Rattle.claims.specs.Calls.{Answer, provedWith, refutedBy, Lent}
+use Rattle.claims.specs.CallOrder.{Ready, Short}
+use Rattle.claims.specs.Demands.{MeansProved, MeansRefuted, MeansSpent, AnswerMeans, OneMeaning}
+use Rattle.claims.specs.SheetWriting.{refutedSheet}
+use Rattle.claims.specs.Sheets.{sheetLength}
+use Rattle.refusals.specs.declared.Reason.the-variants.{BadAllowance, ShortMemory, SpentAllowance, ShortBuffer}
+use Rattle.search_outcomes.specs.declared.Outcome.{Outcome}
+use Rattle.search_outcomes.specs.declared.Outcome.the-variants.{Proved, Refuted, Refused}
+
+-- the buffer has room for the sheet of the answer ("Refusals with an example each")
+abbrev pub Fits : Decision → Lent → Answer → Type 0
+Fits D m x = sheetLength x (D .ring) ≤ length (m .buffer)
+
+-- the outcome r of a search that was lent `before` and leaves `after` ("Standings" and "Refusals with an example each")
+pub record ByWords (D : Decision) (allowance : ℕ) (before after : Lent) (r : Outcome) : Type 0 where
+  -- of the three statements one holds, and no two
+  pub exactly-one : OneMeaning D (claimSystem D) allowance
+  -- 9 exactly where the allowance is outside 1 to 4,096, or memory is short of it
+  pub allowance-out : (r ≡ Refused BadAllowance 0) ↔ ((allowance < 1) ⊎ (4096 < allowance))
+  pub memory-short : (r ≡ Refused ShortMemory 0) ↔ ((1 ≤ allowance) × (allowance ≤ 4096) × Short D allowance before)
+  -- else the statement that holds: an answer, or 10
+  pub proved : (n : ℕ)
+      → (r ≡ Proved n) ↔ (Ready D allowance before × MeansProved D (claimSystem D) allowance n × Fits D before (provedWith n))
+  pub refuted : (n : ℕ)
+      → (r ≡ Refuted n)
+      ↔ (Ready D allowance before × ((w : Word) × (size w ≡ n) × MeansRefuted D (claimSystem D) allowance w × Fits D before (refutedBy w)))
+  pub spent : (r ≡ Refused SpentAllowance 0) ↔ (Ready D allowance before × ((n : ℕ) × MeansSpent D (claimSystem D) allowance n))
+  -- 11 exactly where there is an answer whose sheet is longer than the buffer
+  pub buffer-short : (r ≡ Refused ShortBuffer 0)
+      ↔ (Ready D allowance before
+      × ((x : Answer) × AnswerMeans D (claimSystem D) allowance x × (length (before .buffer) < sheetLength x (D .ring))))
+  -- the refuting word stands in the sheet at the start of the buffer
+  pub word : (w : Word) → MeansRefuted D (claimSystem D) allowance w → r ≡ Refuted (size w)
+      → after .buffer ≡ refutedSheet w ++ drop (length (refutedSheet w)) (before .buffer)
