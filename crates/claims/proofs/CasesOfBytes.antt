@@ -12,7 +12,7 @@ use Rattle.kat.specs.Lists.{upto}
 use Rattle.kat.specs.Graph.{Finite}
 use Rattle.kat.specs.Word.{Word, end, at, numbers}
 use Rattle.notation.specs.Bytes.{text}
-use Rattle.notation.specs.Refusals.{Result, ok, refused, refuse, spentAllowance, shortBuffer}
+use Rattle.notation.specs.Refusals.{Result, ok, refused, refuse, shortMemory, spentAllowance, shortBuffer}
 use Rattle.notation.specs.Sides.{Decision}
 use Rattle.claims.specs.SheetReading.{Said, saysProved, saysRefuted, Part, partIn}
 use Rattle.claims.specs.Judgement.{Judgement, Outcome, holdsIn, breaksAt, breaksFrom}
@@ -86,6 +86,10 @@ included = "rel r\nclaim include r in r\n"
 abbrev pub nothing : String
 nothing = "rel r\nclaim empty r\n"
 
+-- the search has two standings: P = {1}, S = {1, 3}; {2}, {2, 3}
+abbrev pub twoSteps : String
+twoSteps = "rel a\nrel b\nclaim include a;b in a;b\n"
+
 -- the field of a path standing with P and S of one byte each, under a tag
 abbrev pub pathField : ℕ → ℕ → ℕ → List ℕ
 pathField tag p s = tag ∷ 0 ∷ 16 ∷ 0 ∷ 0 ∷ 0 ∷ 0 ∷ 0 ∷ 0 ∷ 0 ∷ p ∷ 0 ∷ 0 ∷ 0 ∷ 0 ∷ 0 ∷ 0 ∷ 0 ∷ s ∷ []
@@ -111,9 +115,16 @@ sheets =
     ∷ record { query = included; bytes = saying 1 (pathField 3 1 3 ++ pathField 3 1 3); line = "refusal 13 line 3" }
     ∷ record { query = included; bytes = saying 1 (pathField 3 1 3 ++ pathField 4 1 1); line = "refusal 13 line 3" }
     ∷ record { query = included; bytes = saying 1 (pathField 3 1 3 ++ saying 1 (pathField 3 1 3)); line = "refusal 13 line 3" }
-    -- a refuted one: its word in a line and in a ring; no word, a relation that there is not, a field more; words that do not refute
+    -- an extra standing, and another order than the search's; a standing of the search's missing
+    ∷ record { query = included; bytes = saying 1 (pathField 3 1 3 ++ pathField 3 1 1); line = "passes proved" }
+    ∷ record { query = twoSteps; bytes = saying 1 (pathField 3 1 5 ++ pathField 3 2 6); line = "passes proved" }
+    ∷ record { query = twoSteps; bytes = saying 1 (pathField 3 2 6 ++ pathField 3 1 5); line = "passes proved" }
+    ∷ record { query = twoSteps; bytes = saying 1 (pathField 3 1 5); line = "refusal 14 line 0" }
+    -- a refuted one: its word in a line and in a ring, and one that is not the shortest; no word, a relation that there is not, a field
+    -- more; words that do not refute
     ∷ record { query = nothing; bytes = sheetOfWord; line = "passes refuted" }
     ∷ record { query = "rel r\nclaim irreflexive r\n"; bytes = sheetOfWord; line = "passes refuted" }
+    ∷ record { query = "rel r\nclaim empty r+\n"; bytes = saying 2 (2 ∷ 0 ∷ 5 ∷ replicate 5 0); line = "passes refuted" }
     ∷ record { query = nothing; bytes = saying 2 []; line = "refusal 13 line 2" }
     ∷ record { query = nothing; bytes = saying 2 (2 ∷ 0 ∷ 3 ∷ 0 ∷ 1 ∷ 0 ∷ []); line = "refusal 13 line 2" }
     ∷ record { query = nothing; bytes = sheetOfWord ++ (0 ∷ []); line = "refusal 13 line 3" }
@@ -227,12 +238,12 @@ pub graphs-drawn :
 unfolding draws everything
 graphs-drawn = (refl, refl, refl)
 
--- lent memory with other numbers in it: n records, and m bytes of sheet
-abbrev pub lent : ℕ → ℕ → Lent
-lent n m =
+-- lent memory with other numbers in it: n records, k words, and m bytes of sheet
+abbrev pub lent : ℕ → ℕ → ℕ → Lent
+lent n k m =
     record {
       records = replicate n (record { P = 7; S = 7; parent = 7; letter = 7 });
-      words = 7 ∷ [];
+      words = replicate k 7;
       buffer = replicate m 7;
     }
 
@@ -245,13 +256,17 @@ left buffer =
       buffer = buffer;
     }
 
--- an answer with its sheet, refuted and proved; a buffer one byte short; an allowance of 1 where two standings are
+-- an answer with its sheet, refuted and proved; a buffer one byte short; an allowance of 1 where two standings are. For a ring claim 40 words
+-- are needed for each standing of the allowance, and one more is left as it was; one word less is short
 pub searches-leave :
-    (search-call (text nothing) 1 (lent 2 12)
+    (search-call (text nothing) 1 (lent 2 1 12)
     ≡ record { result = ok (refutedBy (at 0 0 (end 0))); lent = left (sheetOfWord ++ (7 ∷ 7 ∷ [])) })
-    × (search-call (text included) 1 (lent 2 24)
+    × (search-call (text included) 1 (lent 2 1 24)
     ≡ record { result = ok (provedWith 1); lent = left (saying 1 (pathField 3 1 3 ++ (7 ∷ []))) })
-    × (search-call (text nothing) 1 (lent 2 9) ≡ record { result = refuse shortBuffer 0; lent = left (replicate 9 7) })
-    × (search-call (text "rel a\nrel b\nclaim empty a|b\n") 1 (lent 2 12) ≡ record { result = refuse spentAllowance 0; lent = left (replicate 12 7) })
+    × (search-call (text nothing) 1 (lent 2 1 9) ≡ record { result = refuse shortBuffer 0; lent = left (replicate 9 7) })
+    × (search-call (text "rel a\nrel b\nclaim empty a|b\n") 1 (lent 2 1 12) ≡ record { result = refuse spentAllowance 0; lent = left (replicate 12 7) })
+    × (search-call (text C5) 2 (lent 0 81 273)
+    ≡ record { result = ok (provedWith 1); lent = record { records = []; words = replicate 80 0 ++ (7 ∷ []); buffer = saying 1 (ringField 1 M5 []) } })
+    × (search-call (text C5) 2 (lent 0 79 273) ≡ record { result = refuse shortMemory 0; lent = lent 0 79 273 })
 unfolding everything
-searches-leave = (refl, refl, refl, refl)
+searches-leave = (refl, refl, refl, refl, refl, refl)

@@ -32,6 +32,7 @@ pub use Rattle.verdicts.proofs.Answers
 pub use Rattle.verdicts.proofs.Walk
 pub use Rattle.verdicts.proofs.MoreLevels
 pub use Rattle.verdicts.proofs.Plain
+pub use Rattle.verdicts.proofs.Closed
 pub use Rattle.verdicts.proofs.Verdict
 pub use Rattle.verdicts.proofs.Thinned
 pub use Rattle.verdicts.proofs.ThinVerdict

@@ -1,7 +1,8 @@
 -- Which sheets pass, exactly. For an accepted query a list of bytes passes exactly where it is the bytes of a sheet that may say what it says
 -- and that says what passes. So it passes as refuted exactly where it is the refuted sheet of a word that refutes and whose numbers a
--- field can hold: the check accepts every refuting word, shortest or not, and nothing else. The idea: the reader accepts exactly the bytes
--- of sheets (`SheetExactly`).
+-- field can hold: the check accepts every refuting word, shortest or not, and nothing else. And it passes as proved exactly where it is the
+-- proved sheet of standings that a sheet may list and that are closed in plain words (`Closed`), extra ones and any order among them. The
+-- idea: the reader accepts exactly the bytes of sheets (`SheetExactly`).
 -- Assumes nothing.
 use Prim.Native.Nat.{ℕ, _<_}
 use native.Mathlib.Omega.{arith}
@@ -17,10 +18,12 @@ use Rattle.claims.specs.SheetBytes.{sheetBytes}
 use Rattle.claims.specs.SheetReading.{saysProved, saysRefuted, sheetIn}
 use Rattle.claims.specs.SheetWriting.{AllBytes, InRange, MaySay, refutedSheet, partBytes}
 use Rattle.verdicts.specs.Passing.{passes, proving}
+use Rattle.verdicts.specs.Closed.{Closed}
 use Rattle.notation.specs.Refusals.{ok, afterwards}
 use Rattle.claims.specs.Calls.{Asked, asked, passedProved, passedRefuted, passedOf, checked, check-call}
 use Rattle.notation.specs.Words.{Refutes}
-use Rattle.claims.proofs.ByKind.{same-relations, live-atoms, refutes-by-standings}
+use Rattle.verdicts.proofs.Closed.{closed-exactly}
+use Rattle.claims.proofs.ByKind.{lawful, same-relations, live-atoms, refutes-by-standings}
 use Rattle.claims.proofs.WordBytes.{guarded-in-range}
 use Rattle.claims.proofs.SheetOfBytes.{numbers-bytes, refuted-bytes}
 use Rattle.claims.proofs.Limits.{WithinLimits, asked-within-limits}
@@ -72,18 +75,28 @@ module _ (bs : List ℕ) (a : Asked) (accepted : asked bs ≡ ok a) where
         )),
       )
 
-  -- bytes pass as proved exactly when they are the proved sheet of standings that a sheet may list and that pass
+  -- the standings of the query pass exactly when they are closed
+  passes-exactly-closed : (ss : List (claimSystem (a .decided) .Standing))
+      → (proving (claimSystem (a .decided)) ss ≡ true) ↔ Closed (a .decided) (claimSystem (a .decided)) ss
+  passes-exactly-closed ss =
+      closed-exactly (a .decided) (claimSystem (a .decided)) (lawful (a .decided .ring) (a .decided) (live-rises bs a accepted)) ss
+      (refutes-by-standings (a .decided .ring) (a .decided) refl)
+
+  -- bytes pass as proved exactly when they are the proved sheet of standings that a sheet may list and that are closed: no length-0 word
+  -- refutes, every level-1 standing is listed, every standing one step after a listed one is listed, and no listed one completes a
+  -- refuting word
   pub proved-exactly : (sheet : List ℕ) → AllBytes sheet
       → (check-call bs sheet ≡ ok passedProved)
       ↔ ((ss : List (claimSystem (a .decided) .Standing)) × (sheet ≡ partBytes (a .decided) (saysProved ss))
-      × MaySay (a .decided) (saysProved ss) × (proving (claimSystem (a .decided)) ss ≡ true))
+      × MaySay (a .decided) (saysProved ss) × Closed (a .decided) (claimSystem (a .decided)) ss)
   unfolding checked
   proved-exactly sheet b =
       let within = asked-within-limits bs accepted in (
         (λ e.
             let (ss, r, p) = passed-proved (a .decided) (sheetIn (a .decided) sheet) (sym (check-is bs a accepted sheet) ∙ e) in
             let (q, m) = sheet-reading (a .decided) within sheet b (saysProved ss) .0 r in
-            (ss, q, m, p)),
-        (λ (ss, q, m, p).
-            check-is bs a accepted sheet ∙ ap (checked (a .decided)) q ∙ proved-sheet-passes (a .decided) within ss m p),
+            (ss, q, m, passes-exactly-closed ss .0 p)),
+        (λ (ss, q, m, c).
+            check-is bs a accepted sheet ∙ ap (checked (a .decided)) q
+            ∙ proved-sheet-passes (a .decided) within ss m (passes-exactly-closed ss .1 c)),
       )

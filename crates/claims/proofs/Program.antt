@@ -10,7 +10,7 @@ use lib.Dec.{leb}
 use lib.ListN.{length, replicate, length-replicate}
 use borrow.Author.Tests.{leb-true}
 use Rattle.kat.proofs.Bools.{and-left, and-right}
-use Rattle.notation.specs.Width.{width, rowLength, besideColumns, ringWords}
+use Rattle.notation.specs.Width.{width, rowLength, ringWords}
 use Rattle.claims.specs.SheetBytes.{contentsLength}
 use Rattle.notation.specs.Sides.{Decision}
 use Rattle.verdicts.specs.Standings.{systemOf}
@@ -24,7 +24,7 @@ use Rattle.claims.proofs.Demand2.{call-is-searched, fits-full, call-wit
 
 -- the memory is as refusal 9 asks
 memory-ready : (D : Decision) (n : ℕ) → 1 ≤ n → n ≤ 4096 → Ready D n (memoryFor n)
-unfolding neededRecords neededWords ringWords width besideColumns memoryFor
+unfolding neededRecords neededWords memoryFor
 memory-ready D n h i =
     record {
       some-allowance = h;
@@ -37,7 +37,7 @@ memory-ready D n h i =
     records false = omega arith
     records true = zero-le
 
-    words : (b : Bool) → elim b [ false ↦ 0 | true ↦ 40 * n ] ≤ 40 * n
+    words : (b : Bool) → elim b [ false ↦ 0 | true ↦ ringWords * n ] ≤ ringWords * n
     words false = zero-le
     words true = omega arith
 

@@ -27,6 +27,7 @@ pub use Rattle.verdicts.specs.Alike
 pub use Rattle.verdicts.specs.Verdicts
 pub use Rattle.verdicts.specs.Orders
 pub use Rattle.verdicts.specs.Lawful
+pub use Rattle.verdicts.specs.Closed
 -- "Sheet and graph bytes": fields, the sheet written and read.
 pub mod Fields
 pub mod SheetBytes

@@ -3,6 +3,7 @@ pub mod Bools
 pub mod Sets
 pub mod Shapes
 -- Languages, and walks in graphs.
+pub mod Postfix
 pub mod Fusion
 pub mod Walks
 pub mod Traces

@@ -1,6 +1,6 @@
 -- The limits of a query as rows, each at the limit and one past it: the leaves and occurrences of both sides, the bytes of a name,
--- open brackets, and the declarations. (Document 01, "The query", "Standings", Limits, and refusals 3, 4, 6 and 8.) All of it holds by
--- computation over the definitions.
+-- open brackets, and the declarations; and how wide a ring standing is. (Document 01, "The query", "Standings", Limits and last paragraph,
+-- "Sheet and graph bytes", and refusals 3, 4, 6 and 8.) All of it holds by computation over the definitions.
 -- Assumes nothing.
 use Prim.Native.Nat.{ℕ}
 use Prim.Native.String.{String}
@@ -9,6 +9,7 @@ use mathlib.Core.List.{List, [], _∷_, map}
 use Rattle.notation.specs.Bytes.{text}
 use Rattle.notation.specs.Refusals.{Result, ok, refused}
 use Rattle.notation.specs.Query.{Query}
+use Rattle.notation.specs.Width.{width, rowLength, ringWords}
 use Rattle.notation.specs.Reading.{read}
 use Rattle.notation.specs.RefusalLine.{refusalLine}
 use Rattle.notation.proofs.Evaluate.{everything}
@@ -154,3 +155,8 @@ declarations =
 pub declarations-within : map reads declarations ≡ map expected declarations
 unfolding reads everything
 declarations-within = refl
+
+-- a ring standing: 32 rows of 4 bytes for each of its tables, and 40 words of working memory
+pub ring-standing-wide : (width ≡ 32) × (rowLength ≡ 4) × (ringWords ≡ 40)
+unfolding everything
+ring-standing-wide = (refl, refl, refl)

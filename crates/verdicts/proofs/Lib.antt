@@ -24,6 +24,7 @@ pub mod Answers
 pub mod Walk
 pub mod MoreLevels
 pub mod Plain
+pub mod Closed
 pub mod Verdict
 -- Letters that the search and the check of a sheet may leave out.
 pub mod Thinned

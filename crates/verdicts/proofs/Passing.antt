@@ -1,6 +1,6 @@
 -- A sheet that passes as proved proves: whatever standings it lists, no word of the query refutes. The idea: along a word, the
 -- standing after each prefix is listed or no left occurrence is possible after it, and neither completes a refuting word. What a
--- proved sheet has to have, in plain words, is `Closed`.
+-- proved sheet has to have, letter by letter, is `ClosedByLetters`; `Closed` of `specs/` says it in plain words.
 -- Assumes nothing.
 use mathlib.Core.Path.{_≡_, refl, sym, ap, subst}
 use mathlib.Core.Logic.{_⊎_, ⊎-elim}
@@ -39,15 +39,15 @@ empty-is-nil : {A : Type 0} (l : List A) → isEmpty l ≡ true → l ≡ []
 empty-is-nil [] e = refl
 empty-is-nil (x ∷ xs) e = absurd (true≢false (sym e))
 
--- what a proved sheet that passes has
-pub record Closed (S : System) (laws : Lawful S) (ss : List (S .Standing)) : Type 0 where
+-- what a proved sheet that passes has, letter by letter
+pub record ClosedByLetters (S : System) (laws : Lawful S) (ss : List (S .Standing)) : Type 0 where
   pub none-alone : S .alone ≡ []
   pub begins : (l : Letter) → Fits S l → Listed S laws ss (S .begin l)
   pub goes-on : (s : S .Standing) (l : Letter) → In s ss → Fits S l → Listed S laws ss (S .onward s l)
   pub completes-none : (s : S .Standing) → In s ss → S .finals s ≡ []
 
 module _ (S : System) (laws : Lawful S) (ss : List (S .Standing)) where
-  pub passes-closed : proving S ss ≡ true → Closed S laws ss
+  pub passes-closed : proving S ss ≡ true → ClosedByLetters S laws ss
   unfolding proving
   passes-closed e =
       let first : Bool = every (λ l. listed S ss (S .begin l)) (letters S) in
@@ -70,7 +70,7 @@ module _ (S : System) (laws : Lawful S) (ss : List (S .Standing)) where
             (every-in (λ t. isEmpty (S .finals t)) (and-right (isEmpty (S .alone) && first && steps) ends e) i);
       }
 
-  pub closed-passes : Closed S laws ss → proving S ss ≡ true
+  pub closed-passes : ClosedByLetters S laws ss → proving S ss ≡ true
   unfolding proving
   closed-passes c =
       and-both (and-both (and-both (ap isEmpty (c .none-alone))
@@ -80,7 +80,7 @@ module _ (S : System) (laws : Lawful S) (ss : List (S .Standing)) where
       (λ l j. cases-listed S laws ss (S .onward s l) (c .goes-on s l i (letters-in S l j))))))
       (in-every (λ s. isEmpty (S .finals s)) ss (λ s i. ap isEmpty (c .completes-none s i)))
 
-  module _ (c : Closed S laws ss) where
+  module _ (c : ClosedByLetters S laws ss) where
     listed-finals : (s : S .Standing) → Listed S laws ss s → S .finals s ≡ []
     listed-finals s (inl d) = laws .dead-ends s d
     listed-finals s (inr i) = c .completes-none s i

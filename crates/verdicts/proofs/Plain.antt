@@ -24,7 +24,7 @@ use Rattle.verdicts.specs.Lawful.{Lawful}
 use Rattle.verdicts.proofs.Distinct.{distinct-no-longer}
 use Rattle.verdicts.proofs.Order.{words-same}
 use Rattle.verdicts.proofs.Prefixes
-use Rattle.verdicts.proofs.Passing.{Listed, Closed, closed-passes}
+use Rattle.verdicts.proofs.Passing.{Listed, ClosedByLetters, closed-passes}
 
 module _ (S : System) (c : ℕ) where
   pub proved-not-refuted : (ss : List (S .Standing)) (w : Word) → ProvedBy S c ss → RefutedBy S c w → ⊥
@@ -55,7 +55,7 @@ module _ (S : System) (c : ℕ) where
       let e : size w ≡ size v = le-antisymm (not-shorter v w q p) (not-shorter w v p q) in
       words-same w v (p .3 v (q .0) (sym e) (q .1)) (q .3 w (p .0) e (p .1))
 
-none-in-nil : (l : List ℕ) → ((a : ℕ) → In a l → ⊥) → l ≡ []
+pub none-in-nil : (l : List ℕ) → ((a : ℕ) → In a l → ⊥) → l ≡ []
 none-in-nil [] h = refl
 none-in-nil (a ∷ as′) h = absurd (h a (here refl))
 
@@ -65,7 +65,7 @@ module _ (S : System) (laws : Lawful S) (c : ℕ) where
   held-listed ss s p h =
       ⊎-elim (λ o. inr (p .2 s .1 (h o))) (λ o. inl o) (bool-cases (S .possible s))
 
-  pub proved-closed : (ss : List (S .Standing)) → ProvedBy S c ss → Closed S laws ss
+  pub proved-closed : (ss : List (S .Standing)) → ProvedBy S c ss → ClosedByLetters S laws ss
   unfolding refuting
   proved-closed ss p =
       record {

@@ -11,3 +11,5 @@ pub mod Alike
 pub mod Verdicts
 pub mod Orders
 pub mod Lawful
+-- Which proved sheets pass, in plain words.
+pub mod Closed
