@@ -54,10 +54,9 @@ meaning-answered text graph j J =
     })
 
 -- a text that the reader refuses
-unread-refused : (text : List ℕ) (why : Refusal) → read text ≡ refused why
-    → (allowance : ℕ) (before after : Lent) (r : Outcome) → Gives (search-call text allowance before) r after
-    → Says (refused why) r × (after ≡ before)
-unread-refused text why e allowance before after r gives =
+unread-refused : (text : List ℕ) (allowance : ℕ) (before after : Lent) (r : Outcome) → Gives (search-call text allowance before) r after
+    → (why : Refusal) → read text ≡ refused why → Says (refused why) r × (after ≡ before)
+unread-refused text allowance before after r gives why e =
     let d : search-call text allowance before ≡ record { result = refused why; lent = before } = search-reads-first text allowance before why e in
     (subst (λ (z : Done). Says (z .result) r) d (gives .says), gives .leaves ∙ ap (λ (z : Done). z .lent) d)
 

@@ -1,6 +1,6 @@
 -- The customer's second demand, about the calls `search::search` and `graph::judge`, for every text, every allowance, every lent memory and every
--- graph: verdicts are defined by words alone and judgements by the relational meaning, and the calls answer exactly these. It speaks of an
--- answer of a call as that call's contract has it: `Gives (search-call text allowance before) r after` is what `search::search` ensures of its
+-- graph: the outcome of a search is the one that the words of the claim fix, and a judgement is the relational meaning, each way round. It
+-- speaks of an answer of a call as that call's contract has it: `Gives (search-call text allowance before) r after` is what `search::search` ensures of its
 -- outcome r and of what it leaves, and `resultOf r ≡ judge-call text graph` is what `graph::judge` ensures of its answer r. (Document 01,
 -- "Words", "Standings", "Sheet and graph bytes", last paragraph, and "Refusals with an example each".)
 -- Assumes nothing.
@@ -8,17 +8,13 @@ use Prim.Native.Nat.{ℕ}
 use mathlib.Core.Path.{_≡_}
 use mathlib.Core.Logic.{_↔_}
 use mathlib.Core.List.{List}
-use mathlib.Core.Option.{some}
-use Rattle.claims.specs.Tree.{Claim}
-use Rattle.claims.specs.Query.{Query}
 use Rattle.claims.specs.Refusals.{Refusal, ok, refused}
-use Rattle.claims.specs.Reading.{read, claimOf}
-use Rattle.claims.specs.Sides.{decision}
+use Rattle.claims.specs.Reading.{read}
 use Rattle.claims.specs.Judgement.{Judgement}
 use Rattle.claims.specs.Calls.{Lent, search-call, judge-call}
 use Rattle.search_outcomes.specs.declared.Outcome.{Outcome}
 use Rattle.search_outcomes.specs.Outcomes.{Says, Gives}
-use Rattle.search_outcomes.specs.ByWords.{ByWords}
+use Rattle.search_outcomes.specs.ByWords.{SearchedByWords}
 use Rattle.graph.specs.declared.Judged.{Judged}
 use Rattle.graph.specs.Answers.{resultOf}
 use Rattle.graph.specs.Meanings.{IsMeaning}
@@ -26,11 +22,9 @@ use Rattle.graph.specs.Meanings.{IsMeaning}
 -- the second demand: the search of a query with a claim has the outcome that the words fix; what the reader refuses is refused so, and nothing
 -- that was lent is changed; the judge answers a judgement exactly where it is the meaning of the graph
 pub record SecondDemand : Type 0 where
-  pub searched : (text : List ℕ) (q : Query) (c : Claim) → read text ≡ ok q → claimOf q ≡ some c
-      → (allowance : ℕ) (before after : Lent) (r : Outcome) → Gives (search-call text allowance before) r after
-      → ByWords (decision q c) allowance before after r
-  pub unread : (text : List ℕ) (why : Refusal) → read text ≡ refused why
-      → (allowance : ℕ) (before after : Lent) (r : Outcome) → Gives (search-call text allowance before) r after
-      → Says (refused why) r × (after ≡ before)
+  pub searched : (text : List ℕ) (allowance : ℕ) (before after : Lent) (r : Outcome) → Gives (search-call text allowance before) r after
+      → SearchedByWords text allowance before after r
+  pub unread : (text : List ℕ) (allowance : ℕ) (before after : Lent) (r : Outcome) → Gives (search-call text allowance before) r after
+      → (why : Refusal) → read text ≡ refused why → Says (refused why) r × (after ≡ before)
   pub judged : (text graph : List ℕ) (r : Judged) → resultOf r ≡ judge-call text graph
       → (j : Judgement) → (resultOf r ≡ ok j) ↔ IsMeaning text graph j

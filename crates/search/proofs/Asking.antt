@@ -16,6 +16,8 @@ use Rattle.query.specs.Answer.{Says, leftAfter, rightAfter}
 use Rattle.search_outcomes.specs.declared.Outcome.{Outcome}
 use Rattle.search_outcomes.specs.declared.Outcome.the-variants.{Refused}
 use Rattle.search_outcomes.specs.Outcomes.{Gives}
+use Rattle.search_outcomes.specs.ByWords.{SearchedByWords}
+use Rattle.search_outcomes.proofs.ByWords.{search-by-words}
 use Rattle.query.specs.Decided.{Decided}
 use Rattle.query.proofs.Asked.{asked-with}
 
@@ -39,3 +41,8 @@ module _ (bs : List ℕ) (x : Answer) (said : Says (read bs) x) (f : Facts) (e :
       subst⁻¹
       (λ z. Gives (elim z [ refused r ↦ record { result = refused r; lent = m } | ok a ↦ searchAsked a allowance m ]) o m′)
       (asked-with bs x said f e left right is-left is-right .accepted) (h (asked-with bs x said f e left right is-left is-right .asks) (asked-with bs x said f e left right is-left is-right .decided))
+
+-- what the call gives, and the outcome is so the one that the words fix
+pub with-words : (bs : List ℕ) (allowance : ℕ) (m m′ : Lent) (o : Outcome) → Gives (search-call bs allowance m) o m′
+    → Gives (search-call bs allowance m) o m′ × SearchedByWords bs allowance m m′ o
+with-words bs allowance m m′ o g = (g, search-by-words bs allowance m m′ o g)

@@ -10,10 +10,11 @@ ghost use Rattle.claims.specs.Calls.{search-call};
 ghost use Rattle.search_records.specs.declared.Record.{Record};
 ghost use Rattle.search_records.specs.Records.{blank};
 ghost use Rattle.search_outcomes.specs.Outcomes.{lentOf, Gives};
+ghost use Rattle.search_outcomes.specs.ByWords.{SearchedByWords};
 
 // Searches for the verdict of the query that the text is, within an allowance of standings. A path claim needs a record for each standing
 // of the allowance, a ring claim 40 words; the other kind of memory is not looked at. After an answer the sheet stands at the start of the
-// buffer.
+// buffer. The outcome is the one that the words of the claim fix.
 pub fn search(
     text: &[u8],
     allowance: usize,
@@ -21,9 +22,12 @@ pub fn search(
     words: &mut [u64],
     buffer: &mut [u8],
 ) -> Outcome
-    ensures { λ r.
+    ensures gives { λ r.
         ⌜ Gives (search-call (now (text .entry)) allowance (lentOf (now (records .entry)) (now (words .entry)) (now (buffer .entry)))) r
         (lentOf (now (records .exit)) (now (words .exit)) (now (buffer .exit))) ⌝ }
+    ensures by_words { λ r.
+        ⌜ SearchedByWords (now (text .entry)) allowance (lentOf (now (records .entry)) (now (words .entry)) (now (buffer .entry)))
+        (lentOf (now (records .exit)) (now (words .exit)) (now (buffer .exit))) r ⌝ }
 {
     let mut codes = [0u64; 4096];
     let mut left = [0u64; 4241];

@@ -12,9 +12,7 @@ use mathlib.Core.Option.{some}
 use lib.ListN.{length, drop}
 use Rattle.kat.specs.Word.{Word, size}
 use Rattle.kat.proofs.Bools.{le-or-lt}
-use Rattle.claims.specs.Tree.{Claim}
 use Rattle.claims.specs.Query.{Query}
-use Rattle.claims.specs.Reading.{read, claimOf}
 use Rattle.claims.specs.Sides.{Decision, decision}
 use Rattle.claims.specs.Standings.{System, claimSystem}
 use Rattle.claims.specs.Search.{Verdict, proved, refuted, spent, verdict}
@@ -40,7 +38,7 @@ use Rattle.refusals.proofs.Causes.{one-reason}
 use Rattle.search_outcomes.specs.declared.Outcome.{Outcome}
 use Rattle.search_outcomes.specs.declared.Outcome.the-variants.{Proved, Refuted, Refused}
 use Rattle.search_outcomes.specs.Outcomes.{Says, Gives}
-use Rattle.search_outcomes.specs.ByWords.{Fits, ByWords}
+use Rattle.search_outcomes.specs.ByWords.{Fits, ByWords, SearchedByWords}
 
 -- the outcome that says a result
 says-proved : (r : Outcome) (n : ℕ) → Says (ok (provedWith n)) r → r ≡ Proved n
@@ -318,10 +316,9 @@ module _ (text : List ℕ) (q : Query) (a : Accepted text q) (allowance : ℕ) (
           }
 
 -- whatever the allowance and the lent memory, the outcome of the search of an accepted query is the one that the words fix
-pub search-by-words : (text : List ℕ) (q : Query) (c : Claim) → read text ≡ ok q → claimOf q ≡ some c
-    → (allowance : ℕ) (before after : Lent) (r : Outcome) → Gives (search-call text allowance before) r after
-    → ByWords (decision q c) allowance before after r
-search-by-words text q c e f allowance before after r gives =
+pub search-by-words : (text : List ℕ) (allowance : ℕ) (before after : Lent) (r : Outcome) → Gives (search-call text allowance before) r after
+    → SearchedByWords text allowance before after r
+search-by-words text allowance before after r gives q c e f =
     let a : Accepted text q = read-accepts text q .0 e in
     let g : some (a .claim) ≡ some c = sym (a .claimed) ∙ f in
     let same : a .claim ≡ c = cc in

@@ -1,15 +1,21 @@
--- What the outcome of a search is, by the words of the claim alone, for a text that is an accepted query, whatever the allowance and the lent
--- memory. (Document 01, "Standings" and "Refusals with an example each".) Of three statements exactly one holds: no word refutes and there
--- are so many standings; this word refutes and none comes before it; the allowance is spent. The outcome is the one that holds, each way
--- round. Refusal 9 comes before any search, and 11 stands in place of an answer whose sheet the buffer has no room for.
+-- What the outcome of a search is, by the words and standings of the claim and not by how they are searched, for a text that is an accepted
+-- query, whatever the allowance and the lent memory. (Document 01, "Standings" and "Refusals with an example each".) Of three statements
+-- exactly one holds: no word refutes and there are so many standings; this word refutes and none comes before it; the allowance is spent.
+-- The outcome is the one that holds, each way round. Refusal 9 comes before any search, and 11 stands in place of an answer whose sheet the
+-- buffer has no room for.
 -- Assumes nothing.
 use Prim.Native.Nat.{ℕ, _≤_, _<_}
 use mathlib.Core.Path.{_≡_}
 use mathlib.Core.Logic.{_⊎_, _↔_}
-use mathlib.Core.List.{_++_}
+use mathlib.Core.List.{List, _++_}
+use mathlib.Core.Option.{some}
 use lib.ListN.{length, drop}
 use Rattle.kat.specs.Word.{Word, size}
-use Rattle.claims.specs.Sides.{Decision}
+use Rattle.claims.specs.Tree.{Claim}
+use Rattle.claims.specs.Query.{Query}
+use Rattle.claims.specs.Refusals.{ok}
+use Rattle.claims.specs.Reading.{read, claimOf}
+use Rattle.claims.specs.Sides.{Decision, decision}
 use Rattle.claims.specs.Standings.{claimSystem}
 use Rattle.claims.specs.Calls.{Answer, provedWith, refutedBy, Lent}
 use Rattle.claims.specs.CallOrder.{Ready, Short}
@@ -24,7 +30,8 @@ use Rattle.search_outcomes.specs.declared.Outcome.the-variants.{Proved, 
 abbrev pub Fits : Decision → Lent → Answer → Type 0
 Fits D m x = sheetLength x (D .ring) ≤ length (m .buffer)
 
--- the outcome r of a search that was lent `before` and leaves `after` ("Standings" and "Refusals with an example each")
+-- the outcome r of a search that was lent `before` and leaves `after`; one of the right sides always holds, so that the outcome is settled
+-- ("Standings" and "Refusals with an example each")
 pub record ByWords (D : Decision) (allowance : ℕ) (before after : Lent) (r : Outcome) : Type 0 where
   -- of the three statements one holds, and no two
   pub exactly-one : OneMeaning D (claimSystem D) allowance
@@ -45,3 +52,8 @@ pub record ByWords (D : Decision) (allowance : ℕ) (before after : Lent) (r : O
   -- the refuting word stands in the sheet at the start of the buffer
   pub word : (w : Word) → MeansRefuted D (claimSystem D) allowance w → r ≡ Refuted (size w)
       → after .buffer ≡ refutedSheet w ++ drop (length (refutedSheet w)) (before .buffer)
+
+-- the same of a text that is an accepted query with a claim ("Standings" and "Refusals with an example each")
+abbrev pub SearchedByWords : List ℕ → ℕ → Lent → Lent → Outcome → Type 0
+SearchedByWords text allowance before after r =
+    (q : Query) (c : Claim) → read text ≡ ok q → claimOf q ≡ some c → ByWords (decision q c) allowance before after r

@@ -63,7 +63,7 @@ module _ {M : Type 1} (𝓤 : URA M) (H : Heap 𝓤) (A : Atoms 𝓤) (W : Given
                         λ κ. tt,
                         λ sheet. (
                           λ κ. tt,
-                          λ kept. ((refl, (tt, (fix len, (fix len′, (fix len′′, tt))))), checked-gives (a .0 .now) (a .1 .0) (a .1 .1 .0 .now) (a .1 .1 .1 .0 .now) (a .1 .1 .1 .1 .0 .now) (search .2 .1 .1 .0) (search .2 .1 .1 .1 .0) (search .2 .1 .1 .1 .1 .0) (search .1) (search .5) _ (sheet .5) (kept .1) (kept .5)),
+                          λ kept. ((refl, (tt, (fix len, (fix len′, (fix len′′, tt))))), checked-gives (a .0 .now) (a .1 .0) (a .1 .1 .0 .now) (a .1 .1 .1 .0 .now) (a .1 .1 .1 .1 .0 .now) (search .2 .1 .1 .0) (search .2 .1 .1 .1 .0) (search .2 .1 .1 .1 .1 .0) (search .1) (search .5 .0) _ (sheet .5) (kept .1) (kept .5)),
                         ),
                       ),
                     ),

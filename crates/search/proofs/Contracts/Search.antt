@@ -3,7 +3,7 @@
 use Rattle.derivations.proofs.Derive.{rEnum}
 use borrow.Fn.Kind.{PK, RK}
 use borrow.Fn.Kinds.{pNum}
-use borrow.Fn.Read.{all-models, r-last, r-top}
+use borrow.Fn.Read.{all-models, r-fact, r-last, r-top}
 use borrow.Kind.MutSlice.{pMutS}
 use borrow.Kind.ShrSlice.{pShrS}
 use borrow.Table.Referent.{fInt, rtF}
@@ -33,7 +33,7 @@ abbrev pub rq : Plain.ReadReq 4 ps r req
 rq κs a g = all-models (req κs a g) (λ w. r-top) (λ w. refl) (λ w. refl) (λ w. refl)
 
 abbrev pub en : Plain.ReadEns 4 ps r ens
-en κs a g z e = all-models (ens κs a g z e) (λ w. r-last _) (λ w. refl) (λ w. refl) (λ w. refl)
+en κs a g z e = all-models (ens κs a g z e) (λ w. r-fact _ _ (r-last _)) (λ w. refl) (λ w. refl) (λ w. refl)
 
 abbrev pub spec : Plain.Contract
 spec = record {

@@ -21,7 +21,7 @@ use borrow.Enum.Match.{each-below, tag-small}
 use Rattle.query.proofs.Answer
 use Rattle.query.proofs.Asked.{few-relations}
 use Rattle.search_outcomes.specs.Outcomes.{lentOf}
-use Rattle.search.proofs.Asking.{refused-gives, accepted-gives}
+use Rattle.search.proofs.Asking.{refused-gives, accepted-gives, with-words}
 use Rattle.derivations.proofs.Derive.{fix, homesOf}
 use Rattle.derivations.proofs.Plain as Plain
 use Rattle.search.proofs.Contracts.Search.{ps, r, spec}
@@ -55,7 +55,7 @@ module _ {M : Type 1} (𝓤 : URA M) (H : Heap 𝓤) (A : Atoms 𝓤) (W : Given
                   is,
                   λ told. λ g. (
                     (refl, (tt, (fix refl, (fix refl, (fix refl, tt))))),
-                    refused-gives (a .0 .now) (read .1) (read .5 .0) _ _ (told .1) (a .1 .0) (lentOf (a .1 .1 .0 .now) (a .1 .1 .1 .0 .now) (a .1 .1 .1 .1 .0 .now)),
+                    with-words _ _ _ _ _ (refused-gives (a .0 .now) (read .1) (read .5 .0) _ _ (told .1) (a .1 .0) (lentOf (a .1 .1 .0 .now) (a .1 .1 .1 .0 .now) (a .1 .1 .1 .1 .0 .now))),
                   ),
                 ),
                 (
@@ -77,8 +77,8 @@ module _ {M : Type 1} (𝓤 : URA M) (H : Heap 𝓤) (A : Atoms 𝓤) (W : Given
                                   refl,
                                   λ len′′. (
                                     (refl, (tt, (fix len, (fix len′, (fix len′′, tt))))),
-                                    accepted-gives (a .0 .now) (read .1) (read .5 .0) _ (told .1) (read .2 .1 .1 .0) (read .2 .1 .1 .1 .0) (read .5 .2) (read .5 .3) (a .1 .0) (lentOf (a .1 .1 .0 .now) (a .1 .1 .1 .0 .now) (a .1 .1 .1 .1 .0 .now))
-                                        (lentOf (decide .2 .1 .1 .1 .1 .0) (decide .2 .1 .1 .1 .1 .1 .0) (decide .2 .1 .1 .1 .1 .1 .1 .0)) (decide .1) (decide .5),
+                                    with-words _ _ _ _ _ (accepted-gives (a .0 .now) (read .1) (read .5 .0) _ (told .1) (read .2 .1 .1 .0) (read .2 .1 .1 .1 .0) (read .5 .2) (read .5 .3) (a .1 .0) (lentOf (a .1 .1 .0 .now) (a .1 .1 .1 .0 .now) (a .1 .1 .1 .1 .0 .now))
+                                        (lentOf (decide .2 .1 .1 .1 .1 .0) (decide .2 .1 .1 .1 .1 .1 .0) (decide .2 .1 .1 .1 .1 .1 .1 .0)) (decide .1) (decide .5)),
                                   ),
                                 ),
                               ),
