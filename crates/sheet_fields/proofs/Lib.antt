@@ -1,3 +1,5 @@
--- The standings read so far; what is answered.
+-- The field that was read; the standings read so far; what is answered; what holds from field to field.
+mod Whole
 pub mod SoFar
 mod Outcomes
+mod Going

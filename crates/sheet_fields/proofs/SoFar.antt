@@ -37,6 +37,7 @@ use Rattle.sheet_word.proofs.Refuted.{decided-shows}
 use Rattle.query.specs.Decided.{Decided}
 use Rattle.query.specs.declared.Facts.{Facts}
 use Rattle.sheet_fields.specs.Reads.{cellsListed}
+use Rattle.sheet_fields.specs.inner.Between.{SoFar}
 use Rattle.sheet_verdicts.specs.inner.Steps.{sized, mayList}
 
 -- one standing more
@@ -168,7 +169,7 @@ module _ {f : Facts} {left right : List ℕ} {D : Decision} (d : Decided f left 
     standing-is = by-field (nextField (drop at bs)) refl
 
 -- a field as long as a standing's lies in the bytes, and the next one starts behind it
-field-length : (ring : Bool) → 3 + contentsLength ring ≡ fieldLength ring
+pub field-length : (ring : Bool) → 3 + contentsLength ring ≡ fieldLength ring
 unfolding contentsLength fieldLength width rowLength
 field-length true = refl
 field-length false = refl
@@ -210,12 +211,13 @@ module _ (ring : Bool) (atoms l r : ℕ) (bs : List ℕ) (base n at : ℕ) (m : 
   unfolding mayList
   listable-fits = and-right test fit (and-left (test && fit) new m)
 
--- standings 0 to n - 1 are read, and place at is behind them; at most fuel may follow one another
-pub record SoFar (D : Decision) (bs : List ℕ) (base fuel n at : ℕ) : Type 0 where
-  pub good : (c : List ℕ) → In c (cellsListed (D .ring) bs base n) → GoodCells (D .ring) D c
-  pub read : (k : ℕ)
-      → standingsIn D fuel k [] (drop base bs)
-      ≡ standingsIn D (fuel - n) (k + n) (map (cellsShow (D .ring) D) (cellsListed (D .ring) bs base n)) (drop at bs)
+-- one of another length may not
+pub unsized-not : (ring : Bool) (atoms l r : ℕ) (bs : List ℕ) (base n at : ℕ) → sized ring (nextField (drop at bs)) ≡ false
+    → mayList ring atoms l r bs base n at ≡ false
+unfolding mayList
+unsized-not ring atoms l r bs base n at e =
+    ap (λ b. b && cellsFit ring atoms l r (standingCells ring bs at)
+    && eqb (lastWhere (λ i. same (listedCells ring bs base i) (standingCells ring bs at)) n) 0) e
 
 pub so-far-none : (D : Decision) (bs : List ℕ) (base fuel : ℕ) → SoFar D bs base fuel 0 base
 so-far-none D bs base fuel =

@@ -1,2 +1,3 @@
--- What the reading of a part answers.
+-- What the reading of a part answers; what holds between two of its fields.
 pub mod Reads
+pub mod inner

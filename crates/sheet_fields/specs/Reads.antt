@@ -1,7 +1,7 @@
 -- What the reading of a part of a sheet answers, for every list of bytes. (Document 01, "Sheet and graph bytes" and refusal 13.) Where what is
 -- said stands in the sheet, whatever the claim; and, for a claim that is decided, that it is what document 01 reads there.
 -- Assumes nothing.
-use Prim.Native.Nat.{ℕ, suc, _+_, _*_, _-_, _≤_}
+use Prim.Native.Nat.{ℕ, zero, suc, _+_, _*_, _-_, _≤_}
 use mathlib.Core.Path.{_≡_}
 use mathlib.Core.Bool.{Bool}
 use mathlib.Core.List.{List, map}
@@ -13,6 +13,7 @@ use Rattle.claims.specs.Sides.{Decision}
 use Rattle.claims.specs.Standings.{claimSystem}
 use Rattle.claims.specs.Refusals.{sheetField, Result, ok, refused}
 use Rattle.claims.specs.SheetReading.{Said, saysProved, saysRefuted, Part as PartRead, wordOf}
+use Rattle.words.specs.Memory.{zeros}
 use Rattle.sheet_cells.specs.Layout.{fieldLength, listedCells}
 use Rattle.sheet_cells.specs.CellSystem.{cellsShow}
 use Rattle.sheet_cells.specs.Good.{GoodCells}
@@ -27,11 +28,17 @@ pub record ListedAt (ring : Bool) (bs heads chain : List ℕ) (base count next :
   pub inside : next ≤ length bs
   pub index : Indexed heads chain (listedCells ring bs base) count
 
--- where the answer's standings, or its word, stand; a part has at most 4,096 fields behind its verdict ("Sheet and graph bytes")
-abbrev pub Inside : Bool → List ℕ → List ℕ → List ℕ → Part → Type 0
-Inside ring bs heads chain (Proved base count next) = ListedAt ring bs heads chain base count next
-Inside ring bs heads chain (Refuted from to) = (from ≤ to) × (to ≤ length bs)
-Inside ring bs heads chain (Wrong i) = i ≤ 4097
+-- nothing is in the index
+abbrev pub Empty : List ℕ → List ℕ → Type 0
+Empty heads chain = (heads ≡ zeros 8192) × (chain ≡ zeros 4096)
+
+-- where the standings, or the word, of a part from place at on stand, and what is in the index: the standings; those before a wrong field,
+-- which begin behind the four bytes of the verdict's; nothing for a word or a wrong verdict ("Sheet and graph bytes")
+abbrev pub Inside : Bool → List ℕ → ℕ → List ℕ → List ℕ → Part → Type 0
+Inside ring bs at heads chain (Proved base count next) = ListedAt ring bs heads chain base count next
+Inside ring bs at heads chain (Refuted from to) = (from ≤ to) × (to ≤ length bs) × Empty heads chain
+Inside ring bs at heads chain (Wrong zero) = Empty heads chain
+Inside ring bs at heads chain (Wrong (suc i)) = ListedAt ring bs heads chain (at + 4) i (at + 4 + fieldLength ring * i)
 
 -- the cells of the standings, in their order ("Sheet and graph bytes")
 abbrev pub cellsListed : Bool → List ℕ → ℕ → ℕ → List (List ℕ)

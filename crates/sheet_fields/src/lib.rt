@@ -1,19 +1,22 @@
 // What a part of a sheet says, read field by field from any place on: a verdict with its standings or its word, or how many good fields stand
-// before the first wrong one. (Document 01, "Sheet and graph bytes" and refusal 13.) Each standing is looked up among those before it by an
-// index, which is left behind for the check.
+// before the first wrong one. (Document 01, "Sheet and graph bytes" and refusal 13.) One loop keeps a reader and moves it to where the field
+// that it read ended; all that is decided of a field is decided by `step`. Each standing is looked up among those before it by an index,
+// which is left behind for the check.
 use fields::Field;
 use query::Facts;
-ghost use Prim.Native.Nat.{ℕ, suc, _+_, _≤_};
+ghost use Prim.Native.Nat.{ℕ, _-_, _<_};
 ghost use mathlib.Core.Path.{_≡_};
-ghost use mathlib.Core.List.{List, []};
-ghost use lib.ListN.{length, drop};
+ghost use mathlib.Core.Bool.{true};
+ghost use mathlib.Core.List.{List};
+ghost use lib.ListN.{drop};
 ghost use Rattle.claims.specs.Sides.{Decision};
 ghost use Rattle.claims.specs.Fields.{nextField};
-ghost use Rattle.claims.specs.SheetReading.{standingsIn, wordFrom, partIn};
+ghost use Rattle.claims.specs.SheetReading.{partIn};
 ghost use Rattle.words.specs.Memory.{zeros};
-ghost use Rattle.sheet_cells.specs.Layout.{fieldLength};
+ghost use Rattle.fields.specs.Places.{Stands};
 ghost use Rattle.query.specs.Decided.{Decided};
-ghost use Rattle.sheet_fields.specs.Reads.{Inside, Reads};
+ghost use Rattle.sheet_fields.specs.Reads.{ListedAt, Inside, Reads};
+ghost use Rattle.sheet_fields.specs.inner.Between.{wrongAfter, answerOf, fieldsLeft, AtVerdict, AtStanding, AtWord, Answered, Between};
 
 // Proved, with the place where the fields of the standings begin, their number, and the place where the next field would start; refuted, with
 // the places where the word's bytes begin and end; or the number of good fields before the wrong one.
@@ -23,66 +26,194 @@ pub enum Part {
     Wrong(usize),
 }
 
-// How many bytes the field of a standing is.
-fn stride(ring: bool) -> usize
-    ensures { λ n. ⌜ n ≡ fieldLength ring ⌝ }
-{
-    if ring { 269 } else { 19 }
+// How far the reading of a part is. While it goes on: whether the verdict (0), a standing (1) or the word (2) is awaited; the place where the
+// fields of the standings begin, and how many were read; the place where the last field ended. When it is over: whether a field was wrong (0)
+// after so many good ones, or the part says proved (1) or refuted (2), with the word's bytes from `base` on.
+pub struct Reading {
+    pub going: bool,
+    pub awaited: u64,
+    pub base: usize,
+    pub count: usize,
+    pub at: usize,
 }
 
-// The standings from place `base` on, as long as a field has tag 3; a 4,097th is wrong. Nothing is in the index yet.
-fn standings(
+// A field is wrong, after so many good ones.
+fn wrong(s: Reading, good: usize) -> Reading
+    ensures { λ r. ⌜ r ≡ wrongAfter s good ⌝ }
+{
+    Reading {
+        going: false,
+        awaited: 0,
+        base: s.base,
+        count: good,
+        at: s.at,
+    }
+}
+
+// The verdict's field was read: the standings or the word are awaited, from its end on.
+fn verdict_read(sheet: &[u8], field: Field, s: Reading) -> Reading
+    requires { ⌜ Stands (now sheet) (s .at) (nextField (drop (s .at) (now sheet))) field ⌝ }
+    ensures { λ r.
+        ⌜ ((f : Facts) (first : ℕ) (heads chain : List ℕ) → AtVerdict first heads chain (s .at)
+        → Between f (now (sheet .entry)) first heads chain r × (fieldsLeft r < 4099)) ⌝ }
+{
+    let Field::Whole(tag, from, to) = field else {
+        return wrong(s, 0);
+    };
+    if tag != 1 {
+        return wrong(s, 0);
+    }
+    let v = sheet_verdicts::verdict(&sheet[from..to]);
+    if v == 0 {
+        return wrong(s, 0);
+    }
+    Reading {
+        going: true,
+        awaited: v,
+        base: to,
+        count: 0,
+        at: to,
+    }
+}
+
+// A field was read where a standing may stand: it is the next standing and goes into the index, or it is wrong; a 4,097th is. Where the field's
+// tag is another there is no further standing.
+fn standing_read(
     f: Facts,
     sheet: &[u8],
-    base: usize,
+    field: Field,
+    s: Reading,
     heads: &mut [u64; 8192],
     chain: &mut [u64; 4096],
-) -> Part
-    requires { ⌜ (base ≤ length (now sheet)) × (now heads ≡ zeros 8192) × (now chain ≡ zeros 4096) ⌝ }
-    ensures inside { λ r. ⌜ Inside (f .ring) (now (sheet .entry)) (now (heads .exit)) (now (chain .exit)) r ⌝ }
-    ensures read { λ r.
-        ⌜ ((left right : List ℕ) (D : Decision) → Decided f left right D → (k : ℕ)
-        → Reads (f .ring) D (now (sheet .entry)) k (standingsIn D 4096 (suc k) [] (drop base (now (sheet .entry)))) r) ⌝ }
+) -> Reading
+    requires { ⌜ Stands (now sheet) (s .at) (nextField (drop (s .at) (now sheet))) field
+        × ListedAt (f .ring) (now sheet) (now heads) (now chain) (s .base) (s .count) (s .at) ⌝ }
+    ensures { λ r.
+        ⌜ ((first : ℕ) → AtStanding f (now (sheet .entry)) first (now (heads .entry)) (now (chain .entry)) (s .base) (s .count) (s .at)
+        → Between f (now (sheet .entry)) first (now (heads .exit)) (now (chain .exit)) r × (fieldsLeft r < 4098 - s .count)) ⌝ }
 {
-    let size = stride(f.ring);
-    let mut n = 0;
-    let mut at = base;
-    while sheet_reader::tagged_at(sheet, at, 3) {
-        if n == 4096 {
-            return Part::Wrong(4097);
-        }
-        if !sheet_verdicts::may_list(f, sheet, base, heads, chain, n, at) {
-            return Part::Wrong(n + 1);
-        }
-        sheet_index::add(sheet, base, f.ring, heads, chain, n);
-        n += 1;
-        at += size;
+    if !fields::tagged(sheet, s.at, 3) {
+        return Reading {
+            going: false,
+            awaited: 1,
+            base: s.base,
+            count: s.count,
+            at: s.at,
+        };
     }
-    Part::Proved(base, n, at)
+    let Field::Whole(_, from, to) = field else {
+        return wrong(s, s.count + 1);
+    };
+    if s.count == 4096 {
+        return wrong(s, 4097);
+    }
+    if !sheet_verdicts::is_sized(to - from, f.ring) {
+        return wrong(s, s.count + 1);
+    }
+    if !sheet_verdicts::may_list(f, sheet, s.base, heads, chain, s.count, s.at) {
+        return wrong(s, s.count + 1);
+    }
+    sheet_index::add(sheet, s.base, f.ring, heads, chain, s.count);
+    Reading {
+        going: true,
+        awaited: 1,
+        base: s.base,
+        count: s.count + 1,
+        at: to,
+    }
 }
 
-// The word's field.
-fn word(f: Facts, sheet: &[u8], at: usize) -> Part
-    ensures inside { λ r. ⌜ ((heads chain : List ℕ) → Inside (f .ring) (now (sheet .entry)) heads chain r) ⌝ }
-    ensures read { λ r.
-        ⌜ ((left right : List ℕ) (D : Decision) → Decided f left right D → (k : ℕ)
-        → Reads (f .ring) D (now (sheet .entry)) k (wordFrom D (suc k) (nextField (drop at (now (sheet .entry))))) r) ⌝ }
+// The word's field was read.
+fn word_read(f: Facts, sheet: &[u8], field: Field, s: Reading) -> Reading
+    requires { ⌜ Stands (now sheet) (s .at) (nextField (drop (s .at) (now sheet))) field ⌝ }
+    ensures { λ r.
+        ⌜ ((first : ℕ) (heads chain : List ℕ) → AtWord f (now (sheet .entry)) first heads chain (s .at)
+        → Between f (now (sheet .entry)) first heads chain r × (fieldsLeft r < 1)) ⌝ }
 {
-    let Field::Whole(tag, from, to) = sheet_reader::field_at(sheet, at) else {
-        return Part::Wrong(1);
+    let Field::Whole(tag, from, to) = field else {
+        return wrong(s, 1);
     };
     if tag != 2 {
-        return Part::Wrong(1);
+        return wrong(s, 1);
     }
-    let bytes = &sheet[from..to];
-    if sheet_letters::fits(bytes, f.atoms, f.relations) {
-        return Part::Refuted(from, to);
+    if !sheet_letters::fits(&sheet[from..to], f.atoms, f.relations) {
+        return wrong(s, 1);
     }
-    Part::Wrong(1)
+    Reading {
+        going: false,
+        awaited: 2,
+        base: from,
+        count: 1,
+        at: to,
+    }
 }
 
-// What the part from place `at` on says. The index, which is lent, has nothing in it at first, as its caller made it; after an answer of proved it
-// has the standings.
+// A field was read, by what was awaited: all that is decided of it.
+fn step(
+    f: Facts,
+    sheet: &[u8],
+    field: Field,
+    s: Reading,
+    heads: &mut [u64; 8192],
+    chain: &mut [u64; 4096],
+) -> Reading
+    requires { ⌜ (s .going ≡ true) × Stands (now sheet) (s .at) (nextField (drop (s .at) (now sheet))) field
+        × ((first : ℕ) × Between f (now sheet) first (now heads) (now chain) s) ⌝ }
+    ensures { λ r.
+        ⌜ ((first : ℕ) → Between f (now (sheet .entry)) first (now (heads .entry)) (now (chain .entry)) s
+        → Between f (now (sheet .entry)) first (now (heads .exit)) (now (chain .exit)) r × (fieldsLeft r < fieldsLeft s)) ⌝ }
+{
+    if s.awaited == 0 {
+        return verdict_read(sheet, field, s);
+    }
+    if s.awaited == 1 {
+        return standing_read(f, sheet, field, s, heads, chain);
+    }
+    word_read(f, sheet, field, s)
+}
+
+// The part from place `at` on, field by field: each is read from where the last one ended.
+fn read(
+    f: Facts,
+    sheet: &[u8],
+    at: usize,
+    heads: &mut [u64; 8192],
+    chain: &mut [u64; 4096],
+) -> Reading
+    requires { ⌜ (now heads ≡ zeros 8192) × (now chain ≡ zeros 4096) ⌝ }
+    ensures { λ r. ⌜ Answered f (now (sheet .entry)) at (now (heads .exit)) (now (chain .exit)) (answerOf r) ⌝ }
+{
+    let mut r = sheet_reader::from(sheet, at);
+    let mut s = Reading {
+        going: true,
+        awaited: 0,
+        base: at,
+        count: 0,
+        at,
+    };
+    while s.going {
+        let field = sheet_reader::field(r);
+        s = step(f, sheet, field, s, heads, chain);
+        r = sheet_reader::moved(r, s.at);
+    }
+    s
+}
+
+// The answer of a reading that is over.
+fn answer(s: Reading) -> Part
+    ensures { λ r. ⌜ r ≡ answerOf s ⌝ }
+{
+    if s.awaited == 0 {
+        return Part::Wrong(s.count);
+    }
+    if s.awaited == 1 {
+        return Part::Proved(s.base, s.count, s.at);
+    }
+    Part::Refuted(s.base, s.at)
+}
+
+// What the part from place `at` on says. The index, which is lent, has nothing in it at first, as its caller made it; behind the call it has
+// the standings, or those before a wrong one.
 pub fn part_at(
     f: Facts,
     sheet: &[u8],
@@ -91,17 +222,11 @@ pub fn part_at(
     chain: &mut [u64; 4096],
 ) -> Part
     requires { ⌜ (now heads ≡ zeros 8192) × (now chain ≡ zeros 4096) ⌝ }
-    ensures inside { λ r. ⌜ Inside (f .ring) (now (sheet .entry)) (now (heads .exit)) (now (chain .exit)) r ⌝ }
+    ensures inside { λ r. ⌜ Inside (f .ring) (now (sheet .entry)) at (now (heads .exit)) (now (chain .exit)) r ⌝ }
     ensures read { λ r.
         ⌜ ((left right : List ℕ) (D : Decision) → Decided f left right D → (k : ℕ)
         → Reads (f .ring) D (now (sheet .entry)) k (partIn D k (drop at (now (sheet .entry)))) r) ⌝ }
 {
-    let said = sheet_verdicts::verdict(sheet, at);
-    if said == 1 {
-        return standings(f, sheet, at + 4, heads, chain);
-    }
-    if said == 2 {
-        return word(f, sheet, at + 4);
-    }
-    Part::Wrong(0)
+    let s = read(f, sheet, at, heads, chain);
+    answer(s)
 }

@@ -2,7 +2,7 @@
 -- prove on cells exactly where the standings that they show do (`proves-passes`), and a word refutes on cells exactly where it does
 -- (`refutes-passes`).
 -- Assumes nothing.
-use Prim.Native.Nat.{ℕ, _+_, _-_, _≤_}
+use Prim.Native.Nat.{ℕ, zero, suc, _+_, _*_, _-_, _≤_}
 use native.Mathlib.Omega.{arith}
 use mathlib.Core.Path.{_≡_, sym, _∙_, ap, subst}
 use mathlib.Core.Bool.{Bool}
@@ -14,12 +14,13 @@ use Rattle.claims.specs.SheetReading.{Said, saysProved, saysRefuted, Part as Pa
 use Rattle.claims.specs.Passing.{passes, refuting}
 use Rattle.query.specs.declared.Facts.{Facts}
 use Rattle.query.specs.Decided.{Decided}
+use Rattle.sheet_cells.specs.Layout.{fieldLength}
 use Rattle.sheet_cells.specs.CellSystem.{cellSystem}
 use Rattle.sheet_letters.specs.ByteWords.{wordRead}
 use Rattle.sheet_word.proofs.Refuted.{refutes-passes}
 use Rattle.sheet_fields.specs.declared.Part.{Part}
 use Rattle.sheet_fields.specs.declared.Part.the-variants.{Proved as ProvedAt, Refuted as RefutedAt, Wrong as WrongAt}
-use Rattle.sheet_fields.specs.Reads.{ListedAt, Inside, Says, Reads}
+use Rattle.sheet_fields.specs.Reads.{ListedAt, Empty, Inside, Says, Reads}
 use Rattle.sheet_listed.specs.Listed.{Ready, partCells}
 use Rattle.sheet_passing.specs.Proves.{provesCells}
 use Rattle.sheet_passing.proofs.Passes.{proves-passes}
@@ -27,28 +28,33 @@ use Rattle.sheet_part.specs.declared.Tested.{Tested}
 use Rattle.sheet_part.specs.declared.Tested.the-variants.{Proved, Refuted, Wrong}
 use Rattle.sheet_part.specs.Tests.{Tests, TestsPart}
 
--- the standings that were read are those that the check is given
-pub listed-ready : (ring : Bool) (bs heads chain : List ℕ) (p : Part) → Inside ring bs heads chain p → (base n next : ℕ) → p ≡ ProvedAt base n next
-    → Ready ring bs base n heads chain
-listed-ready ring bs heads chain p h base n next e =
-    let l : ListedAt ring bs heads chain base n next = subst (Inside ring bs heads chain) e h in
-    (l .index, l .few, omega (arith, l .places, l .inside))
+-- what stands where, by the answer
+module _ (ring : Bool) (bs : List ℕ) (at : ℕ) (heads chain : List ℕ) (p : Part) (h : Inside ring bs at heads chain p) where
+  inside-of : {q : Part} → p ≡ q → Inside ring bs at heads chain q
+  inside-of e = subst (Inside ring bs at heads chain) e h
 
-pub listed-few : (ring : Bool) (bs heads chain : List ℕ) (p : Part) → Inside ring bs heads chain p → (base n next : ℕ) → p ≡ ProvedAt base n next
-    → n ≤ 4096
-listed-few ring bs heads chain p h base n next e =
-    let l : ListedAt ring bs heads chain base n next = subst (Inside ring bs heads chain) e h in l .few
+  module _ (base n next : ℕ) (e : p ≡ ProvedAt base n next) where
+    -- the standings that were read are those that the check is given
+    pub listed-ready : Ready ring bs base n heads chain
+    listed-ready =
+        let l : ListedAt ring bs heads chain base n next = inside-of e in
+        (l .index, l .few, omega (arith, l .places, l .inside))
 
-pub word-inside : (ring : Bool) (bs heads chain : List ℕ) (p : Part) → Inside ring bs heads chain p → (from to : ℕ) → p ≡ RefutedAt from to
-    → (from ≤ to) × (to ≤ length bs)
-word-inside ring bs heads chain p h from to e = subst (Inside ring bs heads chain) e h
+    pub listed-few : n ≤ 4096
+    listed-few = let l : ListedAt ring bs heads chain base n next = inside-of e in l .few
 
-pub wrong-few : (ring : Bool) (bs heads chain : List ℕ) (p : Part) → Inside ring bs heads chain p → (i : ℕ) → p ≡ WrongAt i → i ≤ 4097
-wrong-few ring bs heads chain p h i e = subst (Inside ring bs heads chain) e h
+  pub word-inside : (from to : ℕ) → p ≡ RefutedAt from to → (from ≤ to) × (to ≤ length bs)
+  word-inside from to e = let l : (from ≤ to) × (to ≤ length bs) × Empty heads chain = inside-of e in (l .0, l .1)
 
-module _ {f : Facts} {left right : List ℕ} {D : Decision} (d : Decided f left right D) (bs heads chain : List ℕ) (k : ℕ) where
+  pub wrong-few : (i : ℕ) → p ≡ WrongAt i → i ≤ 4097
+  wrong-few zero e = omega arith
+  wrong-few (suc i) e =
+      let l : ListedAt ring bs heads chain (at + 4) i (at + 4 + fieldLength ring * i) = inside-of e in
+      omega (arith, l .few)
+
+module _ {f : Facts} {left right : List ℕ} {D : Decision} (d : Decided f left right D) (bs : List ℕ) (at : ℕ) (heads chain : List ℕ) (k : ℕ) where
   -- a part that says proved
-  pub proved-tests : (p : Part) → Inside (f .ring) bs heads chain p → (r : Result (PartRead D)) → Reads (f .ring) D bs k r p
+  pub proved-tests : (p : Part) → Inside (f .ring) bs at heads chain p → (r : Result (PartRead D)) → Reads (f .ring) D bs k r p
       → (base n next : ℕ) → p ≡ ProvedAt base n next → (b : Bool) → b ≡ provesCells f left right (partCells (f .ring) bs base n)
       → Tests D bs k r (Proved b (n + 1) next)
   unfolding partCells
@@ -56,7 +62,7 @@ module _ {f : Facts} {left right : List ℕ} {D : Decision} (d : Decided f left 
       go r (subst (Reads (f .ring) D bs k r) e s)
     where
       l : ListedAt (f .ring) bs heads chain base n next
-      l = subst (Inside (f .ring) bs heads chain) e h
+      l = subst (Inside (f .ring) bs at heads chain) e h
 
       said : (t : Said D) (after : ℕ) (rest : List ℕ) → Says (f .ring) D bs k t after rest (ProvedAt base n next)
           → TestsPart D bs k t after rest (Proved b (n + 1) next)
@@ -71,14 +77,14 @@ module _ {f : Facts} {left right : List ℕ} {D : Decision} (d : Decided f left 
       go (ok x) q = said (x .said) (x .next) (x .rest) q
 
   -- a part that says refuted
-  pub refuted-tests : (p : Part) → Inside (f .ring) bs heads chain p → (r : Result (PartRead D)) → Reads (f .ring) D bs k r p
+  pub refuted-tests : (p : Part) → Inside (f .ring) bs at heads chain p → (r : Result (PartRead D)) → Reads (f .ring) D bs k r p
       → (from to : ℕ) → p ≡ RefutedAt from to → (b : Bool)
       → b ≡ refuting (cellSystem (f .ring) (f .right) (f .live) (f .relations) left right) (wordRead (take (to - from) (drop from bs)))
       → Tests D bs k r (Refuted b 2 to)
   refuted-tests p h r s from to e b g = go r (subst (Reads (f .ring) D bs k r) e s)
     where
-      l : (from ≤ to) × (to ≤ length bs)
-      l = subst (Inside (f .ring) bs heads chain) e h
+      l : (from ≤ to) × (to ≤ length bs) × Empty heads chain
+      l = subst (Inside (f .ring) bs at heads chain) e h
 
       said : (t : Said D) (after : ℕ) (rest : List ℕ) → Says (f .ring) D bs k t after rest (RefutedAt from to)
           → TestsPart D bs k t after rest (Refuted b 2 to)

@@ -3,7 +3,6 @@
 ghost use mathlib.Core.Path.{_≡_};
 ghost use lib.ListN.{drop};
 ghost use Rattle.claims.specs.Fields.{nextField};
-ghost use Rattle.claims.specs.SheetReading.{tagged as isTagged};
 ghost use Rattle.fields.specs.Places.{Stands};
 use fields::Field;
 
@@ -32,25 +31,4 @@ pub fn field<'a>(r: Reader<'a>) -> Field
     ensures { λ f. ⌜ Stands (now (r .entry .sheet)) (r .entry .at) (nextField (drop (r .entry .at) (now (r .entry .sheet)))) f ⌝ }
 {
     fields::next(r.sheet, r.at)
-}
-
-// Whether the byte at the reader's place is the tag t.
-pub fn tagged<'a>(r: Reader<'a>, t: u64) -> bool
-    ensures { λ b. ⌜ b ≡ isTagged t (drop (r .entry .at) (now (r .entry .sheet))) ⌝ }
-{
-    fields::tagged(r.sheet, r.at, t)
-}
-
-// For a caller without a reader of its own: the field at a place of a sheet.
-pub fn field_at(sheet: &[u8], at: usize) -> Field
-    ensures { λ f. ⌜ Stands (now (sheet .entry)) at (nextField (drop at (now (sheet .entry)))) f ⌝ }
-{
-    field(from(sheet, at))
-}
-
-// For a caller without a reader of its own: whether the byte at a place of a sheet is the tag t.
-pub fn tagged_at(sheet: &[u8], at: usize, t: u64) -> bool
-    ensures { λ b. ⌜ b ≡ isTagged t (drop at (now (sheet .entry))) ⌝ }
-{
-    tagged(from(sheet, at), t)
 }

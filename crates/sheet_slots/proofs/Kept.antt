@@ -30,6 +30,7 @@ indexed-none listed =
       room = length-replicate {A = ℕ} 4096 0;
       head = λ h l. getD-replicate {A = ℕ} 8192 h 0 0 l;
       link = λ i l. absurd (omega arith);
+      unused = λ i n l. getD-replicate {A = ℕ} 4096 i 0 0 l;
     }
 
 -- a lookup of the cells c among n standings, at a place: it stands in the slot of the cells, or is none, and the last standing up to it that
@@ -70,6 +71,7 @@ module _ (heads chain : List ℕ) (listed : ℕ → List ℕ) (n : ℕ) (I : Ind
           room = length-set chain n (getD heads slot 0) ∙ I .room;
           head = λ h l. ⊎-elim (head-here h) (head-other h l) (same-or-not h slot);
           link = λ i l. ⊎-elim (link-below i) (λ k. link-here i (omega arith)) (lt-or-le i n);
+          unused = λ i k l. getD-set-other chain n i (getD heads slot 0) 0 (λ e. omega arith) ∙ I .unused i (omega arith) l;
         }
 
   -- a lookup in a slot

@@ -2,7 +2,7 @@
 -- standing falls into a slot, by a hash of its cells. For each slot the index has the last standing that fell into it, and for each
 -- standing the one before it in its slot. The place of a standing is 1 and its number, counted from 0, and 0 is none.
 -- Assumes nothing.
-use Prim.Native.Nat.{ℕ, zero, suc, _+_, _*_, _/_, _%_, _<_}
+use Prim.Native.Nat.{ℕ, zero, suc, _+_, _*_, _/_, _%_, _≤_, _<_}
 use mathlib.Core.Path.{_≡_}
 use mathlib.Core.Bool.{Bool, cond}
 use mathlib.Core.List.{List, [], _∷_}
@@ -32,9 +32,10 @@ unfoldable pub fallsInto : (ℕ → List ℕ) → ℕ → ℕ → Bool
 fallsInto listed h i = eqb (slotOf (listed i)) h
 
 -- the index of the first n standings: for each slot the place of the last that fell into it, for each standing that of the one before it
--- there ("Sheet and graph bytes")
+-- there, and 0 behind them ("Sheet and graph bytes")
 pub record Indexed (heads chain : List ℕ) (listed : ℕ → List ℕ) (n : ℕ) : Type 0 where
   pub slots : length heads ≡ 8192
   pub room : length chain ≡ 4096
   pub head : (h : ℕ) → h < 8192 → getD heads h 0 ≡ lastWhere (fallsInto listed h) n
   pub link : (i : ℕ) → i < n → getD chain i 0 ≡ lastWhere (fallsInto listed (slotOf (listed i))) i
+  pub unused : (i : ℕ) → n ≤ i → i < 4096 → getD chain i 0 ≡ 0

@@ -38,10 +38,6 @@ module _ (ring : Bool) (atoms l r : ℕ) (bs : List ℕ) (base n at : ℕ) where
   abbrev found : ℕ
   found = lastWhere (λ i. same (listedCells ring bs base i) (standingCells ring bs at)) n
 
-  pub not-sized : long ≡ false → mayList ring atoms l r bs base n at ≡ false
-  unfolding mayList
-  not-sized e = ap (λ b. b && fitting && eqb found 0) e
-
   pub not-fitting : long ≡ true → fitting ≡ false → mayList ring atoms l r bs base n at ≡ false
   unfolding mayList
   not-fitting e f = ap (λ b. b && fitting && eqb found 0) e ∙ ap (λ b. b && eqb found 0) f

@@ -1,14 +1,16 @@
-// The verdict at a place of a sheet, and whether the standing at a place may be listed next. (Document 01, "Sheet and graph bytes" and refusal
-// 13.)
-use fields::Field;
+// The verdict that the contents of a field are, whether they are as long as a standing's, and whether the standing at a place may be listed
+// next. (Document 01, "Sheet and graph bytes" and refusal 13.)
 use query::Facts;
 ghost use Prim.Native.Nat.{_+_, _*_, _≤_};
 ghost use mathlib.Core.Path.{_≡_};
+ghost use mathlib.Core.Bool.{true};
+ghost use lib.Dec.{eqb};
 ghost use lib.ListN.{length, drop};
 ghost use Rattle.claims.specs.Fields.{nextField};
+ghost use Rattle.claims.specs.SheetBytes.{contentsLength};
 ghost use Rattle.sheet_cells.specs.Layout.{fieldLength, listedCells};
 ghost use Rattle.sheet_slots.specs.Index.{Indexed};
-ghost use Rattle.sheet_verdicts.specs.inner.Steps.{VerdictAt, sized, mayList};
+ghost use Rattle.sheet_verdicts.specs.inner.Steps.{verdictOf, sized, mayList};
 
 // A byte as a word.
 fn wide(b: u8) -> u64
@@ -17,20 +19,14 @@ fn wide(b: u8) -> u64
     b as u64
 }
 
-// The verdict of the field at a place: 1 proved, 2 refuted, 0 for a field that is no verdict.
-pub fn verdict(sheet: &[u8], at: usize) -> u64
-    ensures { λ v. ⌜ VerdictAt (now (sheet .entry)) at v ⌝ }
+// The verdict that the contents of its field are: 1 proved, 2 refuted, 0 for none.
+pub fn verdict(contents: &[u8]) -> u64
+    ensures { λ v. ⌜ v ≡ verdictOf (now (contents .entry)) ⌝ }
 {
-    let Field::Whole(tag, from, to) = sheet_reader::field_at(sheet, at) else {
-        return 0;
-    };
-    if tag != 1 {
+    if contents.len() != 1 {
         return 0;
     }
-    if to - from != 1 {
-        return 0;
-    }
-    let v = wide(sheet[from]);
+    let v = wide(contents[0]);
     if v == 1 {
         return 1;
     }
@@ -40,21 +36,18 @@ pub fn verdict(sheet: &[u8], at: usize) -> u64
     0
 }
 
-// Whether the field at a place is whole and as long as a standing's.
-fn is_sized(sheet: &[u8], at: usize, ring: bool) -> bool
-    ensures { λ b. ⌜ b ≡ sized ring (nextField (drop at (now (sheet .entry)))) ⌝ }
+// Whether contents of so many bytes are as long as a standing's.
+pub fn is_sized(size: usize, ring: bool) -> bool
+    ensures { λ b. ⌜ b ≡ eqb size (contentsLength ring) ⌝ }
 {
-    let Field::Whole(_, from, to) = sheet_reader::field_at(sheet, at) else {
-        return false;
-    };
     if ring {
-        return to - from == 266;
+        return size == 266;
     }
-    to - from == 16
+    size == 16
 }
 
-// Whether the field at a place is that of a standing which may be listed as number n: of its length, with nothing too large, and none of
-// those before it. The index is that of the standings before it, which lie in the sheet.
+// Whether the field at a place, which is as long as a standing's, is that of a standing which may be listed as number n: with nothing too
+// large, and none of those before it. The index is that of the standings before it, which lie in the sheet.
 pub fn may_list(
     f: Facts,
     sheet: &[u8],
@@ -65,12 +58,9 @@ pub fn may_list(
     at: usize,
 ) -> bool
     requires { ⌜ Indexed (now heads) (now chain) (listedCells (f .ring) (now sheet) base) n × (n ≤ 4096)
-        × (base + fieldLength (f .ring) * n ≤ length (now sheet)) ⌝ }
+        × (base + fieldLength (f .ring) * n ≤ length (now sheet)) × (sized (f .ring) (nextField (drop at (now sheet))) ≡ true) ⌝ }
     ensures { λ b. ⌜ b ≡ mayList (f .ring) (f .atoms) (f .left) (f .right) (now (sheet .entry)) base n at ⌝ }
 {
-    if !is_sized(sheet, at, f.ring) {
-        return false;
-    }
     let mut cells = [0u64; 67];
     sheet_load::load(sheet, at, f.ring, &mut cells);
     if !sheet_fits::fits(f.ring, f.atoms, f.left, f.right, &cells) {

@@ -21,12 +21,12 @@ enum-known-p c = search needs
 proves-requires : tie.Need-proves-requires
 proves-requires c κs =
     let x = c .before .before .before .before .before in
-    listed-ready _ _ _ _ (x .part-at .result) (x .part-at .ensures .0) _ _ _ (c .before .before .before .p .given .1)
+    listed-ready _ _ _ _ _ (x .part-at .result) (x .part-at .ensures .0) _ _ _ (c .before .before .before .p .given .1)
 
 add-t22 : tie.Need-add-t22
 add-t22 c =
     let x = c .before .before .before .before .before .before in
-    search (needs, listed-few _ _ _ _ (x .part-at .result) (x .part-at .ensures .0) _ _ _ (c .before .before .before .before .p .given .1))
+    search (needs, listed-few _ _ _ _ _ (x .part-at .result) (x .part-at .ensures .0) _ _ _ (c .before .before .before .before .p .given .1))
 
 enum-known-p-2 : tie.Need-enum-known-p-2
 enum-known-p-2 c = search needs
@@ -34,7 +34,7 @@ enum-known-p-2 c = search needs
 word-refutes-requires : tie.Need-word-refutes-requires
 word-refutes-requires c κs =
     let x = c .before .before .before in
-    word-inside _ _ _ _ (x .part-at .result) (x .part-at .ensures .0) _ _ (c .before .p2 .given .1)
+    word-inside _ _ _ _ _ (x .part-at .result) (x .part-at .ensures .0) _ _ (c .before .p2 .given .1)
 
 enum-known-p-3 : tie.Need-enum-known-p-3
 enum-known-p-3 c = search needs
@@ -44,10 +44,10 @@ returns c =
     let x = c .before .before .before .before .before .before in
     let a = x .before .before .before .before .args in
     let e = c .before .before .before .before .p .given .1 in
-    let few = listed-few _ _ _ _ (x .part-at .result) (x .part-at .ensures .0) _ _ _ e in (
+    let few = listed-few _ _ _ _ _ (x .part-at .result) (x .part-at .ensures .0) _ _ _ e in (
       omega (arith, few),
       λ D d k.
-          proved-tests d (a .sheet .now) _ _ k (x .part-at .result) (x .part-at .ensures .0) (partIn D k (drop (a .at) (a .sheet .now)))
+          proved-tests d (a .sheet .now) (a .at) _ _ k (x .part-at .result) (x .part-at .ensures .0) (partIn D k (drop (a .at) (a .sheet .now)))
           (x .part-at .ensures .1 _ _ D d k) _ _ _ e _ (c .proves .ensures),
     )
 
@@ -57,7 +57,7 @@ returns-2 c =
     let a = x .before .before .before .before .args in (
       omega arith,
       λ D d k.
-          refuted-tests d (a .sheet .now) _ _ k (x .part-at .result) (x .part-at .ensures .0) (partIn D k (drop (a .at) (a .sheet .now))) (x .part-at .ensures .1 _ _ D d k) _ _ (c .before .before .p2 .given .1) _
+          refuted-tests d (a .sheet .now) (a .at) _ _ k (x .part-at .result) (x .part-at .ensures .0) (partIn D k (drop (a .at) (a .sheet .now))) (x .part-at .ensures .1 _ _ D d k) _ _ (c .before .before .p2 .given .1) _
           (c .word-refutes .ensures),
     )
 
@@ -65,8 +65,8 @@ returns-3 : tie.Need-returns-3
 returns-3 c =
     let x = c .before .before .before in
     let a = x .before .before .before .before .args in (
-      wrong-few _ _ _ _ (x .part-at .result) (x .part-at .ensures .0) _ (c .before .p3 .given .1),
-      λ D d k. wrong-tests d (a .sheet .now) [] [] k (x .part-at .result) (partIn D k (drop (a .at) (a .sheet .now))) (x .part-at .ensures .1 _ _ D d k) _ (c .before .p3 .given .1),
+      wrong-few _ _ _ _ _ (x .part-at .result) (x .part-at .ensures .0) _ (c .before .p3 .given .1),
+      λ D d k. wrong-tests d (a .sheet .now) (a .at) [] [] k (x .part-at .result) (partIn D k (drop (a .at) (a .sheet .now))) (x .part-at .ensures .1 _ _ D d k) _ (c .before .p3 .given .1),
     )
 
 pub part-spec : {M : Type 1} → statement M
