@@ -1,7 +1,7 @@
 -- From field to field: the reading before the first, behind each kind of field, and when it is over. For each `return` of the functions that
 -- decide on a field, that what holds between two fields holds again, and that fewer fields are left.
 -- Assumes nothing.
-use Prim.Native.Nat.{ℕ, zero, suc, _+_, _*_, _-_, _≤_, _<_}
+use Prim.Native.Nat.{ℕ, zero, suc, _+_, _-_, _≤_, _<_}
 use native.Mathlib.Omega.{arith}
 use native.Mathlib.Numerals.{add-one}
 use mathlib.Core.Path.{_≡_, refl, sym, _∙_, ap, subst, subst⁻¹}
@@ -11,7 +11,7 @@ use lib.Dec.{eqb}
 use lib.ListN.{length, take, drop}
 use borrow.Author.Tests.{ne-eqb, eqb-true}
 use Rattle.claims.specs.Bytes.{same}
-use Rattle.claims.specs.Fields.{Field as FieldRead, whole, cut, nextField}
+use Rattle.claims.specs.Fields.{Field as FieldRead, cut, nextField}
 use Rattle.claims.specs.SheetBytes.{contentsLength}
 use Rattle.claims.specs.SheetReading.{tagged, verdictIs}
 use Rattle.claims.specs.SheetWriting.{AllBytes}

@@ -1,5 +1,5 @@
 -- The field that was read; the standings read so far; what is answered; what holds from field to field.
 mod Whole
-pub mod SoFar
+mod SoFar
 mod Outcomes
 mod Going

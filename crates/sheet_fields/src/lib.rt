@@ -101,13 +101,13 @@ fn standing_read(
             at: s.at,
         };
     }
-    let Field::Whole(_, from, to) = field else {
+    let Field::Whole(_, from, end) = field else {
         return wrong(s, s.count + 1);
     };
     if s.count == 4096 {
         return wrong(s, 4097);
     }
-    if !sheet_verdicts::is_sized(to - from, f.ring) {
+    if !sheet_verdicts::is_sized(end - from, f.ring) {
         return wrong(s, s.count + 1);
     }
     if !sheet_verdicts::may_list(f, sheet, s.base, heads, chain, s.count, s.at) {
@@ -119,7 +119,7 @@ fn standing_read(
         awaited: 1,
         base: s.base,
         count: s.count + 1,
-        at: to,
+        at: end,
     }
 }
 

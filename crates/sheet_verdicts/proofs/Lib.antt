@@ -1,4 +1,4 @@
--- A field at a place, and the verdict that it is.
+-- The verdict that contents are.
 pub mod Verdicts
 -- Whether a standing may be listed next.
 pub mod Listable

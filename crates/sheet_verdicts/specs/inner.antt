@@ -1,2 +1,2 @@
--- A verdict at a place, and a standing that may be listed next.
+-- A verdict, and a standing that may be listed next.
 pub mod Steps
