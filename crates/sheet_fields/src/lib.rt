@@ -26,15 +26,22 @@ pub enum Part {
     Wrong(usize),
 }
 
-// How far the reading of a part is. While it goes on: whether the verdict (0), a standing (1) or the word (2) is awaited; the place where the
-// fields of the standings begin, and how many were read; the place where the last field ended. When it is over: whether a field was wrong (0)
-// after so many good ones, or the part says proved (1) or refuted (2), with the word's bytes from `base` on.
-pub struct Reading {
-    pub going: bool,
-    pub awaited: u64,
-    pub base: usize,
-    pub count: usize,
-    pub at: usize,
+// The field that is awaited next. Behind the verdict its number says which: 1, proved, a standing; 2, refuted, the word.
+const VERDICT: u64 = 0;
+
+const STANDING: u64 = 1;
+
+const WORD: u64 = 2;
+
+// How far the reading of a part is. While it goes on: which field is awaited; the place where the fields of the standings begin, and how many were
+// read; the place where the last field ended. When it is over: as `awaited` a standing for proved, the word for refuted, with its bytes from
+// `base` on, and the verdict where a field was wrong, after `count` good ones.
+struct Reading {
+    going: bool,
+    awaited: u64,
+    base: usize,
+    count: usize,
+    at: usize,
 }
 
 // A field is wrong, after so many good ones.
@@ -43,7 +50,7 @@ fn wrong(s: Reading, good: usize) -> Reading
 {
     Reading {
         going: false,
-        awaited: 0,
+        awaited: VERDICT,
         base: s.base,
         count: good,
         at: s.at,
@@ -95,7 +102,7 @@ fn standing_read(
     if !fields::tagged(sheet, s.at, 3) {
         return Reading {
             going: false,
-            awaited: 1,
+            awaited: STANDING,
             base: s.base,
             count: s.count,
             at: s.at,
@@ -116,7 +123,7 @@ fn standing_read(
     sheet_index::add(sheet, s.base, f.ring, heads, chain, s.count);
     Reading {
         going: true,
-        awaited: 1,
+        awaited: STANDING,
         base: s.base,
         count: s.count + 1,
         at: end,
@@ -141,7 +148,7 @@ fn word_read(f: Facts, sheet: &[u8], field: Field, s: Reading) -> Reading
     }
     Reading {
         going: false,
-        awaited: 2,
+        awaited: WORD,
         base: from,
         count: 1,
         at: to,
@@ -163,10 +170,10 @@ fn step(
         ⌜ ((first : ℕ) → Between f (now (sheet .entry)) first (now (heads .entry)) (now (chain .entry)) s
         → Between f (now (sheet .entry)) first (now (heads .exit)) (now (chain .exit)) r × (fieldsLeft r < fieldsLeft s)) ⌝ }
 {
-    if s.awaited == 0 {
+    if s.awaited == VERDICT {
         return verdict_read(sheet, field, s);
     }
-    if s.awaited == 1 {
+    if s.awaited == STANDING {
         return standing_read(f, sheet, field, s, heads, chain);
     }
     word_read(f, sheet, field, s)
@@ -186,7 +193,7 @@ fn read(
     let mut r = sheet_reader::from(sheet, at);
     let mut s = Reading {
         going: true,
-        awaited: 0,
+        awaited: VERDICT,
         base: at,
         count: 0,
         at,
@@ -203,10 +210,10 @@ fn read(
 fn answer(s: Reading) -> Part
     ensures { λ r. ⌜ r ≡ answerOf s ⌝ }
 {
-    if s.awaited == 0 {
+    if s.awaited == VERDICT {
         return Part::Wrong(s.count);
     }
-    if s.awaited == 1 {
+    if s.awaited == STANDING {
         return Part::Proved(s.base, s.count, s.at);
     }
     Part::Refuted(s.base, s.at)
