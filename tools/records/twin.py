@@ -85,6 +85,7 @@ def by_value(text, elem, struct):
     text = re.sub(r'yields-copy 𝓤 H A W \(λ ρ\. Unit\) %s\.the-row refl \(cArr .*?\.copy 𝓤 H A W\) \(arrF \S+ \(fInt w64\)\) %s 0\) \(λ x\. x\) \(λ x\. x\) \(λ ρ told\. mem-arr .*? ρ\) λ ρ told\. arr-mem .*? ρ' % (S, elem), f'copied K {S}.the-type {S}′.the-laws {S}′.the-copy', text)
     text = re.sub(r'makes-mem 𝓤 H A W \(λ ρ\. Unit\) %s\.the-row refl \(arrF .*? %s 0\) \(λ x\. x\) λ ρ told\. arr-mem .*? ρ' % (S, elem), f'made K {S}.the-row refl', text)
     text = text.replace(f'(cArr (rtF (fInt w64)) (cRf (fInt w64)) {elem})', f'(cStruct {S}.the-type {S}′.the-laws {S}′.the-copy)').replace(f'cArr (rtF (fInt w64)) (cRf (fInt w64)) {elem} .', f'cStruct {S}.the-type {S}′.the-laws {S}′.the-copy .')
+    text = text.replace(f'arr-yields 𝓤 H A W (eInt w64) (eInt-laws w64) {elem}', f'copied K {S}.the-type {S}′.the-laws {S}′.the-copy')
     text = text.replace(f'arrF (rtF (fInt w64)) {elem} 0', f'whole {S}.the-row')
     text = text.replace(f'room-arr 𝓤 H A W (rtF (fInt w64)) {elem} 0 {elem} refl', f'let-go K {S}.the-row')
     text = text.replace(f'(tyArray (tyInt w64) {elem})', f'{S}′.mir').replace(f'pArr (eInt w64) (eInt-laws w64) {elem}', f'pStruct {S}.the-type {S}′.the-laws {S}′.the-copy {S}′.the-plain').replace(f'rArr (eInt w64) (eInt-laws w64) {elem}', f'rStruct {S}.the-type {S}′.the-laws {S}′.the-copy {S}′.the-plain')

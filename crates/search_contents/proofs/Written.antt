@@ -5,8 +5,8 @@ use native.Mathlib.Nat.{div-one, div-div-eq-div-mul, pow-succ'}
 use native.Mathlib.Omega.{arith}
 use mathlib.Core.Path.{_≡_, refl, sym, _∙_, ap, ap₂}
 use mathlib.Core.List.{List, [], _∷_, _++_, append-assoc, append-nil}
-use lib.ListN.{length, take, drop, set, take-append-drop, length-append, length-drop, drop-of-length-le}
-use lib.Seq.{take-at, drop-at, drop-drop, take-take, take-all, take-append-le, drop-append-le, length-take-le, set-split, take-set-le, drop-set-add, append-snoc}
+use lib.ListN.{length, getD, take, drop, set, take-append-drop, length-append, length-drop, drop-of-length-le}
+use lib.Seq.{take-at, drop-at, drop-cons, drop-drop, take-all, length-take-le, set-split, take-set-le, drop-set-add, append-snoc}
 use Rattle.claims.specs.Fields.{bigEndian}
 use Rattle.claims.proofs.Bytes.{bigEndian-length}
 use Rattle.search_contents.specs.Written.{written, over}
@@ -107,30 +107,34 @@ number-end at k m xs h =
     let z : 0 ≡ k = omega arith in
     sym (over-none at xs) ∙ ap (λ n. over at (bigEndian n m) xs) z
 
--- the bytes ds from place at + n on, and then the n bytes bs before them
-pub over-before : (at n : ℕ) (bs ds xs : List ℕ) → at + n ≤ length xs → length bs ≡ n → over at bs (over (at + n) ds xs) ≡ over at (bs ++ ds) xs
+-- bytes as they are: one put, and then those behind it
+pub bytes-more : (at k : ℕ) (bs xs : List ℕ) → k < length bs → at + length bs ≤ length xs
+    → over (at + (k + 1)) (drop (k + 1) bs) (set xs (at + k) (getD bs k 0)) ≡ over (at + k) (drop k bs) xs
 unfolding over written
-over-before at n bs ds xs h e =
-    ap₂ (λ l r. l ++ (bs ++ drop (length bs) r))
-    (take-append-le at front behind (omega (arith, front-length)) ∙ take-take at (at + n) xs (omega arith))
-    (drop-append-le at front behind (omega (arith, front-length)))
-    ∙ ap (λ r. take at xs ++ (bs ++ r)) (drop-at (drop at front) behind (length bs) (omega (arith, length-drop at front, front-length)))
-    ∙ ap (λ r. take at xs ++ (bs ++ (ds ++ r))) rest
-    ∙ ap (λ l. take at xs ++ l) (sym (append-assoc bs ds (drop (length (bs ++ ds)) (drop at xs))))
+bytes-more at k bs xs h i =
+    let z : at + (k + 1) ≡ at + k + 1 = omega arith in
+    let next : suc k ≡ k + 1 = omega arith in
+    ap₂ (λ a ys. over a (drop (k + 1) bs) ys) z one
+    ∙ over-next (at + k) 1 (b ∷ []) (drop (k + 1) bs) xs (omega arith) refl
+    ∙ ap (λ ds. over (at + k) ds xs) (sym (drop-cons bs k 0 h ∙ ap (λ j. b ∷ drop j bs) next))
   where
-    front : List ℕ
-    front = take (at + n) xs
+    b : ℕ
+    b = getD bs k 0
 
-    behind : List ℕ
-    behind = ds ++ drop (length ds) (drop (at + n) xs)
+    one : set xs (at + k) b ≡ over (at + k) (b ∷ []) xs
+    one =
+        let z : suc (at + k) ≡ at + k + 1 = omega arith in
+        set-split xs (at + k) b (omega arith) ∙ ap (λ r. take (at + k) xs ++ (b ∷ r)) (ap (λ j. drop j xs) z ∙ sym (drop-drop 1 (at + k) xs))
 
-    front-length : length front ≡ at + n
-    front-length = length-take-le (at + n) xs h
+pub bytes-end : (at k : ℕ) (bs xs : List ℕ) → length bs ≤ k → xs ≡ over at (drop k bs) xs
+bytes-end at k bs xs h = sym (over-none at xs) ∙ ap (λ ds. over at ds xs) (sym (drop-of-length-le bs h))
 
-    rest : drop (length ds) (drop (at + n) xs) ≡ drop (length (bs ++ ds)) (drop at xs)
-    rest =
-        let z : at + n + length ds ≡ at + length (bs ++ ds) = omega (arith, length-append bs ds) in
-        drop-drop (length ds) (at + n) xs ∙ ap (λ k. drop k xs) z ∙ sym (drop-drop (length (bs ++ ds)) at xs)
+-- what stands from the place on
+pub drop-over : (at n : ℕ) (bs xs : List ℕ) → at ≤ length xs → length bs ≡ n → drop at (over at bs xs) ≡ bs ++ drop (at + n) xs
+unfolding over written
+drop-over at n bs xs h e =
+    drop-at (take at xs) (bs ++ drop (length bs) (drop at xs)) at (length-take-le at xs h)
+    ∙ ap (λ r. bs ++ r) (drop-drop (length bs) at xs ∙ ap (λ k. drop (at + k) xs) e)
 
 -- a part of a slice, from a place to its end, comes back with bytes put at its start
 pub part-written : (at : ℕ) (bs xs ys : List ℕ) → at ≤ length xs → ys ≡ written bs (take (length xs - at) (drop at xs))

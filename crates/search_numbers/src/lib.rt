@@ -1,4 +1,4 @@
-// A number in bytes, and the header of a field, put at the start of lent memory. (Document 01, "Sheet and graph bytes".)
+// A number in bytes, bytes as they are, and the header of a field, put into lent memory. (Document 01, "Sheet and graph bytes".)
 ghost use Prim.Native.Nat.{_+_, _≤_, _<_};
 ghost use mathlib.Core.Path.{_≡_};
 ghost use mathlib.Core.List.{_∷_};
@@ -20,6 +20,20 @@ pub fn put_number(out: &mut [u8], at: usize, n: usize, w: u64) -> usize
         left = left / 256;
     }
     at + n
+}
+
+// Bytes as they are from place `at` on, with the same room; the place behind them.
+pub fn put_bytes(out: &mut [u8], at: usize, bytes: &[u8]) -> usize
+    requires { ⌜ at + length (now bytes) ≤ length (now out) ⌝ }
+    ensures { λ r.
+        ⌜ (r ≡ at + length (now (bytes .entry))) × (now (out .exit) ≡ over at (now (bytes .entry)) (now (out .entry))) ⌝ }
+{
+    let mut k: usize = 0;
+    while k < bytes.len() {
+        out[at + k] = bytes[k];
+        k += 1;
+    }
+    at + bytes.len()
 }
 
 // A field's tag and its length, with the same room.

@@ -16,8 +16,8 @@ use Rattle.refusals.specs.Causes.{causeOf}
 use Rattle.refusals.specs.declared.Reason.the-variants.{ShortBuffer, SpentAllowance}
 use Rattle.search_contents.specs.Written.{written}
 use Rattle.search_sheet.specs.SheetWords.{prefixIn, provedSheet, refutedSheet}
-use Rattle.search_listing.specs.declared.Writing.{Writing}
-use Rattle.search_listing.specs.Left.{Ended, ProofStage, ProofStands, WordStage, WordStands}
+use Rattle.search_writing.specs.declared.Writing.{Writing}
+use Rattle.search_writing.specs.Left.{Ended, ProofStage, ProofStands, WordStage, WordStands}
 use Rattle.search_course.specs.declared.Answer.{Answer as Found}
 use Rattle.search_course.specs.declared.Answer.the-variants.{Proved as FoundProof, Refuted as FoundWord, Spent}
 use Rattle.search_outcomes.specs.declared.Outcome.{Outcome}
@@ -45,18 +45,18 @@ full g b o h s =
     (le-leb (length (g .sheet)) (length b) h) (s, refl)
 
 -- at the end, by what was found
-module _ (ring : Bool) (r : List (List ℕ)) (w b₀ b : List ℕ) (x : Writing) (ended : x .going ≡ false) where
+module _ (ring : Bool) (r : List (List ℕ)) (w b₀ word b : List ℕ) (x : Writing) (ended : x .going ≡ false) where
   proof-ended : (n : ℕ) (s : Bool) → x .short ≡ s → ProofStands ring r w b₀ n x b → Ended (provedSheet ring r w n) b₀ s b
   proof-ended n s e h =
       subst (λ q. Ended (provedSheet ring r w n) b₀ q b) e (subst (λ g. ProofStage ring r w b₀ n g x b) ended h)
 
-  word-ended : (place a : ℕ) (s : Bool) → x .short ≡ s → WordStands ring r w b₀ place a x b
+  word-ended : (place a : ℕ) (s : Bool) → x .short ≡ s → WordStands ring r w b₀ place a x word b
       → (x .count ≡ relationsIn (prefixIn ring r w place)) × Ended (refutedSheet ring r w place a) b₀ s b
   word-ended place a s e h =
       subst (λ q. (x .count ≡ relationsIn (prefixIn ring r w place)) × Ended (refutedSheet ring r w place a) b₀ q b) e
-      (subst (λ g. WordStage ring r w b₀ place a g (x .counting) x b) ended h)
+      (subst (λ g. WordStage ring r w b₀ place a g x word b) ended h)
 
-  pub tell-short : x .short ≡ true → (y : Found) → Stands ring r w b₀ y x b → Reports (foundIn ring r w y) b₀ (Refused ShortBuffer 0) b
+  pub tell-short : x .short ≡ true → (y : Found) → Stands ring r w b₀ y x word b → Reports (foundIn ring r w y) b₀ (Refused ShortBuffer 0) b
   unfolding foundIn provedIn refutedIn
   tell-short s (FoundProof n) h =
       let (l, e) = proof-ended n true s h in
@@ -69,25 +69,25 @@ module _ (ring : Bool) (r : List (List ℕ)) (w b₀ b : List ℕ) (x : Writing)
       let o : _≡_ {A = ℕ} 0 1 = cc in
       absurd (omega arith)
 
-  pub tell-proved : x .short ≡ false → (y : Found) (n : ℕ) → y ≡ FoundProof n → Stands ring r w b₀ y x b
+  pub tell-proved : x .short ≡ false → (y : Found) (n : ℕ) → y ≡ FoundProof n → Stands ring r w b₀ y x word b
       → Reports (foundIn ring r w y) b₀ (Proved n) b
   unfolding foundIn provedIn
   tell-proved s y n e h =
-      let (l, f) = proof-ended n false s (subst (λ q. Stands ring r w b₀ q x b) e h) in
+      let (l, f) = proof-ended n false s (subst (λ q. Stands ring r w b₀ q x word b) e h) in
       subst⁻¹ (λ q. Reports (foundIn ring r w q) b₀ (Proved n) b) e
       (subst⁻¹ (Reports (provedIn ring r w n) b₀ (Proved n)) f (full _ b₀ (Proved n) l refl))
 
-  pub tell-refuted : x .short ≡ false → (y : Found) (place a : ℕ) → y ≡ FoundWord place a → Stands ring r w b₀ y x b
+  pub tell-refuted : x .short ≡ false → (y : Found) (place a : ℕ) → y ≡ FoundWord place a → Stands ring r w b₀ y x word b
       → Reports (foundIn ring r w y) b₀ (Refuted (x .count)) b
   unfolding foundIn refutedIn
   tell-refuted s y place a e h =
-      let (c, (l, f)) = word-ended place a false s (subst (λ q. Stands ring r w b₀ q x b) e h) in
+      let (c, (l, f)) = word-ended place a false s (subst (λ q. Stands ring r w b₀ q x word b) e h) in
       subst⁻¹ (λ q. Reports (foundIn ring r w q) b₀ (Refuted (x .count)) b) e
       (subst⁻¹ (Reports (refutedIn ring r w place a) b₀ (Refuted (x .count))) f
       (full _ b₀ (Refuted (x .count)) l (c ∙ omega (arith, size-onto (prefixIn ring r w place) (end a)))))
 
-  pub tell-spent : (y : Found) → y ≡ Spent → Stands ring r w b₀ y x b → Reports (foundIn ring r w y) b₀ (Refused SpentAllowance 0) b
+  pub tell-spent : (y : Found) → y ≡ Spent → Stands ring r w b₀ y x word b → Reports (foundIn ring r w y) b₀ (Refused SpentAllowance 0) b
   unfolding foundIn told put causeOf
   tell-spent y e h =
-      let (f, g) = subst (λ q. Stands ring r w b₀ q x b) e h in
+      let (f, g) = subst (λ q. Stands ring r w b₀ q x word b) e h in
       subst⁻¹ (λ q. Reports (foundIn ring r w q) b₀ (Refused SpentAllowance 0) b) e ((refl, refl), g)

@@ -2,7 +2,7 @@
 // "Refusals with an example each".)
 use refusals::Reason;
 use search_course::Answer;
-use search_listing::Writing;
+use search_writing::Writing;
 ghost use Prim.Native.Nat.{ℕ};
 ghost use mathlib.Core.Path.{_≡_};
 ghost use mathlib.Core.Bool.{Bool, false};
@@ -20,7 +20,7 @@ pub enum Outcome {
 // The outcome of what was found, once the sheet is written or the buffer was too short for it.
 pub fn tell(found: Answer, x: Writing) -> Outcome
     ensures { λ o.
-        ⌜ ((ring : Bool) (r : List (List ℕ)) (w b₀ b : List ℕ) → x .going ≡ false → Stands ring r w b₀ found x b
+        ⌜ ((ring : Bool) (r : List (List ℕ)) (w b₀ word b : List ℕ) → x .going ≡ false → Stands ring r w b₀ found x word b
         → Reports (foundIn ring r w found) b₀ o b) ⌝ }
 {
     if x.short {

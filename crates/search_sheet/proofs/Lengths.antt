@@ -8,14 +8,12 @@ use mathlib.Core.Bool.{Bool}
 use mathlib.Core.List.{List, [], _∷_}
 use lib.ListN.{length, length-append}
 use Rattle.kat.specs.Lists.{counted, upto}
-use Rattle.claims.specs.Verdicts.{relationsIn}
 use Rattle.claims.specs.Fields.{field}
 use Rattle.claims.proofs.Bytes.{field-length}
 use Rattle.search_places.specs.Store.{standingAt}
 use Rattle.search_contents.specs.FieldWords.{fieldWords, fieldLength}
 use Rattle.search_contents.proofs.Fields.{field-count}
-use Rattle.search_sheet.specs.SheetWords.{prefixIn, wordBytes, fieldsFrom, provedSheet, refutedSheet}
-use Rattle.search_sheet.proofs.Steps.{word-length}
+use Rattle.search_sheet.specs.SheetWords.{wordSheet, fieldsFrom, provedSheet}
 
 module _ (ring : Bool) (r : List (List ℕ)) (w : List ℕ) where
   fields-length : (i n : ℕ) → length (fieldsFrom ring r w (counted i n)) ≡ fieldLength ring * n
@@ -36,13 +34,7 @@ module _ (ring : Bool) (r : List (List ℕ)) (w : List ℕ) where
         fields-length 0 (n - 0) ∙ ap (λ m. fieldLength ring * m) z,
       )
 
-  pub refuted-sheet-length : (place last n : ℕ) → n ≡ relationsIn (prefixIn ring r w place) → length (refutedSheet ring r w place last) ≡ 8 + 2 * n
-  unfolding refutedSheet
-  refuted-sheet-length place last n e =
-      omega (
-        arith,
-        length-append (field 1 (2 ∷ [])) (field 2 (wordBytes ring r w place last)),
-        field-length 1 (2 ∷ []),
-        field-length 2 (wordBytes ring r w place last),
-        word-length ring r w place last n e,
-      )
+pub word-sheet-length : (numbers : List ℕ) → length (wordSheet numbers) ≡ 7 + length numbers
+unfolding wordSheet
+word-sheet-length numbers =
+    omega (arith, length-append (field 1 (2 ∷ [])) (field 2 numbers), field-length 1 (2 ∷ []), field-length 2 numbers)

@@ -17,7 +17,7 @@ use Rattle.search_words.specs.declared.Shape.{Shape}
 use Rattle.search_words.specs.Systems.{wordSystem}
 use Rattle.search_places.specs.Store.{standingAt, prefixAt, Holds}
 use Rattle.search_contents.specs.FieldWords.{contentsWords, fieldWords}
-use Rattle.search_sheet.specs.SheetWords.{prefixBytes, wordBytes, fieldsFrom, provedSheet, refutedSheet}
+use Rattle.search_sheet.specs.SheetWords.{prefixBytes, wordSheet, wordBytes, fieldsFrom, provedSheet, refutedSheet}
 use Rattle.search_sheet.proofs.PrefixIn.{prefix-kept}
 use Rattle.search_sheet.proofs.WordNumbers.{word-numbers}
 
@@ -46,7 +46,7 @@ module _ (k : Shape) (left right : List ℕ) (r : List (List ℕ)) (w : List ℕ
     pub refuted-sheet : (place last : ℕ) → place ≤ n → AllBytes (numbers (onto (prefixAt ps place) (end last)))
         → refutedSheet (k .ring) r w place last
         ≡ sheetBytes (wordSystem k left right) (contentsWords (k .ring)) (refuted (onto (prefixAt ps place) (end last)))
-    unfolding refutedSheet sheetBytes wordBytes
+    unfolding refutedSheet wordSheet sheetBytes wordBytes
     refuted-sheet place last l b =
         ap (λ p. field 1 (2 ∷ []) ++ field 2 (prefixBytes p ++ bigEndian 1 last)) (prefix-kept h place l)
         ∙ ap (λ ns. field 1 (2 ∷ []) ++ field 2 ns) (word-numbers (prefixAt ps place) last b)

@@ -2,7 +2,7 @@
 -- in the order of the memory; a refuted one has the word whose prefix is that of a place, by parents and letters. `proofs/` shows that for a
 -- memory that keeps the entries of the search these are the sheets of the verdict.
 -- Assumes nothing.
-use Prim.Native.Nat.{ℕ, zero, suc, _+_, _*_, _/_, _%_, _≤_, _<_}
+use Prim.Native.Nat.{ℕ, zero, suc, _+_, _/_, _%_, _≤_, _<_}
 use mathlib.Core.Bool.{Bool}
 use mathlib.Core.List.{List, [], _∷_, _++_}
 use Rattle.kat.specs.Lists.{upto}
@@ -20,9 +20,9 @@ unfoldable pub prefixBytes : Prefix → List ℕ
 prefixBytes nothing = []
 prefixBytes (then l a r) = prefixBytes l ++ (bigEndian 1 a ++ bigEndian 1 r)
 
--- the sheet of a word of n relations up to its first letter: the verdict, and the tag and the length of the word ("Sheet and graph bytes")
-unfoldable pub wordHead : ℕ → List ℕ
-wordHead n = field 1 (2 ∷ []) ++ (2 ∷ bigEndian 2 (2 * n + 1))
+-- the sheet of a refuted claim, by the numbers of the word ("Sheet and graph bytes")
+unfoldable pub wordSheet : List ℕ → List ℕ
+wordSheet numbers = field 1 (2 ∷ []) ++ field 2 numbers
 
 module _ (ring : Bool) (r : List (List ℕ)) (w : List ℕ) where
   -- the parent of each of the first n standings is a place no later than the standing
@@ -54,4 +54,4 @@ module _ (ring : Bool) (r : List (List ℕ)) (w : List ℕ) where
 
   -- the sheet of a refuted claim with the word of a place and a last atom ("Sheet and graph bytes")
   unfoldable pub refutedSheet : ℕ → ℕ → List ℕ
-  refutedSheet place last = field 1 (2 ∷ []) ++ field 2 (wordBytes place last)
+  refutedSheet place last = wordSheet (wordBytes place last)

@@ -1,9 +1,10 @@
-// The parts of a sheet, from the memory of standings: the verdict's field; for a proved claim the field of a standing; for a refuted one the
-// word, which is the prefix of a place by parents and letters, and a last atom. (Document 01, "Sheet and graph bytes".) A standing of a path
-// claim comes as its record, by value, and one of a ring claim from the words. Each field is put at the start of the part of the buffer
-// that is not written yet, and its writer returns how many bytes it put there; the buffer around it is left as it is. What is required of the
-// room in it is what the search call has tested (refusal 11), and of the memory what the search leaves there.
+// The fields of a sheet: the verdict's; for a proved claim that of a standing; for a refuted one that of the word, and the bytes of one of its
+// letters. (Document 01, "Sheet and graph bytes".) A standing of a path claim comes as its record, by value, and one of a ring claim from the
+// words. Each field is put at the start of the part of the buffer that is not written yet, and its writer returns how many bytes it put
+// there; the buffer around it is left as it is. What is required of the room in it is what the search call has tested (refusal 11), and of the
+// memory what the search leaves there.
 use search_fields::put_standing;
+use search_numbers::put_bytes;
 use search_numbers::put_header;
 use search_numbers::put_number;
 use search_records::Record;
@@ -11,14 +12,13 @@ ghost use Prim.Native.Nat.{ℕ, _+_, _*_, _≤_};
 ghost use mathlib.Core.Path.{_≡_};
 ghost use mathlib.Core.Bool.{true};
 ghost use mathlib.Core.List.{List};
-ghost use lib.ListN.{length, take};
+ghost use lib.ListN.{length};
 ghost use Rattle.claims.specs.Fields.{bigEndian, field};
-ghost use Rattle.search_words.specs.Systems.{width};
 ghost use Rattle.search_records.specs.Rows.{recordAt};
-ghost use Rattle.search_places.specs.Store.{standingAt, parentAt, letterAt};
+ghost use Rattle.search_places.specs.Store.{standingAt};
 ghost use Rattle.search_contents.specs.Written.{written, over};
 ghost use Rattle.search_contents.specs.FieldWords.{fieldWords, fieldLength};
-ghost use Rattle.search_sheet.specs.SheetWords.{letterBytes, wordHead};
+ghost use Rattle.search_sheet.specs.SheetWords.{letterBytes};
 
 // How many bytes the sheet of a proved claim with n standings has.
 pub fn proved_length(ring: bool, n: usize) -> usize
@@ -30,6 +30,9 @@ pub fn proved_length(ring: bool, n: usize) -> usize
     }
     4 + 19 * n
 }
+
+// How many bytes the numbers of the longest word have: 4,096 letters of two, and the last atom.
+pub const LONGEST: usize = 8193;
 
 // The verdict's field: 1 for proved, 2 for refuted.
 pub fn put_verdict(out: &mut [u8], v: u64) -> usize
@@ -62,12 +65,12 @@ pub fn put_letter(out: &mut [u8], at: usize, l: u64)
     put_number(out, second, 1, l % 16);
 }
 
-// The sheet of a word of n relations without its letters: what stands before them, and the last atom behind them.
-pub fn put_frame(buffer: &mut [u8], n: usize, last: usize)
-    requires { ⌜ 8 + 2 * n ≤ length (now buffer) ⌝ }
-    ensures { λ r. ⌜ now (buffer .exit) ≡ over (7 + 2 * n) (bigEndian 1 last) (written (wordHead n) (now (buffer .entry))) ⌝ }
+// The word's field, with the numbers of the word for its contents.
+pub fn put_word(out: &mut [u8], contents: &[u8]) -> usize
+    requires { ⌜ 3 + length (now contents) ≤ length (now out) ⌝ }
+    ensures { λ r.
+        ⌜ (r ≡ 3 + length (now (contents .entry))) × (now (out .exit) ≡ written (field 2 (now (contents .entry))) (now (out .entry))) ⌝ }
 {
-    let at = put_verdict(buffer, 2);
-    put_header(&mut buffer[at..], 2, (2 * n + 1) as u64);
-    put_number(buffer, 7 + 2 * n, 1, last as u64);
+    let at = put_header(out, 2, contents.len() as u64);
+    put_bytes(out, at, contents)
 }

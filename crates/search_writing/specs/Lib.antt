@@ -1,0 +1,2 @@
+-- What is left of a sheet that is being written.
+pub mod Left

@@ -1,120 +1,154 @@
-// A sheet written turn by turn: each turn is given one standing of the memory, a path claim's as its record, and puts its field or its letter.
-// (Document 01, "Sheet and graph bytes".) The length of the sheet is tested before its first byte is written (refusal 11); that of a word
-// is known once the relations of its prefix are counted. The letters are put from the last to the first, since a standing has its parent.
-// What is required of the sheet is how the turn before has left it, and of the standings what the allowance lets through.
-use search_listing::Writing;
+// A sheet written turn by turn, with one standing of the memory a turn, a path claim's as its record. (Document 01, "Sheet and graph bytes".)
+// The length of the sheet is tested before its first byte is written (refusal 11). Of a proof each turn puts a standing's field; the place
+// of the next one is the sum of what the writers of those before have returned. The letters of a word come from the last to the first, since
+// a standing has its parent: they are gathered before each other at the end of an array, and then the word's field is written forward. What
+// is required of the sheet is how the turn before has left it, and of the standings what the allowance lets through.
 use search_places::letter;
 use search_places::parent;
 use search_records::Record;
-use search_sheet::put_frame;
+use search_sheet::proved_length;
+use search_sheet::put_kept;
 use search_sheet::put_letter;
-ghost use Prim.Native.Nat.{ℕ, _+_, _*_, _-_, _≤_, _<_};
+use search_sheet::put_verdict;
+use search_sheet::put_word;
+ghost use Prim.Native.Nat.{ℕ, _+_, _*_, _-_, _/_, _≤_, _<_};
 ghost use mathlib.Core.Path.{_≡_};
 ghost use mathlib.Core.Bool.{Bool, true};
 ghost use mathlib.Core.List.{List};
 ghost use lib.ListN.{length};
-ghost use Rattle.claims.specs.Verdicts.{relationsIn};
 ghost use Rattle.search_records.specs.Rows.{recordAt};
 ghost use Rattle.search_places.specs.Store.{Room};
-ghost use Rattle.search_sheet.specs.SheetWords.{Falling, prefixIn};
-ghost use Rattle.search_listing.specs.Left.{RelationsLeft, LettersLeft, WordStands, wordTurns};
+ghost use Rattle.search_contents.specs.FieldWords.{fieldLength};
+ghost use Rattle.search_sheet.specs.SheetWords.{wordSheet, Falling};
+ghost use Rattle.search_writing.specs.Left.{looksAt, atEnd, Ended, FieldsLeft, LettersLeft, ProofStands, WordStands, proofTurns, wordTurns};
 
-// The sheet of a word whose prefix is that of a place and has n relations: all but its letters, where the buffer is long enough for the sheet.
-fn begin_letters(place: usize, last: usize, n: usize, buffer: &mut [u8]) -> Writing
+// Whether standing `at` is to be looked at, or the end is reached; whether the buffer is too short; the place up to which a proof is written
+// in the buffer, or from which on a word is gathered in the array; and at the end of a word how many relations it has.
+pub struct Writing {
+    pub going: bool,
+    pub short: bool,
+    pub at: usize,
+    pub to: usize,
+    pub count: usize,
+}
+
+// Standing `at` is looked at next, with what is done up to a place, or from it on.
+fn looking(at: usize, to: usize) -> Writing
+    ensures { λ x. ⌜ x ≡ looksAt at to ⌝ }
+{
+    Writing {
+        going: true,
+        short: false,
+        at,
+        to,
+        count: 0,
+    }
+}
+
+// No standing is left to be looked at.
+pub fn ended(short: bool, count: usize) -> Writing
+    ensures { λ x. ⌜ x ≡ atEnd short count ⌝ }
+{
+    Writing {
+        going: false,
+        short,
+        at: 0,
+        to: 0,
+        count,
+    }
+}
+
+// The sheet of a proved claim with n standings: the verdict, where the buffer is long enough for the sheet.
+pub fn begin_fields(ring: bool, n: usize, buffer: &mut [u8]) -> Writing
     requires { ⌜ n ≤ 4096 ⌝ }
     ensures { λ x.
-        ⌜ ((ring : Bool) (r : List (List ℕ)) (w : List ℕ) → Room ring r w place → Falling ring r w place → n ≡ relationsIn (prefixIn ring r w place)
-        → WordStands ring r w (now (buffer .entry)) place last x (now (buffer .exit)) × (wordTurns place x ≤ place)) ⌝ }
+        ⌜ ((r : List (List ℕ)) (w : List ℕ) → Room ring r w n → ProofStands ring r w (now (buffer .entry)) n x (now (buffer .exit))) ⌝ }
 {
-    let length = 8 + 2 * n;
+    let length = proved_length(ring, n);
     if buffer.len() < length {
-        return search_listing::ended(true, n);
+        return ended(true, 0);
     }
-    put_frame(buffer, n, last);
-    if place == 0 {
-        return search_listing::ended(false, n);
+    let to = put_verdict(buffer, 1);
+    if 0 < n {
+        return looking(0, to);
     }
-    search_listing::looking(false, place - 1, n, n)
+    ended(false, 0)
 }
 
-// The sheet of the word of a place and a last atom: the relations of its prefix are counted first.
-pub fn begin_word(place: usize, last: usize, buffer: &mut [u8]) -> Writing
-    requires { ⌜ place ≤ 4096 ⌝ }
+// The field of standing i of n, from place `to` of the buffer on.
+pub fn next_field(
+    ring: bool,
+    from: Record,
+    words: &[u64],
+    n: usize,
+    i: usize,
+    to: usize,
+    buffer: &mut [u8],
+) -> Writing
+    requires { ⌜ (ring ≡ true → 40 * n ≤ length (now words)) × (i < n) × (to + fieldLength ring ≤ length (now buffer)) ⌝ }
+    ensures { λ x.
+        ⌜ ((r : List (List ℕ)) (b₀ : List ℕ) → from ≡ recordAt r i → FieldsLeft ring r (now (words .entry)) b₀ n i to (now (buffer .entry))
+        → ProofStands ring r (now (words .entry)) b₀ n x (now (buffer .exit)) × (proofTurns n x < n - i)) ⌝ }
+{
+    let more = put_kept(ring, from, words, i, &mut buffer[to..]);
+    if i + 1 < n {
+        return looking(i + 1, to + more);
+    }
+    ended(false, 0)
+}
+
+// The sheet of a word with these numbers, where the buffer is long enough for it.
+fn end_word(contents: &[u8], buffer: &mut [u8]) -> Writing
+    ensures { λ x.
+        ⌜ (x ≡ atEnd (x .short) (length (now (contents .entry)) / 2))
+        × Ended (wordSheet (now (contents .entry))) (now (buffer .entry)) (x .short) (now (buffer .exit)) ⌝ }
+{
+    let relations = contents.len() / 2;
+    let length = 7 + contents.len();
+    if buffer.len() < length {
+        return ended(true, relations);
+    }
+    let at = put_verdict(buffer, 2);
+    put_word(&mut buffer[at..], contents);
+    ended(false, relations)
+}
+
+// The word of a place and a last atom: the last atom, at the end of the array.
+pub fn begin_word(place: usize, last: usize, word: &mut [u8], buffer: &mut [u8]) -> Writing
+    requires { ⌜ 2 * place < length (now word) ⌝ }
     ensures { λ x.
         ⌜ ((ring : Bool) (r : List (List ℕ)) (w : List ℕ) → Room ring r w place → Falling ring r w place
-        → WordStands ring r w (now (buffer .entry)) place last x (now (buffer .exit))) ⌝ }
+        → WordStands ring r w (now (buffer .entry)) place last x (now (word .exit)) (now (buffer .exit))) ⌝ }
 {
+    let from = word.len() - 1;
+    search_numbers::put_number(word, from, 1, last as u64);
     if place == 0 {
-        return begin_letters(place, last, 0, buffer);
+        return end_word(&word[from..], buffer);
     }
-    search_listing::looking(true, place - 1, 0, 0)
+    looking(place - 1, from)
 }
 
-// One relation more, that of standing i, behind n that are counted.
-fn next_relation(
+// The letter of standing i, before what is gathered from place `to` of the array on.
+pub fn next_letter(
     ring: bool,
     from: Record,
     words: &[u64],
-    place: usize,
-    last: usize,
-    n: usize,
     i: usize,
+    to: usize,
+    word: &mut [u8],
     buffer: &mut [u8],
 ) -> Writing
-    requires { ⌜ (ring ≡ true → 40 * (i + 1) ≤ length (now words)) × (place ≤ 4096) × (n + i < place) ⌝ }
-    ensures { λ x.
-        ⌜ ((r : List (List ℕ)) (b₀ : List ℕ) → from ≡ recordAt r i → RelationsLeft ring r (now (words .entry)) b₀ place n i (now (buffer .entry))
-        → WordStands ring r (now (words .entry)) b₀ place last x (now (buffer .exit)) × (wordTurns place x < place + (i + 2))) ⌝ }
-{
-    let before = parent(ring, from, words, i) as usize;
-    if before == 0 {
-        return begin_letters(place, last, n + 1, buffer);
-    }
-    search_listing::looking(true, before - 1, n + 1, 0)
-}
-
-// The letter of standing i, the last of k that are left of n.
-fn next_letter(
-    ring: bool,
-    from: Record,
-    words: &[u64],
-    n: usize,
-    k: usize,
-    i: usize,
-    buffer: &mut [u8],
-) -> Writing
-    requires { ⌜ (ring ≡ true → 40 * (i + 1) ≤ length (now words)) × (n ≤ 4096) × (0 < k) × (k ≤ n) × (8 + 2 * n ≤ length (now buffer)) ⌝ }
+    requires { ⌜ (ring ≡ true → 40 * (i + 1) ≤ length (now words)) × (2 ≤ to) × (to ≤ length (now word)) ⌝ }
     ensures { λ x.
         ⌜ ((r : List (List ℕ)) (b₀ : List ℕ) (place last : ℕ) → from ≡ recordAt r i
-        → LettersLeft ring r (now (words .entry)) b₀ place last n k i (now (buffer .entry))
-        → WordStands ring r (now (words .entry)) b₀ place last x (now (buffer .exit)) × (wordTurns place x < i + 1)) ⌝ }
+        → LettersLeft ring r (now (words .entry)) b₀ place last i to (now (word .entry)) (now (buffer .entry))
+        → WordStands ring r (now (words .entry)) b₀ place last x (now (word .exit)) (now (buffer .exit)) × (wordTurns x < i + 1)) ⌝ }
 {
-    put_letter(buffer, 7 + 2 * (k - 1), letter(ring, from, words, i));
-    let here = parent(ring, from, words, i) as usize;
-    if here == 0 {
-        return search_listing::ended(false, n);
+    let at = to - 2;
+    put_letter(word, at, letter(ring, from, words, i));
+    let before = parent(ring, from, words, i) as usize;
+    if before == 0 {
+        return end_word(&word[at..], buffer);
     }
-    search_listing::looking(false, here - 1, n, k - 1)
-}
-
-// One turn of the word of a place and a last atom.
-pub fn next_of_word(
-    ring: bool,
-    from: Record,
-    words: &[u64],
-    place: usize,
-    last: usize,
-    x: Writing,
-    buffer: &mut [u8],
-) -> Writing
-    requires { ⌜ ((r : List (List ℕ)) × (b₀ : List ℕ) × (x .going ≡ true) × WordStands ring r (now words) b₀ place last x (now buffer)) ⌝ }
-    ensures { λ y.
-        ⌜ ((r : List (List ℕ)) (b₀ : List ℕ) → from ≡ recordAt r (x .at) → x .going ≡ true
-        → WordStands ring r (now (words .entry)) b₀ place last x (now (buffer .entry))
-        → WordStands ring r (now (words .entry)) b₀ place last y (now (buffer .exit)) × (wordTurns place y < wordTurns place x)) ⌝ }
-{
-    if x.counting {
-        return next_relation(ring, from, words, place, last, x.count, x.at, buffer);
-    }
-    next_letter(ring, from, words, x.count, x.letters, x.at, buffer)
+    looking(before - 1, at)
 }

@@ -45,48 +45,54 @@ mod Loop
 mod Steps
 
 module _ {M : Type 1} (𝓤 : URA M) (H : Heap 𝓤) (A : Atoms 𝓤) (W : Given 𝓤 H A) (𝓣 : Tables 𝓤 H)
-    (begin : Known 𝓤 H A W 𝓣 1 begin-Kinds.ps begin-Kinds.r begin-Reads.Asked begin-Reads.Learnt begin-Symbol.name)
+    (begin : Known 𝓤 H A W 𝓣 2 begin-Kinds.ps begin-Kinds.r begin-Reads.Asked begin-Reads.Learnt begin-Symbol.name)
     (load : Plain.Knows Load.spec 𝓤 H A W 𝓣)
-    (put : Known 𝓤 H A W 𝓣 2 put-Kinds.ps put-Kinds.r put-Reads.Asked put-Reads.Learnt put-Symbol.name)
+    (put : Known 𝓤 H A W 𝓣 3 put-Kinds.ps put-Kinds.r put-Reads.Asked put-Reads.Learnt put-Symbol.name)
     (tell : Known 𝓤 H A W 𝓣 0 tell-Kinds.ps tell-Kinds.r tell-Reads.Asked tell-Reads.Learnt tell-Symbol.name) where
-  asked : (κs : Lfts 3) (qs : Shares 3) (a : Dens κs ps) → GoodsP κs ps a → Plain.Pre spec κs a → (bs : List ℕ) → d 𝓤 H A W 𝓣 κs qs bs begin load put tell .Φ (wantQ 3 ps r xs 2 κs qs a (Plain.Post spec κs a)) (init 3 ps r xs 2 κs qs a)
+  asked : (κs : Lfts 3) (qs : Shares 3) (a : Dens κs ps) → GoodsP κs ps a → Plain.Pre spec κs a → (bs : List ℕ) → d 𝓤 H A W 𝓣 κs qs bs begin load put tell .Φ (wantQ 3 ps r xs 4 κs qs a (Plain.Post spec κs a)) (init 3 ps r xs 4 κs qs a)
   asked κs qs a good pre bs =
-      λ known. λ γ. (
+      λ known. λ γ. λ γ′. (
         refl,
         (
           λ κ. (rows (a .1 .0 .now), a .1 .1 .0 .now, pre),
           λ begin. (
             refl,
-            λ len. (
-              ((begin .2 .1 .1 .0, begin .1), refl, (refl, λ b₀ h. h)),
-              λ vs inv. (
-                λ yes. (
-                  λ κ. tt,
-                  λ load. λ γ′. (
-                    refl,
-                    (
-                      λ κ. (rows (a .1 .0 .now), a .1 .1 .1 .1 .0 .now, yes, inv .1 (a .1 .1 .1 .1 .0 .now) (begin .5 (rows (a .1 .0 .now)) (a .1 .1 .0 .now) pre)),
-                      λ put. (
-                        refl,
-                        λ len′. (
-                          turns (a .1 .1 .1 .0) (put .1),
-                          put .5 (rows (a .1 .0 .now)) (a .1 .1 .1 .1 .0 .now) (load .5 ∙ rows-at (a .1 .0 .now) (vs .1 .at)) yes (inv .1 (a .1 .1 .1 .1 .0 .now) (begin .5 (rows (a .1 .0 .now)) (a .1 .1 .0 .now) pre)) .1,
+            (
+              refl,
+              λ len. (
+                ((begin .2 .1 .1 .1 .0, begin .2 .1 .1 .0, begin .1), refl, (refl, λ b₀ h. h)),
+                λ vs inv. (
+                  λ yes. (
+                    λ κ. tt,
+                    λ load. λ γ′′. λ γ′′′. (
+                      refl,
+                      (
+                        λ κ. (rows (a .1 .0 .now), a .1 .1 .1 .1 .0 .now, yes, inv .1 (a .1 .1 .1 .1 .0 .now) (begin .5 (rows (a .1 .0 .now)) (a .1 .1 .0 .now) pre)),
+                        λ put. (
+                          refl,
                           (
-                            (put .2 .1 .1 .1 .1 .1 .0, put .1),
                             refl,
-                            (len′ ∙ inv .0, λ b₀ h. put .5 (rows (a .1 .0 .now)) b₀ (load .5 ∙ rows-at (a .1 .0 .now) (vs .1 .at)) yes (inv .1 b₀ h) .0),
-                            refl,
+                            λ len′. (
+                              turns (a .1 .1 .1 .0) (put .1),
+                              put .5 (rows (a .1 .0 .now)) (a .1 .1 .1 .1 .0 .now) (load .5 ∙ rows-at (a .1 .0 .now) (vs .2 .at)) yes (inv .1 (a .1 .1 .1 .1 .0 .now) (begin .5 (rows (a .1 .0 .now)) (a .1 .1 .0 .now) pre)) .1,
+                              (
+                                (put .2 .1 .1 .1 .1 .1 .1 .0, put .2 .1 .1 .1 .1 .1 .0, put .1),
+                                refl,
+                                (len′ ∙ inv .0, λ b₀ h. put .5 (rows (a .1 .0 .now)) b₀ (load .5 ∙ rows-at (a .1 .0 .now) (vs .2 .at)) yes (inv .1 b₀ h) .0),
+                                refl,
+                              ),
+                            ),
                           ),
                         ),
                       ),
                     ),
                   ),
-                ),
-                λ no. (
-                  λ κ. tt,
-                  λ tell. (
-                    (tt, (refl, (refl, (tt, (fix (inv .0 ∙ len), tt))))),
-                    tell .5 (a .0) (rows (a .1 .0 .now)) (a .1 .1 .0 .now) (a .1 .1 .1 .1 .0 .now) (vs .0) no (inv .1 (a .1 .1 .1 .1 .0 .now) (begin .5 (rows (a .1 .0 .now)) (a .1 .1 .0 .now) pre)),
+                  λ no. (
+                    λ κ. tt,
+                    λ tell. (
+                      (tt, (refl, (refl, (tt, (fix (inv .0 ∙ len), tt))))),
+                      tell .5 (a .0) (rows (a .1 .0 .now)) (a .1 .1 .0 .now) (a .1 .1 .1 .1 .0 .now) (vs .1) (vs .0) no (inv .1 (a .1 .1 .1 .1 .0 .now) (begin .5 (rows (a .1 .0 .now)) (a .1 .1 .0 .now) pre)),
+                    ),
                   ),
                 ),
               ),
@@ -96,7 +102,7 @@ module _ {M : Type 1} (𝓤 : URA M) (H : Heap 𝓤) (A : Atoms 𝓤) (W : Given
       )
 
   triple : Triple 𝓤 (WpFn 𝓤 H (𝓣 .C) (𝓣 .Λ) code.function) (plainOf 𝓤 H A 3 ps r (Plain.Pre spec) (Plain.Post spec))
-  triple = t-fn-plain 𝓤 H A W 𝓣 3 ps r xs 2 (homesOf (code.function .locals)) (code.function .body) (λ κs qs bs. d 𝓤 H A W 𝓣 κs qs bs begin load put tell .Φ) (λ κs qs bs bd. d 𝓤 H A W 𝓣 κs qs bs begin load put tell .typed) (Plain.Pre spec) (Plain.Post spec) asked
+  triple = t-fn-plain 𝓤 H A W 𝓣 3 ps r xs 4 (homesOf (code.function .locals)) (code.function .body) (λ κs qs bs. d 𝓤 H A W 𝓣 κs qs bs begin load put tell .Φ) (λ κs qs bs bd. d 𝓤 H A W 𝓣 κs qs bs begin load put tell .typed) (Plain.Pre spec) (Plain.Post spec) asked
 
 pub report-spec : {M : Type 1} → stated.statement M
 unfolding code.routine tablesOf

@@ -9,12 +9,12 @@ use lib.ListN.{length}
 use Rattle.search_records.specs.declared.Record.{Record}
 use Rattle.search_records.specs.Rows.{rows}
 use Rattle.search_course.specs.declared.Answer.{Answer}
-use Rattle.search_listing.specs.declared.Writing.{Writing}
+use Rattle.search_writing.specs.declared.Writing.{Writing}
 use Rattle.search_outcomes.specs.inner.Stands.{Stands, turns}
 
-abbrev pub Inv0 : Bool → List Record → List ℕ → Answer → List ℕ → Writing → List ℕ → Writing → Type 0
-Inv0 ring rs w found b₁ x₁ b x =
-    (length b ≡ length b₁) × ((b₀ : List ℕ) → Stands ring (rows rs) w b₀ found x₁ b₁ → Stands ring (rows rs) w b₀ found x b)
+abbrev pub Inv0 : Bool → List Record → List ℕ → Answer → List ℕ → List ℕ → Writing → List ℕ → List ℕ → Writing → Type 0
+Inv0 ring rs w found b₁ word₁ x₁ b word x =
+    (length b ≡ length b₁) × ((b₀ : List ℕ) → Stands ring (rows rs) w b₀ found x₁ word₁ b₁ → Stands ring (rows rs) w b₀ found x word b)
 
-abbrev pub μ0 : Bool → List Record → List ℕ → Answer → List ℕ → Writing → List ℕ → Writing → ℕ
-μ0 ring rs w found b₁ x₁ b x = turns found x
+abbrev pub μ0 : Bool → List Record → List ℕ → Answer → List ℕ → List ℕ → Writing → List ℕ → List ℕ → Writing → ℕ
+μ0 ring rs w found b₁ word₁ x₁ b word x = turns found x

@@ -1,9 +1,9 @@
--- `search_listing::begin_fields` meets its contract: the length of the sheet is known before it is written.
+-- `search_writing::begin_fields` meets its contract: the length of the sheet is known before it is written.
 -- Assumes nothing.
-use Rattle.search_listing.proofs.Turns.{fields-short, fields-begun, fields-none}
+use Rattle.search_writing.proofs.Turns.{fields-short, fields-begun, fields-none}
 use borrow.Author.Needs.{needs}
-use Rattle.search_listing.proofs.begin_fields.Statement.{statement}
-use Rattle.search_listing.proofs.begin_fields.Tie as tie
+use Rattle.search_writing.proofs.begin_fields.Statement.{statement}
+use Rattle.search_writing.proofs.begin_fields.Tie as tie
 
 proved-length-requires : tie.Need-proved-length-requires
 proved-length-requires c κs = search needs
@@ -25,11 +25,10 @@ same-length c = search needs
 
 returns-2 : tie.Need-returns-2
 returns-2 c =
-    let s = c .before .before .before .before .before .before .before .before .before in
     let size = c .before .before .before .before .before .before .before .proved-length .ensures in
     let fits = c .before .before .before .before .before .before .if1 .left in
-    let put = c .before .before .before .before .put-verdict .ensures .1 in
-    λ r w room. fields-begun _ r w _ _ _ _ size fits _ put room (s .pre) (c .before .if2 .taken) (c .looking .ensures)
+    let put = c .before .before .before .before .put-verdict .ensures in
+    λ r w room. fields-begun _ r w _ _ _ _ size fits _ _ put room (c .before .if2 .taken) (c .looking .ensures)
 
 ended-requires-2 : tie.Need-ended-requires-2
 ended-requires-2 c κs = search needs
@@ -41,8 +40,8 @@ returns-3 : tie.Need-returns-3
 returns-3 c =
     let size = c .before .before .before .before .before .before .before .proved-length .ensures in
     let fits = c .before .before .before .before .before .before .if1 .left in
-    let put = c .before .before .before .before .put-verdict .ensures .1 in
-    λ r w room. fields-none _ r w _ _ _ _ size fits _ put (c .before .if2 .left) (c .ended2 .ensures)
+    let put = c .before .before .before .before .put-verdict .ensures in
+    λ r w room. fields-none _ r w _ _ _ _ size fits _ _ put (c .before .if2 .left) (c .ended2 .ensures)
 
 pub begin-fields-spec : {M : Type 1} → statement M
 begin-fields-spec =
