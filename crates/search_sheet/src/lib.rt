@@ -32,7 +32,7 @@ pub fn proved_length(ring: bool, n: usize) -> usize
 }
 
 // How many bytes the numbers of the longest word have: 4,096 letters of two, and the last atom.
-pub const LONGEST: usize = 8193;
+pub const LONGEST: usize = 2 * 4096 + 1;
 
 // The verdict's field: 1 for proved, 2 for refuted.
 pub fn put_verdict(out: &mut [u8], v: u64) -> usize

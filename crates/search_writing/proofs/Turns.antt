@@ -20,22 +20,22 @@ use Rattle.search_sheet.specs.SheetWords.{wordSheet, Falling, prefixIn, letterB
 use Rattle.search_sheet.proofs.Steps.{fields-more, fields-count, fields-end, verdict-length, behind-verdict, letters-more, letters-end, letter-length, word-length}
 use Rattle.search_sheet.proofs.Lengths.{proved-sheet-length, word-sheet-length}
 use Rattle.search_writing.specs.declared.Writing.{Writing}
-use Rattle.search_writing.specs.Left.{looksAt, atEnd, Ended, FieldsLeft, LettersLeft, ProofStands, WordStands, proofTurns, wordTurns}
+use Rattle.search_writing.specs.Left.{looksAt, atEnd, Ended, WordEnded, FieldsLeft, LettersLeft, ProofStands, WordStands, proofTurns, wordTurns}
 
 -- the sheet of a word, by its numbers
 module _ (numbers b₀ : List ℕ) (x : Writing) where
   pub word-short : length b₀ < 7 + length numbers → x ≡ atEnd true (length numbers / 2)
-      → (x ≡ atEnd (x .short) (length numbers / 2)) × Ended (wordSheet numbers) b₀ (x .short) b₀
+      → WordEnded numbers b₀ x b₀
   word-short h e =
-      subst⁻¹ (λ y. (y ≡ atEnd (y .short) (length numbers / 2)) × Ended (wordSheet numbers) b₀ (y .short) b₀) e
+      subst⁻¹ (λ y. WordEnded numbers b₀ y b₀) e
       (refl, (omega (arith, word-sheet-length numbers), refl))
 
   pub word-put : (at : ℕ) (b b′ : List ℕ) → 7 + length numbers ≤ length b₀ → (at ≡ 4) × (b ≡ written (field 1 (bigEndian 1 2)) b₀)
       → b′ ≡ over at (field 2 numbers) b → x ≡ atEnd false (length numbers / 2)
-      → (x ≡ atEnd (x .short) (length numbers / 2)) × Ended (wordSheet numbers) b₀ (x .short) b′
+      → WordEnded numbers b₀ x b′
   unfolding wordSheet bigEndian
   word-put at b b′ h verdict put e =
-      subst⁻¹ (λ y. (y ≡ atEnd (y .short) (length numbers / 2)) × Ended (wordSheet numbers) b₀ (y .short) b′) e (
+      subst⁻¹ (λ y. WordEnded numbers b₀ y b′) e (
         refl,
         (
           omega (arith, word-sheet-length numbers),
@@ -118,7 +118,7 @@ module _ (ring : Bool) (r : List (List ℕ)) (w b₀ : List ℕ) where
   module _ (place last : ℕ) (x : Writing) where
     -- all numbers of the word are gathered
     word-told : (numbers word b : List ℕ) → numbers ≡ wordBytes ring r w place last
-        → (x ≡ atEnd (x .short) (length numbers / 2)) × Ended (wordSheet numbers) b₀ (x .short) b → WordStands ring r w b₀ place last x word b
+        → WordEnded numbers b₀ x b → WordStands ring r w b₀ place last x word b
     unfolding refutedSheet
     word-told numbers word b all t =
         subst⁻¹ (λ y. WordStands ring r w b₀ place last y word b) (t .0) (
@@ -138,7 +138,7 @@ module _ (ring : Bool) (r : List (List ℕ)) (w b₀ : List ℕ) where
       word-left p e = ap₂ (λ q bs. prefixBytes (prefixIn ring r w q) ++ bs) e last-gathered
 
       pub atom-alone : (numbers b : List ℕ) → numbers ≡ take (length word′ - to) (drop to word′) → place ≡ 0
-          → (x ≡ atEnd (x .short) (length numbers / 2)) × Ended (wordSheet numbers) b₀ (x .short) b → WordStands ring r w b₀ place last x word′ b
+          → WordEnded numbers b₀ x b → WordStands ring r w b₀ place last x word′ b
       atom-alone numbers b part z t =
           word-told numbers word′ b (part ∙ part-all to word′ ∙ letters-end ring r w place (drop to word′) z ∙ word-left place refl) t
 
@@ -194,7 +194,7 @@ module _ (ring : Bool) (r : List (List ℕ)) (w b₀ : List ℕ) where
           )
 
       pub letters-last : (numbers b′ : List ℕ) → numbers ≡ take (length word′ - (to - 2)) (drop (to - 2) word′) → p ≡ 0
-          → (x ≡ atEnd (x .short) (length numbers / 2)) × Ended (wordSheet numbers) b (x .short) b′
+          → WordEnded numbers b x b′
           → WordStands ring r w b₀ place last x word′ b′ × (wordTurns x < i + 1)
       letters-last numbers b′ part z t = (
         word-told numbers word′ b′ (part ∙ part-all (to - 2) word′ ∙ letters-end ring r w p (drop (to - 2) word′) z ∙ letters-left p refl)

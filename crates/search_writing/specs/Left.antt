@@ -2,7 +2,7 @@
 -- from standing i on: put behind what is written, they make the whole sheet at the start of the buffer as it was. A refuted one has letters left:
 -- before what is gathered they make the word, and the buffer is as it was. At the end the sheet is written, or the buffer is as it was.
 -- Assumes nothing.
-use Prim.Native.Nat.{ℕ, _+_, _*_, _-_, _≤_, _<_}
+use Prim.Native.Nat.{ℕ, _+_, _*_, _-_, _/_, _≤_, _<_}
 use mathlib.Core.Path.{_≡_}
 use mathlib.Core.Bool.{Bool, true, false, cond}
 use mathlib.Core.List.{List, _++_}
@@ -11,7 +11,7 @@ use Rattle.kat.specs.Lists.{upto}
 use Rattle.claims.specs.Verdicts.{relationsIn}
 use Rattle.search_places.specs.Store.{Room}
 use Rattle.search_contents.specs.Written.{written, over}
-use Rattle.search_sheet.specs.SheetWords.{Falling, prefixIn, prefixBytes, wordBytes, fieldsFrom, provedSheet, refutedSheet}
+use Rattle.search_sheet.specs.SheetWords.{wordSheet, Falling, prefixIn, prefixBytes, wordBytes, fieldsFrom, provedSheet, refutedSheet}
 use Rattle.search_writing.specs.declared.Writing.{Writing}
 
 -- standing i is looked at next, with what is done up to a place, or from it on
@@ -26,6 +26,10 @@ atEnd short n = record { going = false; short = short; at = 0; to = 0; count = n
 abbrev pub Ended : List ℕ → List ℕ → Bool → List ℕ → Type 0
 Ended sheet b₀ true b = (length b₀ < length sheet) × (b ≡ b₀)
 Ended sheet b₀ false b = (length sheet ≤ length b₀) × (b ≡ written sheet b₀)
+
+-- the end of the sheet of a word with these numbers, of which each second one is a relation ("Sheet and graph bytes")
+abbrev pub WordEnded : List ℕ → List ℕ → Writing → List ℕ → Type 0
+WordEnded numbers b₀ x b = (x ≡ atEnd (x .short) (length numbers / 2)) × Ended (wordSheet numbers) b₀ (x .short) b
 
 module _ (ring : Bool) (r : List (List ℕ)) (w b₀ : List ℕ) where
   -- of n standings, those from i on are left, with their fields from place `to` on ("Sheet and graph bytes")

@@ -11,7 +11,7 @@ use search_sheet::put_kept;
 use search_sheet::put_letter;
 use search_sheet::put_verdict;
 use search_sheet::put_word;
-ghost use Prim.Native.Nat.{ℕ, _+_, _*_, _-_, _/_, _≤_, _<_};
+ghost use Prim.Native.Nat.{ℕ, _+_, _*_, _-_, _≤_, _<_};
 ghost use mathlib.Core.Path.{_≡_};
 ghost use mathlib.Core.Bool.{Bool, true};
 ghost use mathlib.Core.List.{List};
@@ -19,8 +19,8 @@ ghost use lib.ListN.{length};
 ghost use Rattle.search_records.specs.Rows.{recordAt};
 ghost use Rattle.search_places.specs.Store.{Room};
 ghost use Rattle.search_contents.specs.FieldWords.{fieldLength};
-ghost use Rattle.search_sheet.specs.SheetWords.{wordSheet, Falling};
-ghost use Rattle.search_writing.specs.Left.{looksAt, atEnd, Ended, FieldsLeft, LettersLeft, ProofStands, WordStands, proofTurns, wordTurns};
+ghost use Rattle.search_sheet.specs.SheetWords.{Falling};
+ghost use Rattle.search_writing.specs.Left.{looksAt, atEnd, WordEnded, FieldsLeft, LettersLeft, ProofStands, WordStands, proofTurns, wordTurns};
 
 // Whether standing `at` is to be looked at, or the end is reached; whether the buffer is too short; the place up to which a proof is written
 // in the buffer, or from which on a word is gathered in the array; and at the end of a word how many relations it has.
@@ -99,9 +99,7 @@ pub fn next_field(
 
 // The sheet of a word with these numbers, where the buffer is long enough for it.
 fn end_word(contents: &[u8], buffer: &mut [u8]) -> Writing
-    ensures { λ x.
-        ⌜ (x ≡ atEnd (x .short) (length (now (contents .entry)) / 2))
-        × Ended (wordSheet (now (contents .entry))) (now (buffer .entry)) (x .short) (now (buffer .exit)) ⌝ }
+    ensures { λ x. ⌜ WordEnded (now (contents .entry)) (now (buffer .entry)) x (now (buffer .exit)) ⌝ }
 {
     let relations = contents.len() / 2;
     let length = 7 + contents.len();

@@ -1,4 +1,4 @@
--- The contract of `search_run::report`: the kinds of its parameters and of its result, and the reading of its clauses, which are plain facts.
+-- The contract of `search_report::report`: the kinds of its parameters and of its result, and the reading of its clauses, which are plain facts.
 -- Assumes nothing.
 use Rattle.derivations.proofs.Derive.{pEnum, rEnum}
 use borrow.Fn.Kind.{PK, RK}
