@@ -55,7 +55,11 @@ fn run(arguments: &[&str]) -> Option<Printed> {
         [] => file("-").map(|query| line(calls::query_line(&query, DEFAULT_ALLOWANCE))),
         ["query", rest @ ..] => {
             let (allowance, files) = with_allowance(rest)?;
-            let [name] = files[..] else { return if files.is_empty() { run(&["query", "-"]) } else { None } };
+            let name = match files[..] {
+                [] => "-",
+                [name] => name,
+                _ => return None,
+            };
             file(name).map(|query| line(calls::query_line(&query, allowance)))
         }
         ["sheet", rest @ ..] => {
