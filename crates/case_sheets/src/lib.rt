@@ -81,11 +81,11 @@ pub fn write_checked(
         io::write_all(STDOUT_FILENO, b"\n");
         return;
     }
-    let n = outcome_lines::sheet_length(r, buffer);
+    let sheet = outcome_lines::sheet_of(r, buffer);
     io::write_all(STDOUT_FILENO, b", ");
-    case_checks::write_line(case_checks::code(sheet::check(query, texts::first(buffer, n))));
+    case_checks::write_line(case_checks::code(sheet::check(query, sheet)));
     if whole {
-        draw_whole(r, query, texts::first(buffer, n), graph, out);
+        draw_whole(r, query, sheet, graph, out);
     }
 }
 

@@ -33,11 +33,10 @@ fn take(
     }
     let query = &text[from..];
     let r = search::search_alone(query, allowance.value, words, buffer);
-    let n = outcome_lines::sheet_length(r, buffer);
     circle_counts::tried(
         r,
         query,
-        texts::first(buffer, n),
+        outcome_lines::sheet_of(r, buffer),
         place,
         state,
         graph,

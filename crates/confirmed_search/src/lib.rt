@@ -32,6 +32,6 @@ pub fn search_and_check(
         (lentOf (now (records .exit)) (now (words .exit)) (now (buffer .exit))) ⌝ }
 {
     let r = search::search(text, allowance, records, words, buffer);
-    let sheet = evidence::sheet_of(r, buffer);
+    let sheet = outcome_lines::sheet_of(r, buffer);
     kept(r, text, sheet)
 }

@@ -4,7 +4,6 @@
 use Prim.Native.Nat.{ℕ}
 use mathlib.Core.Path.{_≡_, refl, sym, _∙_, ap, subst⁻¹}
 use mathlib.Core.List.{List}
-use lib.ListN.{take}
 use Rattle.claims.specs.Refusals.{Result, ok, refused}
 use Rattle.claims.specs.Calls.{Answer, provedWith, refutedBy, Lent, search-call, Passed, passedProved, passedRefuted, check-call}
 use Rattle.claims.specs.Sheets.{passedAs}
@@ -16,9 +15,10 @@ use Rattle.search_outcomes.specs.Outcomes.{Says as SaysAnswer, Gives, lentOf}
 use Rattle.sheet_checked.specs.declared.Checked.{Checked}
 use Rattle.sheet_checked.specs.declared.Checked.the-variants.{Proved as PassesProved, Refuted as PassesRefuted, Refused as Fails}
 use Rattle.sheet_checked.specs.Checks.{Says}
-use Rattle.evidence.specs.Sizes.{answerSize}
+use Rattle.outcome_lines.specs.Sheets.{sheetOf, OwnSheet}
+use Rattle.outcome_lines.proofs.Sheets.{own-sheets}
 use Rattle.evidence.specs.inner.Kept.{keptProved, keptRefuted, kept}
-use Rattle.evidence.proofs.Sizes.{OwnSheet, search-owns}
+use Rattle.evidence.proofs.Passing.{own-sheet-passes}
 
 -- what is kept of an outcome, by its case and by an answer of the check
 proved-by : (n : ℕ) (x : Result Passed) (c : Checked) → Says x c → keptProved n c ≡ kept (Proved n) x
@@ -49,23 +49,23 @@ keeps (refutedBy w) (Refuted m) s = refl
 
 -- the outcome of a search, kept by the check of its sheet, is the outcome
 pub kept-as-found : (bs : List ℕ) (allowance : ℕ) (before after : Lent) (r : Outcome) → Gives (search-call bs allowance before) r after
-    → kept r (check-call bs (take (answerSize r (after .buffer)) (after .buffer))) ≡ r
+    → kept r (check-call bs (sheetOf r (after .buffer))) ≡ r
 kept-as-found bs allowance before after r gives = go r gives
   where
-    owned : (o : Outcome) → OwnSheet bs (before .buffer) (after .buffer) o
-        → kept o (check-call bs (take (answerSize o (after .buffer)) (after .buffer))) ≡ o
+    owned : (o : Outcome) → OwnSheet bs allowance before after o
+        → kept o (check-call bs (sheetOf o (after .buffer))) ≡ o
     owned o own =
-        ap (λ (s : List ℕ). kept o (check-call bs s)) (own .part) ∙ ap (kept o) (own .passes) ∙ keeps (own .answer) o (own .says)
+        ap (λ (s : List ℕ). kept o (check-call bs s)) (own .part) ∙ ap (kept o) (own-sheet-passes bs allowance before after o own) ∙ keeps (own .answer) o (own .says)
 
     go : (o : Outcome) → Gives (search-call bs allowance before) o after
-        → kept o (check-call bs (take (answerSize o (after .buffer)) (after .buffer))) ≡ o
-    go (Proved n) g = owned (Proved n) (search-owns bs allowance before after (Proved n) g tt)
-    go (Refuted n) g = owned (Refuted n) (search-owns bs allowance before after (Refuted n) g tt)
+        → kept o (check-call bs (sheetOf o (after .buffer))) ≡ o
+    go (Proved n) g = owned (Proved n) (own-sheets bs allowance before after (Proved n) g tt)
+    go (Refuted n) g = owned (Refuted n) (own-sheets bs allowance before after (Refuted n) g tt)
     go (Refused why p) g = refl
 
 -- so the call gives what the search gave
 pub still-gives : (bs : List ℕ) (allowance : ℕ) (before after : Lent) (r o : Outcome) → Gives (search-call bs allowance before) r after
-    → {sheet : List ℕ} → sheet ≡ take (answerSize r (after .buffer)) (after .buffer) → o ≡ kept r (check-call bs sheet)
+    → {sheet : List ℕ} → sheet ≡ sheetOf r (after .buffer) → o ≡ kept r (check-call bs sheet)
     → Gives (search-call bs allowance before) o after
 still-gives bs allowance before after r o gives part k =
     subst⁻¹ (λ x. Gives (search-call bs allowance before) x after)
@@ -73,7 +73,7 @@ still-gives bs allowance before after r o gives part k =
 
 -- the same over lent records
 pub checked-gives : (bs : List ℕ) (allowance : ℕ) (rs : List Record) (w b : List ℕ) (rs′ : List Record) (w′ b′ : List ℕ) (r : Outcome)
-    → Gives (search-call bs allowance (lentOf rs w b)) r (lentOf rs′ w′ b′) → (sheet : List ℕ) → sheet ≡ take (answerSize r b′) b′ → (o : Outcome)
+    → Gives (search-call bs allowance (lentOf rs w b)) r (lentOf rs′ w′ b′) → (sheet : List ℕ) → sheet ≡ sheetOf r b′ → (o : Outcome)
     → o ≡ kept r (check-call bs sheet) → Gives (search-call bs allowance (lentOf rs w b)) o (lentOf rs′ w′ b′)
 unfolding lentOf
 checked-gives bs allowance rs w b rs′ w′ b′ r gives sheet part o k =

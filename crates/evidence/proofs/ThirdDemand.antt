@@ -13,7 +13,9 @@ use Rattle.sheet_checked.specs.declared.Checked.the-variants.{Proved as PassesP
 use Rattle.sheet_checked.specs.Checks.{Says}
 use Rattle.sheet.proofs.Evidence.{passes-proved, passes-refuted}
 use Rattle.evidence.specs.ThirdDemand.{Confirms, ThirdDemand}
-use Rattle.evidence.proofs.Sizes.{OwnSheet, search-owns}
+use Rattle.outcome_lines.specs.Sheets.{OwnSheet}
+use Rattle.outcome_lines.proofs.Sheets.{own-sheets}
+use Rattle.evidence.proofs.Passing.{own-sheet-passes}
 
 -- an outcome is confirmed by what the sheet of its answer passes as
 confirms : (ans : Answer) (r : Outcome) → SaysAnswer (ok ans) r → (c : Checked) → Says (ok (passedAs ans)) c → Confirms r c
@@ -32,12 +34,13 @@ third-demand =
       proved = passes-proved;
       refuted = passes-refuted;
       written = λ text allowance before after r gives answers.
-          let own : OwnSheet text (before .buffer) (after .buffer) r = search-owns text allowance before after r gives answers in
+          let own : OwnSheet text allowance before after r = own-sheets text allowance before after r gives answers in
+          let as-said = own-sheet-passes text allowance before after r own in
           record {
-            sheet = own .sheet;
-            stands = own .stands;
+            sheet = own .leaves .sheet;
+            stands = own .leaves .leaves;
             part = own .part;
-            answered = answered (own .answer) (sym (own .passes));
-            passes = λ c says. confirms (own .answer) r (own .says) c (subst (λ x. Says x c) (own .passes) says);
+            answered = answered (own .answer) (sym as-said);
+            passes = λ c says. confirms (own .answer) r (own .says) c (subst (λ x. Says x c) as-said says);
           };
     }

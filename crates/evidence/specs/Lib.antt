@@ -1,5 +1,3 @@
--- How long the sheet of an answer is.
-pub mod Sizes
 -- The third demand, about the calls.
 pub mod ThirdDemand
 -- Promises between the functions of this crate.

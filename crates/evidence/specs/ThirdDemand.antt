@@ -6,7 +6,7 @@
 use Prim.Native.Nat.{ℕ}
 use mathlib.Core.Path.{_≡_}
 use mathlib.Core.List.{List, _++_}
-use lib.ListN.{length, take, drop}
+use lib.ListN.{length, drop}
 use Rattle.claims.specs.Calls.{Lent, search-call, check-call}
 use Rattle.search_outcomes.specs.declared.Outcome.{Outcome}
 use Rattle.search_outcomes.specs.declared.Outcome.the-variants.{Proved as ProvedBySearch, Refuted as RefutedBySearch, Refused as RefusedBySearch}
@@ -15,7 +15,7 @@ use Rattle.sheet_checked.specs.declared.Checked.{Checked}
 use Rattle.sheet_checked.specs.declared.Checked.the-variants.{Proved, Refuted, Refused}
 use Rattle.sheet_checked.specs.Checks.{Says}
 use Rattle.sheet.specs.Evidence.{HoldsInEveryGraph, DrawnGraphBreaks}
-use Rattle.evidence.specs.Sizes.{answerSize}
+use Rattle.outcome_lines.specs.Sheets.{sheetOf, Answers}
 
 -- the check says of the sheet what the search answered ("Sheet and graph bytes")
 abbrev pub Confirms : Outcome → Checked → Type 0
@@ -27,18 +27,12 @@ Confirms (RefutedBySearch n) Refuted = Unit {0}
 Confirms (RefutedBySearch n) (Refused why p) = ⊥
 Confirms (RefusedBySearch why p) c = ⊥
 
--- the outcome is an answer, no refusal ("Refusals with an example each")
-abbrev pub Answers : Outcome → Type 0
-Answers (ProvedBySearch n) = Unit {0}
-Answers (RefutedBySearch n) = Unit {0}
-Answers (RefusedBySearch why p) = ⊥
-
--- a sheet at the start of the buffer, as long as the outcome says, past which the buffer is as it was; the check has an answer to it, and each
+-- a sheet at the start of the buffer, the outcome's, past which the buffer is as it was; the check has an answer to it, and each
 -- answer that it may give confirms the outcome ("Sheet and graph bytes")
 pub record PassingSheet (text before after : List ℕ) (r : Outcome) : Type 0 where
   pub sheet : List ℕ
   pub stands : after ≡ sheet ++ drop (length sheet) before
-  pub part : take (answerSize r after) after ≡ sheet
+  pub part : sheetOf r after ≡ sheet
   pub answered : (c : Checked) × Says (check-call text sheet) c
   pub passes : (c : Checked) → Says (check-call text sheet) c → Confirms r c
 

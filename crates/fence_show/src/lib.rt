@@ -40,11 +40,7 @@ pub fn show_sheet(r: Outcome, text: &[u8], buffer: &[u8], out: &mut [u8]) {
         refuse(why, place, text, out);
         return;
     }
-    write(
-        STDOUT_FILENO,
-        buffer,
-        outcome_lines::sheet_length(r, buffer),
-    );
+    io::write_all(STDOUT_FILENO, outcome_lines::sheet_of(r, buffer));
 }
 
 // The line of the sheet check.

@@ -1,5 +1,5 @@
--- The word in a sheet, the result with more records, the line of an outcome, and how long it is.
+-- The word in a sheet, the result with more records, the line of an outcome, and its sheet.
 pub mod WordInSheet
 pub mod MoreRecords
 pub mod OutcomeLines
-pub mod Lengths
+pub mod Sheets

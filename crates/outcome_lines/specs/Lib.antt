@@ -1,2 +1,4 @@
 -- The line of an outcome.
 pub mod Shown
+-- The sheet of an outcome.
+pub mod Sheets

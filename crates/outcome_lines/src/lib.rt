@@ -1,11 +1,13 @@
-// The line of an outcome, as bytes in lent memory, and how long the sheet of an outcome is. (Document 01, "The desk's cases" and "Sheet and
-// graph bytes".) The word of a refuted claim is read off the sheet.
+// What is shown of an outcome: its line, as bytes in lent memory, and its sheet, as the part of the buffer that it is. (Document 01, "The desk's
+// cases" and "Sheet and graph bytes".) The word of a refuted claim is read off the sheet.
 use search_outcomes::Outcome;
-ghost use Prim.Native.Nat.{_+_, _*_};
+use words::least;
+ghost use Prim.Native.Nat.{_+_, _*_, _<_};
 ghost use mathlib.Core.Path.{_≡_};
-ghost use lib.ListN.{take, drop};
+ghost use lib.ListN.{getD, take, drop};
 ghost use Rattle.print_line.specs.Puts.{Puts};
-ghost use Rattle.outcome_lines.specs.Shown.{outcomeLine, provedLength, lengthShown};
+ghost use Rattle.outcome_lines.specs.Shown.{outcomeLine};
+ghost use Rattle.outcome_lines.specs.Sheets.{provedSize, refutedSize, sheetSize, sheetOf};
 
 // The line of an answer or a refusal; a refuting word of n relations stands in the sheet, behind seven bytes.
 pub fn outcome_line(r: Outcome, sheet: &[u8], out: &mut [u8]) -> usize
@@ -35,36 +37,49 @@ fn word_in(sheet: &[u8], n: usize) -> &[u8]
     &sheet[..0]
 }
 
-// How many bytes of the buffer are the sheet of an answer, which stands at its start; none for a refusal, and for a number of standings
-// or of relations over 4,096, which no answer has.
-pub fn sheet_length(r: Outcome, buffer: &[u8]) -> usize
-    ensures { λ n. ⌜ n ≡ lengthShown r (now (buffer .entry)) ⌝ }
+// The byte at a place as a number, 0 past the end.
+fn byte(bytes: &[u8], at: usize) -> usize
+    ensures { λ r. ⌜ (r ≡ getD (now (bytes .entry)) at 0) × (r < 256) ⌝ }
 {
-    match r {
-        Outcome::Proved(n) => proved_length(n, buffer),
-        Outcome::Refuted(n) => {
-            if 4096 < n {
-                return 0;
-            }
-            8 + 2 * n
-        }
-        Outcome::Refused(_why, _place) => 0,
+    if at < bytes.len() {
+        bytes[at] as usize
+    } else {
+        0
     }
 }
 
-// How many bytes the sheet of a proof with n standings has: a field of a ring claim's standing has 269, and its second byte is 1; one of a
-// path claim's has 19.
-fn proved_length(n: usize, buffer: &[u8]) -> usize
-    ensures { λ r. ⌜ r ≡ provedLength n (now (buffer .entry)) ⌝ }
+// The length of a proved sheet of n standings, the first of which has so long contents. It requires that two bytes say that, as they do in a
+// field, so that the sum fits.
+fn proved_size(n: usize, contents: usize) -> usize
+    requires { ⌜ contents < 65536 ⌝ }
+    ensures { λ r. ⌜ r ≡ provedSize n contents ⌝ }
 {
-    if 4096 < n {
-        return 0;
+    if n <= 4096 { 4 + (3 + contents) * n } else { 0 }
+}
+
+// The length of a refuted sheet whose word has n relations.
+fn refuted_size(n: usize) -> usize
+    ensures { λ r. ⌜ r ≡ refutedSize n ⌝ }
+{
+    if n <= 4096 { 8 + 2 * n } else { 0 }
+}
+
+// The length of the sheet that an answer left at the start of the buffer; 0 for a refusal.
+fn sheet_size(r: Outcome, buffer: &[u8]) -> usize
+    ensures { λ n. ⌜ n ≡ sheetSize r (now (buffer .entry)) ⌝ }
+{
+    match r {
+        Outcome::Proved(n) => proved_size(n, byte(buffer, 5) * 256 + byte(buffer, 6)),
+        Outcome::Refuted(n) => refuted_size(n),
+        Outcome::Refused(why, place) => 0,
     }
-    if buffer.len() < 6 {
-        return 4 + 19 * n;
-    }
-    if buffer[5] == 1 {
-        return 4 + 269 * n;
-    }
-    4 + 19 * n
+}
+
+// The sheet that an answer left at the start of the buffer. `own-sheets` shows that after an answer of the search it is the sheet that the
+// search wrote.
+pub fn sheet_of(r: Outcome, buffer: &[u8]) -> &[u8]
+    ensures { λ s. ⌜ now s ≡ sheetOf r (now (buffer .entry)) ⌝ }
+{
+    let n = least(sheet_size(r, buffer), buffer.len());
+    &buffer[..n]
 }

@@ -24,10 +24,10 @@ use Rattle.confirmed_search.proofs.Contracts.SearchAndCheck.{ps, r, spe
 use Rattle.search.proofs.search.Met as search-Met
 use Rattle.search.proofs.search.Symbol as search-Symbol
 use Rattle.search.proofs.Contracts.Search as Search
-use Rattle.evidence.proofs.sheet_of.Kinds as sheet-of-Kinds
-use Rattle.evidence.proofs.sheet_of.Met as sheet-of-Met
-use Rattle.evidence.proofs.sheet_of.Reads as sheet-of-Reads
-use Rattle.evidence.proofs.sheet_of.Symbol as sheet-of-Symbol
+use Rattle.outcome_lines.proofs.sheet_of.Kinds as sheet-of-Kinds
+use Rattle.outcome_lines.proofs.sheet_of.Met as sheet-of-Met
+use Rattle.outcome_lines.proofs.sheet_of.Reads as sheet-of-Reads
+use Rattle.outcome_lines.proofs.sheet_of.Symbol as sheet-of-Symbol
 use Rattle.confirmed_search.proofs.kept.Kinds as kept-Kinds
 use Rattle.confirmed_search.proofs.kept.Met as kept-Met
 use Rattle.confirmed_search.proofs.kept.Reads as kept-Reads
@@ -85,5 +85,5 @@ search-and-check-spec {M} 𝓤 H 𝓜 𝓖 𝓡 =
     Plain.close spec w code.env code.function (code.unfolded 𝓤 H 𝓜 𝓡)
     (triple 𝓤 H (𝓖 .A) (givenOf 𝓤 H 𝓜 𝓖) (Over 𝓤 H 𝓜 𝓖 𝓡 code.env)
     (Plain.known Search.spec w code.env search-Symbol.name search-Symbol.routine code.calls-search·search (search-Met.met 𝓤 H 𝓜 𝓖 𝓡))
-    (sheet-of-Reads.known w code.env sheet-of-Symbol.name sheet-of-Symbol.routine code.calls-evidence·sheet-of (sheet-of-Met.met 𝓤 H 𝓜 𝓖 𝓡))
+    (sheet-of-Reads.known w code.env sheet-of-Symbol.name sheet-of-Symbol.routine code.calls-outcome-lines·sheet-of (sheet-of-Met.met 𝓤 H 𝓜 𝓖 𝓡))
     (kept-Reads.known w code.env kept-Symbol.name kept-Symbol.routine code.calls-confirmed-search·kept (kept-Met.met 𝓤 H 𝓜 𝓖 𝓡)))

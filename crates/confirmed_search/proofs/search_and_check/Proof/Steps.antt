@@ -34,9 +34,9 @@ use types.Kit.{Given}
 use Rattle.derivations.proofs.Plain as Plain
 use Rattle.confirmed_search.proofs.Contracts.SearchAndCheck.{ps, r}
 use Rattle.search.proofs.Contracts.Search as Search
-use Rattle.evidence.proofs.sheet_of.Kinds as sheet-of-Kinds
-use Rattle.evidence.proofs.sheet_of.Reads as sheet-of-Reads
-use Rattle.evidence.proofs.sheet_of.Symbol as sheet-of-Symbol
+use Rattle.outcome_lines.proofs.sheet_of.Kinds as sheet-of-Kinds
+use Rattle.outcome_lines.proofs.sheet_of.Reads as sheet-of-Reads
+use Rattle.outcome_lines.proofs.sheet_of.Symbol as sheet-of-Symbol
 use Rattle.confirmed_search.proofs.kept.Kinds as kept-Kinds
 use Rattle.confirmed_search.proofs.kept.Reads as kept-Reads
 use Rattle.confirmed_search.proofs.kept.Symbol as kept-Symbol

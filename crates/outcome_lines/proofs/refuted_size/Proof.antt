@@ -1,9 +1,9 @@
--- `evidence::refuted_size` meets its contract: so many relations fit, and more have no size.
+-- `outcome_lines::refuted_size` meets its contract: so many relations fit, and more have no size.
 -- Assumes nothing.
-use Rattle.evidence.proofs.Sizes.{few-is-size, many-is-none}
+use Rattle.outcome_lines.proofs.Sheets.{few-is-size, many-is-none}
 use borrow.Author.Needs.{needs}
-use Rattle.evidence.proofs.refuted_size.Statement.{statement}
-use Rattle.evidence.proofs.refuted_size.Tie as tie
+use Rattle.outcome_lines.proofs.refuted_size.Statement.{statement}
+use Rattle.outcome_lines.proofs.refuted_size.Tie as tie
 
 mul-result : tie.Need-mul-result
 mul-result c = search needs

@@ -1,10 +1,10 @@
--- `evidence::proved_size` meets its contract: so many standings fit, and more have no size.
+-- `outcome_lines::proved_size` meets its contract: so many standings fit, and more have no size.
 -- Assumes nothing.
 use native.Mathlib.Omega.{arith}
-use Rattle.evidence.proofs.Sizes.{few-is-size, many-is-none, few-bytes}
+use Rattle.outcome_lines.proofs.Sheets.{few-is-size, many-is-none, few-bytes}
 use borrow.Author.Needs.{needs}
-use Rattle.evidence.proofs.proved_size.Statement.{statement}
-use Rattle.evidence.proofs.proved_size.Tie as tie
+use Rattle.outcome_lines.proofs.proved_size.Statement.{statement}
+use Rattle.outcome_lines.proofs.proved_size.Tie as tie
 
 add-result : tie.Need-add-result
 add-result c = search needs

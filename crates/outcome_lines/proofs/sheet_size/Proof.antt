@@ -1,9 +1,9 @@
--- `evidence::sheet_size` meets its contract. By the case of the outcome.
+-- `outcome_lines::sheet_size` meets its contract. By the case of the outcome.
 -- Assumes nothing.
-use Rattle.evidence.proofs.Sizes.{proved-sized, refuted-sized, refused-sized}
+use Rattle.outcome_lines.proofs.Sheets.{proved-sized, refuted-sized, refused-sized}
 use borrow.Author.Needs.{needs}
-use Rattle.evidence.proofs.sheet_size.Statement.{statement}
-use Rattle.evidence.proofs.sheet_size.Tie as tie
+use Rattle.outcome_lines.proofs.sheet_size.Statement.{statement}
+use Rattle.outcome_lines.proofs.sheet_size.Tie as tie
 
 enum-known-r : tie.Need-enum-known-r
 enum-known-r c = search needs

@@ -1,9 +1,9 @@
--- `evidence::sheet_of` meets its contract. A part that would go past the buffer is all of it.
+-- `outcome_lines::sheet_of` meets its contract. A part that would go past the buffer is all of it.
 -- Assumes nothing.
-use Rattle.evidence.proofs.Sizes.{part-length, part-within}
+use Rattle.outcome_lines.proofs.Sheets.{part-length, part-within}
 use borrow.Author.Needs.{needs}
-use Rattle.evidence.proofs.sheet_of.Statement.{statement}
-use Rattle.evidence.proofs.sheet_of.Tie as tie
+use Rattle.outcome_lines.proofs.sheet_of.Statement.{statement}
+use Rattle.outcome_lines.proofs.sheet_of.Tie as tie
 
 sheet-size-requires : tie.Need-sheet-size-requires
 sheet-size-requires c κs = search needs

@@ -1,11 +1,11 @@
--- `evidence::byte` meets its contract.
+-- `outcome_lines::byte` meets its contract.
 -- Assumes nothing.
 use native.Mathlib.Omega.{arith}
 use mathlib.Core.Path.{refl, sym}
 use lib.ListN.{List·getD-eq-default}
 use borrow.Author.Needs.{needs}
-use Rattle.evidence.proofs.byte.Statement.{statement}
-use Rattle.evidence.proofs.byte.Tie as tie
+use Rattle.outcome_lines.proofs.byte.Statement.{statement}
+use Rattle.outcome_lines.proofs.byte.Tie as tie
 
 shared-slice-read-result : tie.Need-shared-slice-read-result
 shared-slice-read-result c = search needs

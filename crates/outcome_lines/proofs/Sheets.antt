@@ -1,5 +1,5 @@
--- The sheet of an answer, from the outcome and the buffer alone. After an answer of the search the buffer starts with that answer's own
--- sheet (claims' `answer-leaves-own-sheet`), and as many of its bytes as `answerSize` says are that sheet. The idea: a sheet's length is
+-- The sheet of an outcome, from the outcome and the buffer alone. After an answer of the search the buffer starts with that answer's own
+-- sheet (claims' `answer-leaves-own-sheet`), and as many of its bytes as `sheetSize` says are that sheet. The idea: a sheet's length is
 -- known from the answer and the kind of the claim, the kind shows in the length of the first standing's field, and with no standing it
 -- does not matter.
 -- Assumes nothing.
@@ -14,7 +14,7 @@ use mathlib.Core.List.{List, [], _∷_, _++_}
 use lib.ListN.{length, take, drop, getD}
 use lib.Seq.{take-at, take-all, length-take-le}
 use borrow.Author.Tests.{le-leb, lt-leb}
-use Rattle.kat.specs.Word.{size}
+use Rattle.kat.specs.Word.{Word, size}
 use Rattle.kat.proofs.Bools.{le-or-lt}
 use Rattle.claims.specs.Sides.{Decision}
 use Rattle.claims.specs.Standings.{System, claimSystem}
@@ -24,23 +24,22 @@ use Rattle.claims.specs.SheetBytes.{contentsLength, standingBytes, standingFiel
 use Rattle.claims.specs.Refusals.{Result, ok, refused}
 use Rattle.claims.specs.Orders.{Rising}
 use Rattle.claims.specs.Lawful.{Lawful}
-use Rattle.claims.specs.Calls.{Answer, provedWith, refutedBy, Given, answerOf, searched, Lent, search-call, check-call}
+use Rattle.claims.specs.Calls.{Answer, provedWith, refutedBy, Given, answerOf, searched, Lent, search-call}
 use Rattle.claims.specs.CallOrder.{WayOut, unread, out, short, exhausted, unwritten, written}
-use Rattle.claims.specs.Sheets.{passedAs, sheetLength}
+use Rattle.claims.specs.Sheets.{sheetLength}
 use Rattle.claims.proofs.Results.{refused-not-ok}
 use Rattle.claims.proofs.LineOrder.{same-value}
 use Rattle.claims.proofs.ByKind.{lawful, searched-by-kind, contents-length, contents-short}
 use Rattle.claims.proofs.Verdict.{proved-is-few, refuted-is-within}
 use Rattle.claims.proofs.SearchOrder.{search-reads-first, allowance-next, memory-next, spent-next, buffer-last}
 use Rattle.claims.proofs.SearchMemory.{search-outcomes}
-use Rattle.claims.proofs.Sheets.{no-answer, live-rises, written-sheet-passes}
+use Rattle.claims.proofs.Sheets.{no-answer, live-rises}
 use Rattle.claims.proofs.SheetLength.{answer-leaves-own-sheet}
 use Rattle.refusals.specs.declared.Reason.{Reason}
 use Rattle.search_outcomes.specs.declared.Outcome.{Outcome}
 use Rattle.search_outcomes.specs.declared.Outcome.the-variants.{Proved, Refuted, Refused}
-use Rattle.search_outcomes.specs.Outcomes.{Says, Gives}
-use Rattle.evidence.specs.Sizes.{atMost, answerSize}
-use Rattle.evidence.specs.ThirdDemand.{Answers}
+use Rattle.search_outcomes.specs.Outcomes.{Says}
+use Rattle.outcome_lines.specs.Sheets.{atMost, provedSize, refutedSize, sheetSize, sheetOf, Answers, OwnSheet, OwnSheets}
 
 -- at most 4,096 have the size, more have none
 pub few-is-size : (n bytes : ℕ) → n ≤ 4096 → bytes ≡ atMost n bytes
@@ -57,19 +56,19 @@ few-bytes n contents h k = mul-le-mul {n₁ = 3 + contents} {n₂ = 65539} (omeg
 
 -- the size by the case of the outcome
 pub proved-sized : (r : Outcome) (buffer : List ℕ) (n hi lo : ℕ) → r ≡ Proved n → hi ≡ getD buffer 5 0 → lo ≡ getD buffer 6 0
-    → {bytes : ℕ} → bytes ≡ atMost n (4 + (3 + (hi * 256 + lo)) * n) → bytes ≡ answerSize r buffer
-unfolding answerSize
+    → {bytes : ℕ} → bytes ≡ provedSize n (hi * 256 + lo) → bytes ≡ sheetSize r buffer
+unfolding sheetSize
 proved-sized r buffer n hi lo e h l s =
-    s ∙ (λ i. atMost n (4 + (3 + (h i * 256 + l i)) * n)) ∙ ap (λ o. answerSize o buffer) (sym e)
+    s ∙ (λ i. provedSize n (h i * 256 + l i)) ∙ ap (λ o. sheetSize o buffer) (sym e)
 
 pub refuted-sized : (r : Outcome) (buffer : List ℕ) (n : ℕ) → r ≡ Refuted n
-    → {bytes : ℕ} → bytes ≡ atMost n (8 + 2 * n) → bytes ≡ answerSize r buffer
-unfolding answerSize
-refuted-sized r buffer n e s = s ∙ ap (λ o. answerSize o buffer) (sym e)
+    → {bytes : ℕ} → bytes ≡ refutedSize n → bytes ≡ sheetSize r buffer
+unfolding sheetSize
+refuted-sized r buffer n e s = s ∙ ap (λ o. sheetSize o buffer) (sym e)
 
-pub refused-sized : (r : Outcome) (buffer : List ℕ) (why : Reason) (p : ℕ) → r ≡ Refused why p → 0 ≡ answerSize r buffer
-unfolding answerSize
-refused-sized r buffer why p e = ap (λ o. answerSize o buffer) (sym e)
+pub refused-sized : (r : Outcome) (buffer : List ℕ) (why : Reason) (p : ℕ) → r ≡ Refused why p → 0 ≡ sheetSize r buffer
+unfolding sheetSize
+refused-sized r buffer why p e = ap (λ o. sheetSize o buffer) (sym e)
 
 -- a part is no longer than the whole
 pub part-length : (k n : ℕ) (l : List ℕ) → k ≡ min n (length l) → k ≡ length (take k l)
@@ -113,17 +112,26 @@ searched-shows D rising allowance g e =
     verdict-shows (D .ring) (claimSystem D) (lawful (D .ring) D rising) allowance (standingBytes (D .ring) D) (contents-length (D .ring) D)
     (verdict (claimSystem D) allowance) refl g (sym (searched-by-kind D allowance) ∙ e)
 
+-- the sizes are the lengths of claims' definition, for the contents of the claim's kind; without standings any contents do
+proved-length : (ring : Bool) (n : ℕ) → n ≤ 4096 → provedSize n (contentsLength ring) ≡ sheetLength (provedWith n) ring
+proved-length ring n h = sym (few-is-size n _ h)
+
+none-length : (ring : Bool) (contents : ℕ) → provedSize 0 contents ≡ provedSize 0 (contentsLength ring)
+none-length ring contents = ap (λ j. atMost 0 (4 + j)) (mul-zero _ ∙ sym (mul-zero _))
+
+refuted-length : (ring : Bool) (w : Word) → size w ≤ 4096 → refutedSize (size w) ≡ sheetLength (refutedBy w) ring
+refuted-length ring w h = sym (few-is-size (size w) _ h)
+
 -- the size that an outcome gives is the length of the sheet
 sized : (allowance : ℕ) → allowance ≤ 4096 → (ring : Bool) (ans : Answer) (r : Outcome) → Says (ok ans) r → (sheet rest : List ℕ)
-    → Shows allowance ring ans sheet → length sheet ≡ sheetLength ans ring → answerSize r (sheet ++ rest) ≡ length sheet
-unfolding answerSize
+    → Shows allowance ring ans sheet → length sheet ≡ sheetLength ans ring → sheetSize r (sheet ++ rest) ≡ length sheet
+unfolding sheetSize
 sized allowance few ring (provedWith zero) (Proved n) s sheet rest (k, shows) l =
-    let z : (m : ℕ) → m * n ≡ 0 = λ m. ap (λ j. m * j) s ∙ mul-zero m in
-    sym (few-is-size n _ (omega (arith, s))) ∙ ap (λ j. 4 + j) (z _) ∙ sym (l ∙ ap (λ j. 4 + j) (mul-zero (3 + contentsLength ring)))
+    ap (λ j. provedSize j (getD (sheet ++ rest) 5 0 * 256 + getD (sheet ++ rest) 6 0)) s ∙ none-length ring _ ∙ proved-length ring 0 (omega arith)
+    ∙ sym l
 sized allowance few ring (provedWith (suc c)) (Proved n) s sheet rest (k, shows) l =
-    sym (few-is-size n _ (omega (arith, s))) ∙ (λ i. 4 + (3 + shows rest (omega arith) i) * s i) ∙ sym l
-sized allowance few ring (refutedBy w) (Refuted n) s sheet rest k l =
-    sym (few-is-size n _ (omega (arith, s))) ∙ ap (λ j. 8 + 2 * j) s ∙ sym l
+    (λ i. provedSize (s i) (shows rest (omega arith) i)) ∙ proved-length ring (suc c) (omega arith) ∙ sym l
+sized allowance few ring (refutedBy w) (Refuted n) s sheet rest k l = ap refutedSize s ∙ refuted-length ring w (omega arith) ∙ sym l
 
 -- an answer of the search kept to the allowance of document 01
 pub answer-allowed : (bs : List ℕ) (allowance : ℕ) (m : Lent) (ans : Answer) → search-call bs allowance m .result ≡ ok ans → allowance ≤ 4096
@@ -137,41 +145,38 @@ answer-allowed bs allowance m ans e = go (search-outcomes bs allowance m)
     go (unwritten q a r g h k) = no-answer (search-call bs allowance m) (buffer-last bs allowance m q a r g h k) e
     go (written q a r g h k) = r .small-allowance
 
--- an outcome's own sheet: what the buffer starts with, as long as the outcome says, and what it passes as
-pub record OwnSheet (bs before after : List ℕ) (r : Outcome) : Type 0 where
-  pub answer : Answer
-  pub says : Says (ok answer) r
-  pub sheet : List ℕ
-  pub stands : after ≡ sheet ++ drop (length sheet) before
-  pub part : take (answerSize r after) after ≡ sheet
-  pub passes : check-call bs sheet ≡ ok (passedAs answer)
-
-answer-owns : (bs : List ℕ) (allowance : ℕ) (before after : Lent) (r : Outcome) (ans : Answer)
-    → search-call bs allowance before .result ≡ ok ans → Says (ok ans) r → after ≡ search-call bs allowance before .lent
-    → OwnSheet bs (before .buffer) (after .buffer) r
-answer-owns bs allowance before after r ans e says leaves =
-    let l = answer-leaves-own-sheet bs allowance before ans e in
-    let few = answer-allowed bs allowance before ans e in
-    let own : Given = record { answer = ans; sheet = l .sheet } in
-    let rest : List ℕ = drop (length (l .sheet)) (before .buffer) in
-    let stands : after .buffer ≡ l .sheet ++ rest = ap (λ (m : Lent). m .buffer) leaves ∙ l .leaves in
-    let shows = searched-shows (l .asks .decided) (live-rises bs (l .asks) (l .accepted)) allowance own (l .own) in
-    record {
-      answer = ans;
-      says = says;
-      sheet = l .sheet;
-      stands = stands;
-      part = subst⁻¹ (λ (b : List ℕ). take (answerSize r b) b ≡ l .sheet) stands
-          (take-at (l .sheet) rest _ (sym (sized allowance few (l .asks .decided .ring) ans r says (l .sheet) rest shows (l .bytes))));
-      passes = written-sheet-passes bs (l .asks) (l .accepted) allowance few own (l .own);
-    }
-
 -- every answer of the search has its own sheet
-pub search-owns : (bs : List ℕ) (allowance : ℕ) (before after : Lent) (r : Outcome) → Gives (search-call bs allowance before) r after
-    → Answers r → OwnSheet bs (before .buffer) (after .buffer) r
-search-owns bs allowance before after r gives answers = go (search-call bs allowance before .result) refl r (gives .says) answers
+pub own-sheets : OwnSheets
+own-sheets text allowance before after r gives answers = go (search-call text allowance before .result) refl r (gives .says) answers
   where
-    go : (x : Result Answer) → search-call bs allowance before .result ≡ x → (o : Outcome) → Says x o → Answers o
-        → OwnSheet bs (before .buffer) (after .buffer) o
-    go (ok ans) e o says a = answer-owns bs allowance before after o ans e says (gives .leaves)
+    owns : (ans : Answer) → search-call text allowance before .result ≡ ok ans → (o : Outcome) → Says (ok ans) o
+        → OwnSheet text allowance before after o
+    owns ans e o says =
+        let l = answer-leaves-own-sheet text allowance before ans e in
+        let few = answer-allowed text allowance before ans e in
+        let own : Given = record { answer = ans; sheet = l .sheet } in
+        let rest : List ℕ = drop (length (l .sheet)) (before .buffer) in
+        let stands : after .buffer ≡ l .sheet ++ rest = ap (λ (m : Lent). m .buffer) (gives .leaves) ∙ l .leaves in
+        let shows = searched-shows (l .asks .decided) (live-rises text (l .asks) (l .accepted)) allowance own (l .own) in
+        record {
+          answer = ans;
+          found = e;
+          says = says;
+          leaves =
+              record {
+                asks = l .asks;
+                accepted = l .accepted;
+                sheet = l .sheet;
+                own = l .own;
+                bytes = l .bytes;
+                fits = l .fits;
+                leaves = stands;
+              };
+          part = subst⁻¹ (λ (b : List ℕ). sheetOf o b ≡ l .sheet) stands
+              (take-at (l .sheet) rest _ (sym (sized allowance few (l .asks .decided .ring) ans o says (l .sheet) rest shows (l .bytes))));
+        }
+
+    go : (x : Result Answer) → search-call text allowance before .result ≡ x → (o : Outcome) → Says x o → Answers o
+        → OwnSheet text allowance before after o
+    go (ok ans) e o says a = owns ans e o says
     go (refused x) e (Refused why p) says a = absurd a
