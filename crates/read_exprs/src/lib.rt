@@ -1,6 +1,7 @@
 // Readers of E over the bytes of a line: a union `|` of sequences `;` of factors with any number of postfix `*`, `+`, `?`. (Document 01, "The
 // query".) They call each other for what stands in round brackets, and the readers of T for what stands in square ones. Operators and
-// postfixes are read by loops, so that only brackets take the machine's stack.
+// postfixes are read by loops, so that only brackets take the machine's stack. At each round bracket two numbers fall: how many may still be
+// opened, and the bytes left.
 use read_tests::Parsed;
 use read_tests::Place;
 use read_tokens::Token;
@@ -8,7 +9,7 @@ ghost use mathlib.Core.Path.{_≡_};
 ghost use Prim.Native.Nat.{_≤_};
 ghost use Rattle.claims.specs.Lines.{expression};
 ghost use Rattle.read_next.specs.Next.{markNext};
-ghost use Rattle.read_tests.specs.Places.{Room, TreeOutcome, Is, Finds};
+ghost use Rattle.read_tests.specs.Places.{Room, TreeOutcome, Is, Finds, opened};
 ghost use Rattle.claims.specs.Grammar.{unionOf, sequenceOf, postfixOf, factorOf, nameNext};
 ghost use Rattle.claims.specs.Tree.{name};
 ghost use Rattle.read_exprs.specs.inner.Postfix.{SignNext, PostfixesNext};
@@ -19,10 +20,10 @@ struct Sign {
     code: u64,
 }
 
-// E.
+// E, where `depth` more round brackets may be opened.
 fn union(s: &[u8], names: &[u64], n: usize, depth: usize, p: Place, out: &mut [u64; 4096]) -> Parsed
     requires { ⌜ (depth ≤ 32) × Room (now s) p ⌝ }
-    ensures { λ r. ⌜ TreeOutcome (Finds unionOf depth 4) (now (s .entry)) (now (names .entry)) n p (now (out .entry)) (now (out .exit)) r ⌝ }
+    ensures { λ r. ⌜ TreeOutcome (Finds unionOf (opened depth) 4) (now (s .entry)) (now (names .entry)) n p (now (out .entry)) (now (out .exit)) r ⌝ }
 {
     let mut place = p;
     let mut more = 0;
@@ -59,7 +60,7 @@ fn sequence(
     out: &mut [u64; 4096],
 ) -> Parsed
     requires { ⌜ (depth ≤ 32) × Room (now s) p ⌝ }
-    ensures { λ r. ⌜ TreeOutcome (Finds sequenceOf depth 3) (now (s .entry)) (now (names .entry)) n p (now (out .entry)) (now (out .exit)) r ⌝ }
+    ensures { λ r. ⌜ TreeOutcome (Finds sequenceOf (opened depth) 3) (now (s .entry)) (now (names .entry)) n p (now (out .entry)) (now (out .exit)) r ⌝ }
 {
     let mut place = p;
     let mut more = 0;
@@ -96,7 +97,7 @@ fn postfix(
     out: &mut [u64; 4096],
 ) -> Parsed
     requires { ⌜ (depth ≤ 32) × Room (now s) p ⌝ }
-    ensures { λ r. ⌜ TreeOutcome (Finds postfixOf depth 2) (now (s .entry)) (now (names .entry)) n p (now (out .entry)) (now (out .exit)) r ⌝ }
+    ensures { λ r. ⌜ TreeOutcome (Finds postfixOf (opened depth) 2) (now (s .entry)) (now (names .entry)) n p (now (out .entry)) (now (out .exit)) r ⌝ }
 {
     let r = factor(s, names, n, depth, p, out);
     let Parsed::Got(got) = r else {
@@ -115,13 +116,13 @@ fn factor(
     out: &mut [u64; 4096],
 ) -> Parsed
     requires { ⌜ (depth ≤ 32) × Room (now s) p ⌝ }
-    ensures { λ r. ⌜ TreeOutcome (Finds factorOf depth 1) (now (s .entry)) (now (names .entry)) n p (now (out .entry)) (now (out .exit)) r ⌝ }
+    ensures { λ r. ⌜ TreeOutcome (Finds factorOf (opened depth) 1) (now (s .entry)) (now (names .entry)) n p (now (out .entry)) (now (out .exit)) r ⌝ }
 {
     let next = read_next::mark_next(s, p.at, b'(');
     if next == 0 {
         return leaf(s, names, n, depth, p, out);
     }
-    if depth == 32 {
+    if depth == 0 {
         return read_tests::deep(out);
     }
     let inner = Place {
@@ -129,7 +130,7 @@ fn factor(
         used: p.used,
         slip: p.slip,
     };
-    let r = union(s, names, n, depth + 1, inner, out);
+    let r = union(s, names, n, depth - 1, inner, out);
     let Parsed::Got(got) = r else {
         return r;
     };
@@ -148,7 +149,7 @@ fn factor(
 fn leaf(s: &[u8], names: &[u64], n: usize, depth: usize, p: Place, out: &mut [u64; 4096]) -> Parsed
     requires { ⌜ (depth ≤ 32) × Room (now s) p ⌝ }
     requires { ⌜ markNext (now s) (p .at) 40 ≡ 0 ⌝ }
-    ensures { λ r. ⌜ TreeOutcome (Finds factorOf depth 1) (now (s .entry)) (now (names .entry)) n p (now (out .entry)) (now (out .exit)) r ⌝ }
+    ensures { λ r. ⌜ TreeOutcome (Finds factorOf (opened depth) 1) (now (s .entry)) (now (names .entry)) n p (now (out .entry)) (now (out .exit)) r ⌝ }
 {
     let next = read_next::mark_next(s, p.at, b'[');
     if next == 0 {
@@ -256,5 +257,5 @@ pub fn expression(s: &[u8], names: &[u64], n: usize, p: Place, out: &mut [u64; 4
     requires { ⌜ Room (now s) p ⌝ }
     ensures { λ r. ⌜ TreeOutcome (Is expression) (now (s .entry)) (now (names .entry)) n p (now (out .entry)) (now (out .exit)) r ⌝ }
 {
-    union(s, names, n, 0, p, out)
+    union(s, names, n, read_tests::MOST_BRACKETS, p, out)
 }

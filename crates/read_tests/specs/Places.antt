@@ -67,6 +67,10 @@ TreeOutcome Reads s names n p before after r = ReaderOutcome Reads treeCodes tre
 abbrev pub Finds : {A : Type 0} → (ℕ → ℕ → List Token → Found A) → ℕ → ℕ → List Token → Found A → Type 0
 Finds D d k ts x = (f : ℕ) → 8 * length ts + k ≤ f → D f d ts ≡ x
 
+-- how many round brackets are open where `depth` more may be opened, 32 in all ("The query")
+abbrev pub opened : ℕ → ℕ
+opened depth = 32 - depth
+
 -- the reader D of the grammar finds x in the tokens ts
 abbrev pub Is : {A : Type 0} → (List Token → Found A) → List Token → Found A → Type 0
 Is D ts x = D ts ≡ x

@@ -1,15 +1,19 @@
 // Readers of T over the bytes of a line: `|`, then `&`, then prefix `!`, over names, `true`, `false` and round brackets. (Document 01, "The
 // query".) They find what the grammar finds in the line's tokens, and write the codes of the tree. A name is looked up at once; a slip of
 // one is only remembered, since a fault of the notation further on in the line comes first. Operators and prefix `!` are read by loops,
-// so that only brackets take the machine's stack. The place of a reader serves the readers of E too.
+// so that only brackets take the machine's stack. At each bracket two numbers fall: how many may still be opened, and the bytes left. The
+// place of a reader serves the readers of E too.
 use read_tokens::Token;
 ghost use mathlib.Core.Path.{_≡_};
-ghost use Prim.Native.Nat.{_+_, _≤_};
+ghost use Prim.Native.Nat.{_≤_};
 ghost use Rattle.claims.specs.Lines.{condition};
 ghost use Rattle.words.specs.Memory.{zeros};
 ghost use Rattle.read_tests.specs.declared.Parsed.the-variants.{Wrong, Deep};
-ghost use Rattle.read_tests.specs.Places.{Room, TestOutcome, Is, Finds};
+ghost use Rattle.read_tests.specs.Places.{Room, TestOutcome, Is, Finds, opened};
 ghost use Rattle.claims.specs.Grammar.{testUnion, testMeet, testNot, testBasic, testWord};
+
+// How many round brackets may be open at once.
+pub const MOST_BRACKETS: usize = 32;
 
 // How far a reader has come: its position in the line, the codes written so far, and the first slip of a name: 0 none, 1 unknown, 2 of
 // the wrong kind.
@@ -43,7 +47,7 @@ pub fn deep(out: &mut [u64; 4096]) -> Parsed
     Parsed::Deep
 }
 
-// T.
+// T, where `depth` more brackets may be opened.
 pub fn union(
     s: &[u8],
     names: &[u64],
@@ -53,7 +57,7 @@ pub fn union(
     out: &mut [u64; 4096],
 ) -> Parsed
     requires { ⌜ (depth ≤ 32) × Room (now s) p ⌝ }
-    ensures { λ r. ⌜ TestOutcome (Finds testUnion depth 4) (now (s .entry)) (now (names .entry)) n p (now (out .entry)) (now (out .exit)) r ⌝ }
+    ensures { λ r. ⌜ TestOutcome (Finds testUnion (opened depth) 4) (now (s .entry)) (now (names .entry)) n p (now (out .entry)) (now (out .exit)) r ⌝ }
 {
     let mut place = p;
     let mut more = 0;
@@ -83,7 +87,7 @@ pub fn union(
 // T without a `|` outside brackets.
 fn meet(s: &[u8], names: &[u64], n: usize, depth: usize, p: Place, out: &mut [u64; 4096]) -> Parsed
     requires { ⌜ (depth ≤ 32) × Room (now s) p ⌝ }
-    ensures { λ r. ⌜ TestOutcome (Finds testMeet depth 3) (now (s .entry)) (now (names .entry)) n p (now (out .entry)) (now (out .exit)) r ⌝ }
+    ensures { λ r. ⌜ TestOutcome (Finds testMeet (opened depth) 3) (now (s .entry)) (now (names .entry)) n p (now (out .entry)) (now (out .exit)) r ⌝ }
 {
     let mut place = p;
     let mut more = 0;
@@ -113,7 +117,7 @@ fn meet(s: &[u8], names: &[u64], n: usize, depth: usize, p: Place, out: &mut [u6
 // T without a `|` or `&` outside brackets.
 fn not(s: &[u8], names: &[u64], n: usize, depth: usize, p: Place, out: &mut [u64; 4096]) -> Parsed
     requires { ⌜ (depth ≤ 32) × Room (now s) p ⌝ }
-    ensures { λ r. ⌜ TestOutcome (Finds testNot depth 2) (now (s .entry)) (now (names .entry)) n p (now (out .entry)) (now (out .exit)) r ⌝ }
+    ensures { λ r. ⌜ TestOutcome (Finds testNot (opened depth) 2) (now (s .entry)) (now (names .entry)) n p (now (out .entry)) (now (out .exit)) r ⌝ }
 {
     let run = read_next::marks_next(s, p.at, b'!');
     let inner = Place {
@@ -136,13 +140,13 @@ fn not(s: &[u8], names: &[u64], n: usize, depth: usize, p: Place, out: &mut [u64
 // A name, `true`, `false`, or a T in round brackets.
 fn basic(s: &[u8], names: &[u64], n: usize, depth: usize, p: Place, out: &mut [u64; 4096]) -> Parsed
     requires { ⌜ (depth ≤ 32) × Room (now s) p ⌝ }
-    ensures { λ r. ⌜ TestOutcome (Finds testBasic depth 1) (now (s .entry)) (now (names .entry)) n p (now (out .entry)) (now (out .exit)) r ⌝ }
+    ensures { λ r. ⌜ TestOutcome (Finds testBasic (opened depth) 1) (now (s .entry)) (now (names .entry)) n p (now (out .entry)) (now (out .exit)) r ⌝ }
 {
     let next = read_next::mark_next(s, p.at, b'(');
     if next == 0 {
         return word(s, names, n, p, out);
     }
-    if depth == 32 {
+    if depth == 0 {
         return deep(out);
     }
     let inner = Place {
@@ -150,7 +154,7 @@ fn basic(s: &[u8], names: &[u64], n: usize, depth: usize, p: Place, out: &mut [u
         used: p.used,
         slip: p.slip,
     };
-    let r = union(s, names, n, depth + 1, inner, out);
+    let r = union(s, names, n, depth - 1, inner, out);
     let Parsed::Got(got) = r else {
         return r;
     };
@@ -212,5 +216,5 @@ pub fn condition(s: &[u8], names: &[u64], n: usize, p: Place, out: &mut [u64; 40
     requires { ⌜ Room (now s) p ⌝ }
     ensures { λ r. ⌜ TestOutcome (Is condition) (now (s .entry)) (now (names .entry)) n p (now (out .entry)) (now (out .exit)) r ⌝ }
 {
-    union(s, names, n, 0, p, out)
+    union(s, names, n, MOST_BRACKETS, p, out)
 }

@@ -1,10 +1,12 @@
--- The proof of the readers of E, which call each other for what stands in round brackets. The measure is what is left of the line, and
--- then which reader it is. The laws are those of chains, of postfixes and of brackets; here they are cited.
+-- The proof of the readers of E, which call each other for what stands in round brackets. The measure is how many
+-- brackets may still be opened and how many bytes of the line are left, which both fall at a bracket, and then which reader it is. The laws are
+-- those of chains, of postfixes and of brackets; here they are cited.
 -- Assumes nothing.
 use mathlib.Core.Path.{refl, sym, _∙_}
 use Prim.Native.Nat.{ℕ, _+_, _-_, _*_, _<_}
 use native.Mathlib.Omega.{arith}
 use lib.ListN.{length}
+use Rattle.read_tests.specs.Places.{opened}
 use Rattle.read_next.proofs.Next.{mark-stands}
 use Rattle.read_tests.proofs.Loops.{loop-fault, loop-onward, loop-got, loop-turn}
 use Rattle.read_tests.proofs.Chains.{Waiting, chain-start}
@@ -37,16 +39,16 @@ use Rattle.read_exprs.proofs.+factor+postfix+sequence+union.{statement}
 use Rattle.read_exprs.proofs.+factor+postfix+sequence+union.Tie.{close}
 
 abbrev μ-factor : Measures 3 factor-kinds.ps ℕ
-μ-factor κs a = (length (a .0 .now) - a .1 .1 .1 .1 .0 .at) * 8 + 1
+μ-factor κs a = (a .1 .1 .1 .0 + (length (a .0 .now) - a .1 .1 .1 .1 .0 .at)) * 8 + 1
 
 abbrev μ-postfix : Measures 3 postfix-kinds.ps ℕ
-μ-postfix κs a = (length (a .0 .now) - a .1 .1 .1 .1 .0 .at) * 8 + 2
+μ-postfix κs a = (a .1 .1 .1 .0 + (length (a .0 .now) - a .1 .1 .1 .1 .0 .at)) * 8 + 2
 
 abbrev μ-sequence : Measures 3 sequence-kinds.ps ℕ
-μ-sequence κs a = (length (a .0 .now) - a .1 .1 .1 .1 .0 .at) * 8 + 3
+μ-sequence κs a = (a .1 .1 .1 .0 + (length (a .0 .now) - a .1 .1 .1 .1 .0 .at)) * 8 + 3
 
 abbrev μ-union : Measures 3 union-kinds.ps ℕ
-μ-union κs a = (length (a .0 .now) - a .1 .1 .1 .1 .0 .at) * 8 + 4
+μ-union κs a = (a .1 .1 .1 .0 + (length (a .0 .now) - a .1 .1 .1 .1 .0 .at)) * 8 + 4
 
 abbrev factor-at : ℕ → In 3 factor-kinds.ps
 factor-at t = and 3 factor-kinds.ps (is 3 factor-kinds.ps μ-factor t) factor.Pre
@@ -122,8 +124,8 @@ factor-returns-2 t c =
     let a = b .before .before .before .args in
     rw (w .0) (round-deep factors (a .depth) (a .s .now) (a .p) _ (b .mark-next .ensures) (d .before .if1 .left) (d .if2 .taken), w .1)
 
-factor-add-union : (t : ℕ) → factor-lts.Need-add-union (factor-calls t) (factor-at t) factor.Post
-factor-add-union t c =
+factor-sub-union : (t : ℕ) → factor-lts.Need-sub-union (factor-calls t) (factor-at t) factor.Post
+factor-sub-union t c =
     let b = c .before .before .before .before in
     omega (arith, b .before .pre .1 .0)
 
@@ -145,7 +147,8 @@ factor-returns-3 : (t : ℕ) → factor-lts.Need-returns-3 (factor-calls t) (fac
 factor-returns-3 t c =
     let b = c .before .before .before in
     let a = b .before .before .before .before .before .args in
-    inner-fault (roundBracket factors (a .depth) (b .if2 .left)) (a .s .now) (a .names .now) (a .n) (a .p) (a .out .now) _
+    let h = b .before .before .before .before .before .pre .1 in
+    inner-fault (roundBracket factors (a .depth) (h .0) (b .if2 .left)) (a .s .now) (a .names .now) (a .n) (a .p) (a .out .now) _
     (b .before .before .mark-next .ensures) (b .before .if1 .left) (c .before .union .result) _ (c .before .union .ensures) (c .match .keys2)
 
 factor-mark-next-requires-2 : (t : ℕ) → factor-lts.Need-mark-next-requires-2 (factor-calls t) (factor-at t) factor.Post
@@ -162,8 +165,9 @@ factor-returns-4 t c =
     let d = b .before .before .before .before in
     let e = d .before .before .before .before in
     let a = e .args in
+    let h = e .pre .1 in
     rw (w .0) (
-      inner-open (roundBracket factors (a .depth) (b .before .before .before .if2 .left)) (a .s .now) (a .names .now) (a .n) (a .p) (a .out .now) _
+      inner-open (roundBracket factors (a .depth) (h .0) (b .before .before .before .if2 .left)) (a .s .now) (a .names .now) (a .n) (a .p) (a .out .now) _
           (d .before .mark-next .ensures) (d .if1 .left) _ _ (b .before .union .ensures) _ (f .before .before .before .r .given .1) _
           (f .before .mark-next2 .ensures) (f .if3 .taken),
       w .1,
@@ -175,7 +179,8 @@ factor-returns-5 t c =
     let d = b .before .before .before .before in
     let e = d .before .before .before .before in
     let a = e .args in
-    inner-closed (roundBracket factors (a .depth) (b .before .before .before .if2 .left)) (a .s .now) (a .names .now) (a .n) (a .p) (a .out .now) _
+    let h = e .pre .1 in
+    inner-closed (roundBracket factors (a .depth) (h .0) (b .before .before .before .if2 .left)) (a .s .now) (a .names .now) (a .n) (a .p) (a .out .now) _
     (d .before .mark-next .ensures) (d .if1 .left) _ _ (b .before .union .ensures) _ (c .before .before .before .r .given .1) _
     (c .before .mark-next2 .ensures) _ _ (c .if3 .left) refl (omega arith) (omega arith)
 
@@ -188,7 +193,7 @@ postfix-enum-known-r t c = search needs
 postfix-returns : (t : ℕ) → postfix-lts.Need-returns (postfix-calls t) (postfix-at t) postfix.Post
 postfix-returns t c =
     let a = c .before .before .before .before .before .args in
-    postfix-fault (a .depth) (a .s .now) (a .names .now) (a .n) (a .p) (a .out .now) (c .before .factor .result) _
+    postfix-fault (opened (a .depth)) (a .s .now) (a .names .now) (a .n) (a .p) (a .out .now) (c .before .factor .result) _
     (c .before .factor .ensures) (c .match .keys2)
 
 postfix-postfixes-requires : (t : ℕ) → postfix-lts.Need-postfixes-requires (postfix-calls t) (postfix-at t) postfix.Post
@@ -196,7 +201,7 @@ postfix-postfixes-requires t c κs =
     let b = c .before .before .before .before in
     let d = b .before .before .before .before in
     let a = d .args in
-    postfix-room (a .depth) (a .s .now) (a .names .now) (a .n) (a .p) (a .out .now) _ _ (b .factor .ensures) _
+    postfix-room (opened (a .depth)) (a .s .now) (a .names .now) (a .n) (a .p) (a .out .now) _ _ (b .factor .ensures) _
     (c .before .before .r .given .1) (d .pre .1 .1)
 
 postfix-returns-2 : (t : ℕ) → postfix-lts.Need-returns-2 (postfix-calls t) (postfix-at t) postfix.Post
@@ -204,11 +209,11 @@ postfix-returns-2 t c =
     let b = c .before .before .before .before in
     let d = b .before .before .before .before in
     let a = d .before .args in
-    postfix-got (a .depth) (a .s .now) (a .names .now) (a .n) (a .p) (a .out .now) _ _ (b .before .factor .ensures) _
+    postfix-got (opened (a .depth)) (a .s .now) (a .names .now) (a .n) (a .p) (a .out .now) _ _ (b .before .factor .ensures) _
     (c .before .before .before .r .given .1) _ _ (c .postfixes .ensures)
 
 abbrev sequence-Inv-loop : sequence-lts.InvT-loop
-sequence-Inv-loop s names n depth out₀ place₀ more₀ out place more = Waiting sequenceChain depth 2 s names n place₀ out₀ place more out
+sequence-Inv-loop s names n depth out₀ place₀ more₀ out place more = Waiting sequenceChain (opened depth) 2 s names n place₀ out₀ place more out
 
 abbrev sequence-μ-loop : sequence-lts.MeasureT-loop
 sequence-μ-loop s names n depth out₀ place₀ more₀ out place more = length s - place .at
@@ -257,7 +262,7 @@ sequence-loop-again t c =
     (d .before .before .before .before .pre .1 .1) (c .before .before .write .ensures) _ (c .before .mark-next .ensures) (c .if1 .left)
 
 abbrev union-Inv-loop : union-lts.InvT-loop
-union-Inv-loop s names n depth out₀ place₀ more₀ out place more = Waiting unionChain depth 3 s names n place₀ out₀ place more out
+union-Inv-loop s names n depth out₀ place₀ more₀ out place more = Waiting unionChain (opened depth) 3 s names n place₀ out₀ place more out
 
 abbrev union-μ-loop : union-lts.MeasureT-loop
 union-μ-loop s names n depth out₀ place₀ more₀ out place more = length s - place .at
@@ -314,7 +319,7 @@ pub +factor+postfix+sequence+union-spec : {M : Type 1} → statement M
     (factor-returns t)
     (factor-deep-requires t)
     (factor-returns-2 t)
-    (factor-add-union t)
+    (factor-sub-union t)
     (factor-union-requires t)
     (factor-enum-known-r t)
     (factor-returns-3 t)

@@ -1,6 +1,7 @@
 -- `read_exprs::leaf` meets its contract: the laws of square brackets and of names.
 -- Assumes nothing.
 use native.Mathlib.Omega.{arith}
+use Rattle.read_tests.specs.Places.{opened}
 use Rattle.read_next.proofs.Next.{mark-stands}
 use Rattle.read_next.proofs.Stores.{written-room}
 use Rattle.read_tests.proofs.Bracketed.{inner-fault, inner-open, inner-closed, inner-room}
@@ -21,7 +22,7 @@ returns : tie.Need-returns
 returns c =
     let b = c .before .before .before .before in
     let a = b .before .before .args in
-    factor-named (a .depth) (a .s .now) (a .names .now) (a .n) (a .p) (a .out .now) (c .named .last .1 .1 .1 .1 .0) _
+    factor-named (opened (a .depth)) (a .s .now) (a .names .now) (a .n) (a .p) (a .out .now) (c .named .last .1 .1 .1 .1 .0) _
     (b .before .before .pre .1) (c .before .before .before .mark-next .ensures) (c .before .before .if1 .taken) (c .named .result)
     (c .named .ensures)
 
@@ -38,7 +39,7 @@ returns-2 : tie.Need-returns-2
 returns-2 c =
     let b = c .before .before .before .before in
     let a = b .before .before .before .args in
-    inner-fault (squareBracket (a .depth)) (a .s .now) (a .names .now) (a .n) (a .p) (a .out .now) _ (b .mark-next .ensures)
+    inner-fault (squareBracket (opened (a .depth))) (a .s .now) (a .names .now) (a .n) (a .p) (a .out .now) _ (b .mark-next .ensures)
     (c .before .before .before .if1 .left) (c .before .union .result) _ (c .before .union .ensures) (c .match .keys2)
 
 mark-next-requires-2 : tie.Need-mark-next-requires-2
@@ -55,7 +56,7 @@ returns-3 c =
     let d = b .before .before .before .before in
     let a = d .before .before .before .args in
     rw (w .0) (
-      inner-open (squareBracket (a .depth)) (a .s .now) (a .names .now) (a .n) (a .p) (a .out .now) _ (d .mark-next .ensures)
+      inner-open (squareBracket (opened (a .depth))) (a .s .now) (a .names .now) (a .n) (a .p) (a .out .now) _ (d .mark-next .ensures)
           (b .before .before .before .if1 .left) _ _ (b .before .union .ensures) _ (e .before .before .before .r .given .1) _
           (e .before .mark-next2 .ensures) (e .if2 .taken),
       w .1,
@@ -71,10 +72,10 @@ returns-4 c =
     let e = d .before .before .before .before in
     let a = e .before .args in
     let (u, o) = written-room _ _ _ _ _ _ (c .write .ensures)
-    (inner-room (squareBracket (a .depth)) (a .s .now) (a .names .now) (a .n) (a .p) (a .out .now) _
+    (inner-room (squareBracket (opened (a .depth))) (a .s .now) (a .names .now) (a .n) (a .p) (a .out .now) _
     (d .before .before .mark-next .ensures) (d .before .if1 .left) _ _ (b .before .before .before .union .ensures) _
     (b .before .r .given .1) _ (c .before .before .before .mark-next2 .ensures) (c .before .before .if2 .left) (e .before .pre .0 .1)) in
-    inner-closed (squareBracket (a .depth)) (a .s .now) (a .names .now) (a .n) (a .p) (a .out .now) _
+    inner-closed (squareBracket (opened (a .depth))) (a .s .now) (a .names .now) (a .n) (a .p) (a .out .now) _
     (d .before .before .mark-next .ensures) (d .before .if1 .left) _ _ (b .before .before .before .union .ensures) _
     (b .before .r .given .1) _ (c .before .before .before .mark-next2 .ensures) _ _ (c .before .before .if2 .left)
     o u (omega arith)

@@ -1,11 +1,12 @@
--- The proof of the readers of T, which call each other: what is left of the line falls, and then which reader it is. Laws are cited.
+-- The proof of the readers of T, which call each other. The measure is how many brackets may still be opened and how many bytes of the line are
+-- left, which both fall at a bracket, and then which reader it is. Laws are cited.
 -- Assumes nothing.
 use mathlib.Core.Path.{refl}
 use Prim.Native.Nat.{ℕ, _+_, _-_, _*_, _<_}
 use native.Mathlib.Omega.{arith}
 use lib.ListN.{length}
 use Rattle.claims.specs.Grammar.{testWord}
-use Rattle.read_tests.specs.Places.{Is}
+use Rattle.read_tests.specs.Places.{Is, opened}
 use Rattle.read_next.proofs.Next.{mark-stands}
 use Rattle.read_tests.proofs.Loops.{loop-fault, loop-onward, loop-got, loop-turn}
 use Rattle.read_tests.proofs.Chains.{Waiting, chain-start}
@@ -37,16 +38,16 @@ use Rattle.read_tests.proofs.+basic+meet+not+union.{statement}
 use Rattle.read_tests.proofs.+basic+meet+not+union.Tie.{close}
 
 abbrev μ-basic : Measures 3 basic-kinds.ps ℕ
-μ-basic κs a = (length (a .0 .now) - a .1 .1 .1 .1 .0 .at) * 8 + 1
+μ-basic κs a = (a .1 .1 .1 .0 + (length (a .0 .now) - a .1 .1 .1 .1 .0 .at)) * 8 + 1
 
 abbrev μ-meet : Measures 3 meet-kinds.ps ℕ
-μ-meet κs a = (length (a .0 .now) - a .1 .1 .1 .1 .0 .at) * 8 + 3
+μ-meet κs a = (a .1 .1 .1 .0 + (length (a .0 .now) - a .1 .1 .1 .1 .0 .at)) * 8 + 3
 
 abbrev μ-not : Measures 3 not-kinds.ps ℕ
-μ-not κs a = (length (a .0 .now) - a .1 .1 .1 .1 .0 .at) * 8 + 2
+μ-not κs a = (a .1 .1 .1 .0 + (length (a .0 .now) - a .1 .1 .1 .1 .0 .at)) * 8 + 2
 
 abbrev μ-union : Measures 3 union-kinds.ps ℕ
-μ-union κs a = (length (a .0 .now) - a .1 .1 .1 .1 .0 .at) * 8 + 4
+μ-union κs a = (a .1 .1 .1 .0 + (length (a .0 .now) - a .1 .1 .1 .1 .0 .at)) * 8 + 4
 
 abbrev basic-at : ℕ → In 3 basic-kinds.ps
 basic-at t = and 3 basic-kinds.ps (is 3 basic-kinds.ps μ-basic t) basic.Pre
@@ -111,7 +112,7 @@ basic-returns : (t : ℕ) → basic-lts.Need-returns (basic-calls t) (basic-at t
 basic-returns t c =
     let b = c .before .before .before in
     let a = b .before .before .before .args in
-    round-none basics (a .depth) (a .s .now) (a .p) _ (b .mark-next .ensures) (c .before .before .if1 .taken) (Is testWord) (λ y h f. h)
+    round-none basics (opened (a .depth)) (a .s .now) (a .p) _ (b .mark-next .ensures) (c .before .before .if1 .taken) (Is testWord) (λ y h f. h)
     (a .names .now) (a .n) (a .out .now) (c .word .last .1 .1 .1 .1 .0) (c .word .result) (c .word .ensures)
 
 basic-deep-requires : (t : ℕ) → basic-lts.Need-deep-requires (basic-calls t) (basic-at t) basic.Post
@@ -125,8 +126,8 @@ basic-returns-2 t c =
     let a = b .before .before .before .args in
     rw (w .0) (round-deep basics (a .depth) (a .s .now) (a .p) _ (b .mark-next .ensures) (d .before .if1 .left) (d .if2 .taken), w .1)
 
-basic-add-union : (t : ℕ) → basic-lts.Need-add-union (basic-calls t) (basic-at t) basic.Post
-basic-add-union t c =
+basic-sub-union : (t : ℕ) → basic-lts.Need-sub-union (basic-calls t) (basic-at t) basic.Post
+basic-sub-union t c =
     let b = c .before .before .before .before in
     omega (arith, b .before .pre .1 .0)
 
@@ -148,7 +149,8 @@ basic-returns-3 : (t : ℕ) → basic-lts.Need-returns-3 (basic-calls t) (basic-
 basic-returns-3 t c =
     let b = c .before .before .before in
     let a = b .before .before .before .before .before .args in
-    inner-fault (roundBracket basics (a .depth) (b .if2 .left)) (a .s .now) (a .names .now) (a .n) (a .p) (a .out .now) _
+    let h = b .before .before .before .before .before .pre .1 in
+    inner-fault (roundBracket basics (a .depth) (h .0) (b .if2 .left)) (a .s .now) (a .names .now) (a .n) (a .p) (a .out .now) _
     (b .before .before .mark-next .ensures) (b .before .if1 .left) (c .before .union .result) _ (c .before .union .ensures) (c .match .keys2)
 
 basic-mark-next-requires-2 : (t : ℕ) → basic-lts.Need-mark-next-requires-2 (basic-calls t) (basic-at t) basic.Post
@@ -165,8 +167,9 @@ basic-returns-4 t c =
     let d = b .before .before .before .before in
     let e = d .before .before .before .before in
     let a = e .args in
+    let h = e .pre .1 in
     rw (w .0) (
-      inner-open (roundBracket basics (a .depth) (b .before .before .before .if2 .left)) (a .s .now) (a .names .now) (a .n) (a .p) (a .out .now) _
+      inner-open (roundBracket basics (a .depth) (h .0) (b .before .before .before .if2 .left)) (a .s .now) (a .names .now) (a .n) (a .p) (a .out .now) _
           (d .before .mark-next .ensures) (d .if1 .left) _ _ (b .before .union .ensures) _ (f .before .before .before .r .given .1) _
           (f .before .mark-next2 .ensures) (f .if3 .taken),
       w .1,
@@ -178,12 +181,13 @@ basic-returns-5 t c =
     let d = b .before .before .before .before in
     let e = d .before .before .before .before in
     let a = e .args in
-    inner-closed (roundBracket basics (a .depth) (b .before .before .before .if2 .left)) (a .s .now) (a .names .now) (a .n) (a .p) (a .out .now) _
+    let h = e .pre .1 in
+    inner-closed (roundBracket basics (a .depth) (h .0) (b .before .before .before .if2 .left)) (a .s .now) (a .names .now) (a .n) (a .p) (a .out .now) _
     (d .before .mark-next .ensures) (d .if1 .left) _ _ (b .before .union .ensures) _ (c .before .before .before .r .given .1) _
     (c .before .mark-next2 .ensures) _ _ (c .if3 .left) refl (omega arith) (omega arith)
 
 abbrev meet-Inv-loop : meet-lts.InvT-loop
-meet-Inv-loop s names n depth out₀ place₀ more₀ out place more = Waiting meetChain depth 2 s names n place₀ out₀ place more out
+meet-Inv-loop s names n depth out₀ place₀ more₀ out place more = Waiting meetChain (opened depth) 2 s names n place₀ out₀ place more out
 
 abbrev meet-μ-loop : meet-lts.MeasureT-loop
 meet-μ-loop s names n depth out₀ place₀ more₀ out place more = length s - place .at
@@ -246,7 +250,7 @@ not-enum-known-r t c = search needs
 not-returns : (t : ℕ) → not-lts.Need-returns (not-calls t) (not-at t) not.Post
 not-returns t c =
     let a = c .before .before .before .before .before .before .args in
-    nots-fault (a .depth) (a .s .now) (a .names .now) (a .n) (a .p) (a .out .now) _ (c .before .before .before .marks-next .ensures)
+    nots-fault (opened (a .depth)) (a .s .now) (a .names .now) (a .n) (a .p) (a .out .now) _ (c .before .before .before .marks-next .ensures)
     (c .before .basic .result) _ (c .before .basic .ensures) (c .match .keys2)
 
 not-write-requires : (t : ℕ) → not-lts.Need-write-requires (not-calls t) (not-at t) not.Post
@@ -257,12 +261,12 @@ not-returns-2 t c =
     let b = c .before .before .before .before in
     let d = b .before .before .before .before in
     let a = d .before .before .args in
-    nots-got (a .depth) (a .s .now) (a .names .now) (a .n) (a .p) (a .out .now) _ (b .before .before .before .marks-next .ensures) _ _
+    nots-got (opened (a .depth)) (a .s .now) (a .names .now) (a .n) (a .p) (a .out .now) _ (b .before .before .before .marks-next .ensures) _ _
     (b .before .basic .ensures) _ (c .before .before .before .r .given .1) _ _ (d .before .before .pre .1 .1)
     (c .write .ensures)
 
 abbrev union-Inv-loop : union-lts.InvT-loop
-union-Inv-loop s names n depth out₀ place₀ more₀ out place more = Waiting unionChain depth 3 s names n place₀ out₀ place more out
+union-Inv-loop s names n depth out₀ place₀ more₀ out place more = Waiting unionChain (opened depth) 3 s names n place₀ out₀ place more out
 
 abbrev union-μ-loop : union-lts.MeasureT-loop
 union-μ-loop s names n depth out₀ place₀ more₀ out place more = length s - place .at
@@ -318,7 +322,7 @@ pub +basic+meet+not+union-spec : {M : Type 1} → statement M
     (basic-returns t)
     (basic-deep-requires t)
     (basic-returns-2 t)
-    (basic-add-union t)
+    (basic-sub-union t)
     (basic-union-requires t)
     (basic-enum-known-r t)
     (basic-returns-3 t)

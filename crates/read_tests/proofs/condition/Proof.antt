@@ -1,12 +1,12 @@
--- `read_tests::condition` meets its contract: the depth of calls that the line gives is enough.
+-- `read_tests::condition` meets its contract: no bracket is open, and the depth of calls that the line gives is enough.
 -- Assumes nothing.
+use native.Mathlib.Omega.{arith}
 use Rattle.read_tests.proofs.Tests.{condition-read}
-use borrow.Author.Needs.{needs}
 use Rattle.read_tests.proofs.condition.Statement.{statement}
 use Rattle.read_tests.proofs.condition.Tie as tie
 
 union-requires : tie.Need-union-requires
-union-requires c κs = search needs
+union-requires c κs = (omega arith, c .before .before .before .pre)
 
 returns : tie.Need-returns
 returns c =
