@@ -1,0 +1,2 @@
+-- The text of a drawn graph.
+pub mod DotText

@@ -2,3 +2,4 @@
 pub mod SameBytes
 pub mod Fronts
 pub mod LineLaws
+pub mod NameLaws

@@ -23,16 +23,13 @@ part-back p t at e h =
     ap (λ (n : ℕ). drop n t) h ∙ sym (drop-drop (length (front p (drop at t))) at t) ∙ drop-front p (drop at t)
 
 -- the next line begins behind the byte that ends this one, or nothing is left
-pub next-behind : (t : List ℕ) (at e : ℕ) → e < length t → e ≡ at + length (front inLine (drop at t)) → drop (e + 1) t ≡ behind (back inLine (drop at t))
+pub after-byte : (t : List ℕ) (e : ℕ) → e < length t → drop (e + 1) t ≡ behind (drop e t)
 unfolding behind
-next-behind t at e k h =
-    ap (λ (n : ℕ). drop n t) (add-one e) ∙ ap behind (sym (drop-cons t e 0 k) ∙ part-back inLine t at e h)
+after-byte t e k = ap (λ (n : ℕ). drop n t) (add-one e) ∙ ap behind (sym (drop-cons t e 0 k))
 
-pub next-none : (t : List ℕ) (at e : ℕ) → length t ≤ e → e ≡ at + length (front inLine (drop at t)) → drop e t ≡ behind (back inLine (drop at t))
+pub after-end : (t : List ℕ) (e : ℕ) → length t ≤ e → drop e t ≡ behind (drop e t)
 unfolding behind
-next-none t at e k h =
-    let z : drop e t ≡ [] = drop-of-length-le t {i = e} k in
-    z ∙ ap behind (sym z ∙ part-back inLine t at e h)
+after-end t e k = let z : drop e t ≡ [] = drop-of-length-le t {i = e} k in z ∙ ap behind (sym z)
 
 -- a line further on, and the line here
 pub line-more : (n : ℕ) (bs : List ℕ) → 1 < n → lineAt (n - 1) (behind (back inLine bs)) ≡ lineAt n bs

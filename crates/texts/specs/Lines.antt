@@ -1,11 +1,13 @@
--- A line of a text by its number, and the name that a line declares behind its first word. (Document 01, "The query".) Bytes that are no
--- query have lines too.
+-- A line of a text by its number, the name that a line declares behind its first word, and the names that a text declares under a word.
+-- (Document 01, "The query".) Bytes that are no query have lines too.
 -- Assumes nothing.
 use Prim.Native.Nat.{ℕ, zero, suc}
 use mathlib.Core.Bool.{Bool, true, false, not, cond, _||_}
-use mathlib.Core.List.{List, [], _∷_}
+use mathlib.Core.List.{List, [], _∷_, map}
 use lib.Dec.{eqb}
-use Rattle.claims.specs.Bytes.{letter, digit, same}
+use lib.ListN.{getD}
+use Rattle.kat.specs.Lists.{isEmpty, filter}
+use Rattle.claims.specs.Bytes.{letter, digit, same, RawLine, rawLines}
 
 -- the bytes in front of the first one that is not as p says ("The query")
 unfoldable pub front : (ℕ → Bool) → List ℕ → List ℕ
@@ -44,3 +46,11 @@ lineAt (suc (suc n)) bs = lineAt (suc n) (behind (back inLine bs))
 unfoldable pub declaredBy : List ℕ → List ℕ → List ℕ
 declaredBy w line =
     cond (same (front inWord (back isSpace line)) w) (front inWord (back isSpace (back inWord (back isSpace line)))) []
+
+-- what a text's lines declare under the word w, in their order, without the lines that declare nothing ("The query")
+unfoldable pub namesUnder : List ℕ → List ℕ → List (List ℕ)
+namesUnder w bs = filter (λ n. not (isEmpty n)) (map (λ l. declaredBy w (l .bytes)) (rawLines bs))
+
+-- the name that k others stand before, or no bytes ("The query")
+unfoldable pub nameAt : List ℕ → ℕ → List ℕ → List ℕ
+nameAt w k bs = getD (namesUnder w bs) k []

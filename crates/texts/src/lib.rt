@@ -4,7 +4,7 @@ ghost use Prim.Native.Nat.{_+_, _≤_, min};
 ghost use mathlib.Core.Path.{_≡_};
 ghost use lib.ListN.{length, take, drop};
 ghost use Rattle.claims.specs.Bytes.{same as sameBytes};
-ghost use Rattle.texts.specs.Lines.{front, back, inLine, inWord, behind, lineAt, declaredBy};
+ghost use Rattle.texts.specs.Lines.{front, back, inLine, inWord, behind, lineAt, declaredBy, nameAt};
 ghost use Rattle.texts.specs.inner.Parts.{ofPart};
 
 // The first n bytes of a text, or all of it where it has fewer.
@@ -75,16 +75,23 @@ fn part_end(text: &[u8], at: usize, kind: Part) -> usize
     i
 }
 
+// Where the next line begins behind the end of a line, which is required to be within the text: behind its byte 10, or at the text's end.
+fn line_after(text: &[u8], end: usize) -> usize
+    requires { ⌜ end ≤ length (now text) ⌝ }
+    ensures { λ r. ⌜ (r ≤ length (now (text .entry))) × (min (end + 1) (length (now (text .entry))) ≤ r) × (drop r (now (text .entry)) ≡ behind (drop end (now (text .entry)))) ⌝ }
+{
+    if end < text.len() {
+        return end + 1;
+    }
+    end
+}
+
 // Where the next line begins behind a place, which is required to be within the text: behind the next byte 10, or at the text's end.
 fn next_line(text: &[u8], at: usize) -> usize
     requires { ⌜ at ≤ length (now text) ⌝ }
     ensures { λ r. ⌜ (at ≤ r) × (r ≤ length (now (text .entry))) × (min (at + 1) (length (now (text .entry))) ≤ r) × (drop r (now (text .entry)) ≡ behind (back inLine (drop at (now (text .entry))))) ⌝ }
 {
-    let end = part_end(text, at, Part::Line);
-    if end < text.len() {
-        return end + 1;
-    }
-    end
+    line_after(text, part_end(text, at, Part::Line))
 }
 
 // Line n of the text, counted from 1, without its byte 10; no bytes where there is none.
@@ -118,14 +125,17 @@ pub fn declared<'a>(line: &'a [u8], word: &[u8]) -> &'a [u8]
     &line[..0]
 }
 
-// The name that the line behind k others of its kind declares, where the first word of such a line is the given one; no bytes where there
-// is none. Lines that declare nothing do not count. What it gives is not described, only that it is safe: the cases compare it.
-pub fn name<'a>(text: &'a [u8], word: &[u8], k: usize) -> &'a [u8] {
+// The name that k others stand before among those that the lines of the text declare, where the first word of such a line is the given one;
+// no bytes where there is none. Lines that declare nothing do not count.
+pub fn name<'a>(text: &'a [u8], word: &[u8], k: usize) -> &'a [u8]
+    ensures { λ r. ⌜ now r ≡ nameAt (now (word .entry)) k (now (text .entry)) ⌝ }
+{
     let mut at = 0;
     let mut left = k;
     while at < text.len() {
-        let next = next_line(text, at);
-        let found = declared(&text[at..next], word);
+        let end = part_end(text, at, Part::Line);
+        let next = line_after(text, end);
+        let found = declared(&text[at..end], word);
         if 0 < found.len() {
             if left == 0 {
                 return found;

@@ -1,46 +1,50 @@
--- `dot::events` is safe and ends: a field is four bytes further on.
+-- `dot::events` meets its contract. The events counted and those that are left are all.
 -- Assumes nothing.
-use Prim.Native.Nat.{_-_, _≤_}
-use lib.ListN.{length}
+use Prim.Native.Nat.{_+_, _-_, _*_, _≤_}
+use native.Mathlib.Omega.{arith}
+use mathlib.Core.Path.{_≡_, sym, _∙_, ap}
+use lib.ListN.{length, drop}
+use Rattle.dot.specs.DotText.{atomsIn}
+use Rattle.dot.proofs.Listing.{event-within, event-more, event-none}
 use borrow.Author.Needs.{needs}
 use Rattle.dot.proofs.events.Statement.{statement}
 use Rattle.dot.proofs.events.Tie as tie
 
 abbrev Inv-loop : tie.InvT-loop
-Inv-loop graph at₀ n₀ at n = (at ≤ length graph) × (n ≤ at)
+Inv-loop graph at₀ n₀ at n = (at ≤ length graph) × (4 * n ≡ at) × (n + length (atomsIn (drop at graph)) ≡ length (atomsIn graph))
 
 abbrev μ-loop : tie.MeasureT-loop
 μ-loop graph at₀ n₀ at n = length graph - at
 
 loop-holds : tie.Need-loop-holds Inv-loop μ-loop
-loop-holds c = search needs
+loop-holds c = (omega arith, omega arith, omega arith)
 
-shared-slice-read-if1 : tie.Need-shared-slice-read-if1 Inv-loop μ-loop
-shared-slice-read-if1 c = search needs
-
-returns : tie.Need-returns Inv-loop μ-loop
-returns c = search needs
-
-sub-if2 : tie.Need-sub-if2 Inv-loop μ-loop
-sub-if2 c = search needs
-
-returns-2 : tie.Need-returns-2 Inv-loop μ-loop
-returns-2 c = search needs
+event-at-requires : tie.Need-event-at-requires Inv-loop μ-loop
+event-at-requires c κs = search needs
 
 add-at : tie.Need-add-at Inv-loop μ-loop
-add-at c = search needs
+add-at c =
+    let h = event-within _ (c .before .before .loop .at) (sym (c .before .event-at .ensures) ∙ c .if1 .taken) in omega arith
 
 add-n : tie.Need-add-n Inv-loop μ-loop
-add-n c = search needs
+add-n c =
+    let h = event-within _ (c .before .before .loop .at) (sym (c .before .event-at .ensures) ∙ c .if1 .taken) in omega arith
 
 loop-less : tie.Need-loop-less Inv-loop μ-loop
-loop-less c = search needs
+loop-less c =
+    let h = event-within _ (c .before .before .loop .at) (sym (c .before .event-at .ensures) ∙ c .if1 .taken) in omega arith
 
 loop-again : tie.Need-loop-again Inv-loop μ-loop
-loop-again c = search needs
+loop-again c =
+    let e = sym (c .before .event-at .ensures) ∙ c .if1 .taken in
+    let h = event-within _ (c .before .before .loop .at) e in
+    let k = ap length (event-more _ (c .before .before .loop .at) e) in
+    (omega arith, omega arith, omega arith)
 
-returns-3 : tie.Need-returns-3 Inv-loop μ-loop
-returns-3 c = search needs
+returns : tie.Need-returns Inv-loop μ-loop
+returns c =
+    let k = ap length (event-none _ (c .before .before .loop .at) (sym (c .before .event-at .ensures) ∙ c .if1 .left)) in
+    (omega arith, omega arith)
 
 pub events-spec : {M : Type 1} → statement M
 events-spec =
@@ -49,12 +53,9 @@ events-spec =
     Inv-loop
     μ-loop
     loop-holds
-    shared-slice-read-if1
-    returns
-    sub-if2
-    returns-2
+    event-at-requires
     add-at
     add-n
     loop-less
     loop-again
-    returns-3)
+    returns)

@@ -7,7 +7,7 @@ use mathlib.Core.List.{List}
 use lib.Dec.{eqb, leb}
 use lib.ListN.{length, getD}
 use borrow.Author.Tests.{le-leb, lt-leb, eq-eqb, ne-eqb}
-use Rattle.dot_steps.specs.DotText.{isStep}
+use Rattle.dot.specs.DotText.{isStep}
 
 module _ (w : List ℕ) (count r from to : ℕ) where
   pub step-none : length w ≤ 2 * from + 1 → false ≡ isStep w count r from to

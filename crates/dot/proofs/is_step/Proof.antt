@@ -1,9 +1,9 @@
--- `dot_steps::is_step` meets its contract. By the tests in their order.
+-- `dot::is_step` meets its contract. By the tests in their order.
 -- Assumes nothing.
-use Rattle.dot_steps.proofs.Steps.{step-none, step-other, step-last, step-next}
+use Rattle.dot.proofs.Steps.{step-none, step-other, step-last, step-next}
 use borrow.Author.Needs.{needs}
-use Rattle.dot_steps.proofs.is_step.Statement.{statement}
-use Rattle.dot_steps.proofs.is_step.Tie as tie
+use Rattle.dot.proofs.is_step.Statement.{statement}
+use Rattle.dot.proofs.is_step.Tie as tie
 
 mul-i : tie.Need-mul-i
 mul-i c = search needs

@@ -1,2 +1,0 @@
--- Which edges are steps.
-pub mod Steps

@@ -1,2 +1,0 @@
--- The text of a drawn graph.
-pub mod DotText
