@@ -1,9 +1,14 @@
 // The line of the query program, from the bytes of a query. (Document 01, "The desk's cases".) The memory is the call's own, enough for any
 // answer at the program's allowance.
 use search_outcomes::Outcome;
+ghost use Prim.Native.Nat.{_≤_};
+ghost use mathlib.Core.Path.{_≡_};
+ghost use mathlib.Core.List.{_++_};
+ghost use lib.ListN.{length, drop};
 ghost use Rattle.claims.specs.Printed.{programAllowance, programResult, printed};
 ghost use Rattle.search_outcomes.specs.Outcomes.{Says};
 ghost use Rattle.print_line.specs.Puts.{Puts};
+ghost use Rattle.outcome_lines.specs.Shown.{longestLine};
 
 // A line in memory: how many bytes it has, and the outcome that it shows.
 pub struct Said {
@@ -11,11 +16,16 @@ pub struct Said {
     pub outcome: Outcome,
 }
 
-// The line that the query program prints for the query that the text is, as far as it fits, and the outcome.
+// The line that the query program prints for the query that the text is, as far as it fits, and the outcome. Memory for the longest line has
+// the whole of it.
 pub fn line(text: &[u8], out: &mut [u8]) -> Said
     ensures { λ r.
         ⌜ Puts (now (out .entry)) 0 (printed programAllowance (now (text .entry))) (r .bytes) (now (out .exit))
         × Says (programResult programAllowance (now (text .entry))) (r .outcome) ⌝ }
+    ensures whole { λ r.
+        ⌜ (longestLine ≤ length (now (out .entry))
+        → (now (out .exit) ≡ printed programAllowance (now (text .entry)) ++ drop (length (printed programAllowance (now (text .entry)))) (now (out .entry)))
+        × (r .bytes ≡ length (printed programAllowance (now (text .entry))))) ⌝ }
 {
     let mut words = [0u64; 8000];
     let mut buffer = [0u8; 53804];

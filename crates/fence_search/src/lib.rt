@@ -1,7 +1,13 @@
 // The calls of a verdict and of its sheet: the query is read, searched and shown. What is read and written no contract can say.
 use fence_input::Input;
+ghost use Prim.Native.Nat.{_≤_};
+ghost use lib.ListN.{length};
+ghost use Rattle.outcome_lines.specs.Shown.{longestLine};
 
-// The query is read into the memory, searched and shown.
+// Room for the longest line.
+const LINE: usize = 32768;
+
+// The query is read into the memory, searched and shown. The last memory is required to hold the longest line, so that no line is cut.
 pub fn search_into(
     file: usize,
     allowance: usize,
@@ -10,7 +16,9 @@ pub fn search_into(
     words: &mut [u64],
     buffer: &mut [u8],
     out: &mut [u8],
-) {
+)
+    requires { ⌜ longestLine ≤ length (now out) ⌝ }
+{
     let Input::Bytes(n) = fence_input::read(file, text) else {
         return;
     };
@@ -27,7 +35,7 @@ pub fn queried(file: usize) {
     let mut text = [0u8; 4097];
     let mut words = [0u64; 0];
     let mut buffer = [0u8; 0];
-    let mut out = [0u8; 32768];
+    let mut out = [0u8; LINE];
     search_into(
         file,
         200,
@@ -44,7 +52,7 @@ pub fn searched(file: usize, allowance: usize, as_sheet: bool) {
     let mut text = [0u8; 4097];
     let mut words = [0u64; 163840];
     let mut buffer = [0u8; 1102097];
-    let mut out = [0u8; 32768];
+    let mut out = [0u8; LINE];
     search_into(
         file,
         allowance,

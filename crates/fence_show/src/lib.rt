@@ -6,6 +6,9 @@ use libc::STDOUT_FILENO;
 use refusals::Reason;
 use search_outcomes::Outcome;
 use sheet_checked::Checked;
+ghost use Prim.Native.Nat.{_≤_};
+ghost use lib.ListN.{length};
+ghost use Rattle.outcome_lines.specs.Shown.{longestLine};
 
 // Writes the first n bytes of the memory.
 fn write(fd: i32, out: &[u8], n: usize) {
@@ -94,8 +97,11 @@ pub fn show_graph(
     }
 }
 
-// The verdict of the query that the text is. At the query program's allowance the line is proved to be its line.
-pub fn query(text: &[u8], allowance: usize, words: &mut [u64], buffer: &mut [u8], out: &mut [u8]) {
+// The verdict of the query that the text is. At the query program's allowance the line is proved to be its line. The memory is required to hold
+// the longest line, so that no line is cut.
+pub fn query(text: &[u8], allowance: usize, words: &mut [u64], buffer: &mut [u8], out: &mut [u8])
+    requires { ⌜ longestLine ≤ length (now out) ⌝ }
+{
     if allowance != 200 {
         let r = search::search_alone(text, allowance, words, buffer);
         show(r, text, buffer, out);

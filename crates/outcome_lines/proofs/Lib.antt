@@ -2,4 +2,5 @@
 pub mod WordInSheet
 pub mod MoreRecords
 pub mod OutcomeLines
+pub mod LineLength
 pub mod Sheets

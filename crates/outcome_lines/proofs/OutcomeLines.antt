@@ -35,7 +35,7 @@ pub puts-same : {l m bs cs : List ℕ} {to : ℕ} → bs ≡ cs → Puts l 0 bs 
 puts-same {l} {m} {bs} {cs} {to} e p = subst (λ (ds : List ℕ). Puts l 0 ds to m) e p
 
 -- the line of an outcome that says the result
-says-line : (x : Result Answer) (r : Outcome) (sheet : List ℕ) → Says x r
+pub says-line : (x : Result Answer) (r : Outcome) (sheet : List ℕ) → Says x r
     → ((w : Word) → x ≡ ok (refutedBy w) → take (2 * size w + 1) (drop 7 sheet) ≡ numbers w) → outcomeLine r sheet ≡ lineOf x
 unfolding lineOf answerLine refusalLine
 says-line (ok (provedWith c)) (Proved n) sheet e word = ap (λ (k : ℕ). text "proved" ++ (spaced (k ∷ []) ++ (10 ∷ []))) e

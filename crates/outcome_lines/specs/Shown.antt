@@ -17,3 +17,8 @@ outcomeLine (Proved c) sheet = text "proved" ++ (spaced (c ∷ []) ++ (10 ∷ []
 outcomeLine (Refuted n) sheet = text "refuted" ++ (spaced (take (2 * n + 1) (drop 7 sheet)) ++ (10 ∷ []))
 outcomeLine (Refused why p) sheet =
     text "refusal" ++ (spaced (number (causeOf why) ∷ []) ++ (text " line" ++ (spaced (p ∷ []) ++ (10 ∷ []))))
+
+-- no line of a search call has more bytes: `refuted`, a word of 4,096 relations, whose numbers have two digits at most, each behind a space, and
+-- byte 10 ("The desk's cases")
+unfoldable pub longestLine : ℕ
+longestLine = 7 + 3 * (2 * 4096 + 1) + 1

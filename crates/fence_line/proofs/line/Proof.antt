@@ -1,9 +1,14 @@
--- `fence_line::line` meets its contract. The memory is zero and long enough for any answer, so that the line is the program's.
+-- `fence_line::line` meets its contract. The memory is zero and long enough for any answer, so that the line is the program's; and no line is longer
+-- than the longest.
 -- Assumes nothing.
+use native.Mathlib.Omega.{arith}
 use mathlib.Core.Path.{refl, ap}
 use Rattle.claims.specs.Calls.{Lent}
+use Rattle.claims.specs.Printed.{programAllowance}
 use Rattle.search_outcomes.specs.Outcomes.{lentOf}
+use Rattle.print_line.proofs.Putting.{puts-all}
 use Rattle.outcome_lines.proofs.OutcomeLines.{puts-same, program-line, program-says}
+use Rattle.outcome_lines.proofs.LineLength.{printed-within}
 use borrow.Author.Needs.{needs}
 use Rattle.fence_line.proofs.line.Statement.{statement}
 use Rattle.fence_line.proofs.line.Tie as tie
@@ -31,11 +36,12 @@ unfolding lentOf
 returns c =
     let t = c .before .before .before .before .before .before .before in
     let o = c .before .before in
-    let g = t .search-alone .ensures .1 in (
-      puts-same (program-line _ _ _ _ (t .search-alone .result) refl refl (g .says) (ap (λ (m : Lent). m .buffer) (g .leaves)))
-          (o .outcome-line .ensures),
-      program-says _ _ _ _ refl refl (g .says),
-    )
+    let g = t .search-alone .ensures .1 in
+    let text = c .before .before .before .before .before .before .before .before .before .before .before .before .args .text .now in
+    let line =
+    puts-same (program-line _ _ _ _ (t .search-alone .result) refl refl (g .says) (ap (λ (m : Lent). m .buffer) (g .leaves)))
+    (o .outcome-line .ensures) in
+    ((line, program-says _ _ _ _ refl refl (g .says)), λ h. puts-all _ _ _ _ line (omega (arith, printed-within programAllowance text)))
 
 pub line-spec : {M : Type 1} → statement M
 line-spec =

@@ -1,8 +1,11 @@
--- `fence_search::searched` is safe and ends: each array that it lends has the length that its type says.
+-- `fence_search::searched` is safe and ends: each array that it lends has the length that its type says, and the last one holds the
+-- longest line.
 -- Assumes nothing.
 use mathlib.Core.Path.{sym}
 use Prim.Native.Nat.{ℕ}
+use native.Mathlib.Omega.{arith}
 use lib.ListN.{length-replicate}
+use Rattle.outcome_lines.specs.Shown.{longestLine}
 use borrow.Author.Needs.{needs}
 use Rattle.fence_search.proofs.searched.Statement.{statement}
 use Rattle.fence_search.proofs.searched.Tie as tie
@@ -17,10 +20,11 @@ slice-aggregate-search-into-3 : tie.Need-slice-aggregate-search-into-3
 slice-aggregate-search-into-3 c = sym (length-replicate {A = ℕ} 1102097 0)
 
 slice-aggregate-search-into-4 : tie.Need-slice-aggregate-search-into-4
-slice-aggregate-search-into-4 c = sym (length-replicate {A = ℕ} 32768 0)
+slice-aggregate-search-into-4 c = sym (length-replicate {A = ℕ} _ 0)
 
 search-into-requires : tie.Need-search-into-requires
-search-into-requires c κs = search needs
+unfolding longestLine
+search-into-requires c κs = simp length-replicate (omega arith)
 
 returns : tie.Need-returns
 returns c = search needs
