@@ -14,14 +14,14 @@ use Rattle.kat.specs.Lists.{filter}
 use Rattle.kat.specs.Word.{Word, end, at, size, numbers}
 use Rattle.claims.specs.Bytes.{text, RawLine, inFront, rawLines}
 use Rattle.claims.specs.Sides.{Decision}
-use Rattle.claims.specs.Standings.{System, claimSystem}
+use Rattle.claims.specs.Standings.{claimSystem}
 use Rattle.claims.specs.Search.{Verdict, proved, refuted, spent, verdict}
 use Rattle.claims.specs.SheetBytes.{standingBytes}
 use Rattle.claims.specs.SheetWriting.{InRange}
-use Rattle.claims.specs.Refusals.{Cause, number, Result, ok, refused, refuse, badAllowance, shortMemory, spentAllowance, shortBuffer}
+use Rattle.claims.specs.Refusals.{Cause, number, ok, refuse, badAllowance, shortMemory, spentAllowance, shortBuffer}
 use Rattle.claims.specs.RefusalOrder.{ReadRefused, long, unclean, at-a-line, unclaimed, large, endings}
 use Rattle.claims.specs.Orders.{Rising}
-use Rattle.claims.specs.Calls.{Answer, provedWith, refutedBy, Given, answerOf, searched, Lent, Done, search-call}
+use Rattle.claims.specs.Calls.{provedWith, refutedBy, Given, answerOf, Lent, Done, search-call}
 use Rattle.claims.specs.CallOrder.{askedAs, sought, WayOut, unread, out, short, exhausted, unwritten, written}
 use Rattle.claims.specs.Printed.{digitsBefore, decimal, spaced, answerLine, refusalLine, lineOf, memoryFor, asksRing, programResult, printed}
 use Rattle.claims.proofs.Results.{refused-not-ok}

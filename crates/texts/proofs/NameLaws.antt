@@ -9,7 +9,7 @@ use mathlib.Core.List.{List, [], _∷_, map}
 use lib.Dec.{eqb}
 use lib.ListN.{length, getD}
 use Rattle.kat.specs.Lists.{isEmpty, filter}
-use Rattle.claims.specs.Bytes.{RawLine, inFront, rawLines}
+use Rattle.claims.specs.Bytes.{inFront, rawLines}
 use Rattle.texts.specs.Lines.{front, back, inLine, behind, declaredBy, namesUnder, nameAt}
 
 -- the bytes behind the first line

@@ -7,7 +7,7 @@ use mathlib.Core.List.{List, [], _∷_, map}
 use lib.Dec.{eqb}
 use lib.ListN.{getD}
 use Rattle.kat.specs.Lists.{isEmpty, filter}
-use Rattle.claims.specs.Bytes.{letter, digit, same, RawLine, rawLines}
+use Rattle.claims.specs.Bytes.{letter, digit, same, rawLines}
 
 -- the bytes in front of the first one that is not as p says ("The query")
 unfoldable pub front : (ℕ → Bool) → List ℕ → List ℕ
