@@ -7,7 +7,9 @@
 // - `whole`, the same, and for a refuted claim the drawn graph in hex and as text.
 use case_lines::Case;
 use case_lines::Cases;
-use case_sheets::Part;
+use sheets::Part;
+
+mod sheets; // sheets.rt: one case answered
 
 // What a line begins.
 enum Begins {
@@ -42,9 +44,9 @@ fn answer(
     out: &mut [u8],
 ) {
     match part {
-        Part::Search => case_sheets::searched(text, false, words, buffer, graph, out),
-        Part::Whole => case_sheets::searched(text, true, words, buffer, graph, out),
-        _ => case_sheets::sheet_case(text, part, buffer, graph),
+        Part::Search => sheets::searched(text, false, words, buffer, graph, out),
+        Part::Whole => sheets::searched(text, true, words, buffer, graph, out),
+        _ => sheets::sheet_case(text, part, buffer, graph),
     }
 }
 

@@ -4,17 +4,20 @@
 // the end how many of each there were.
 use case_lines::Case;
 use case_lines::Cases;
-use circle_counts::BREAKING;
-use circle_counts::BROKEN;
-use circle_counts::DRAWN;
-use circle_counts::EDGED;
-use circle_counts::GRAPHS;
-use circle_counts::HOLDING;
-use circle_counts::MEETING;
-use circle_counts::MET;
-use circle_counts::PASSING;
-use circle_counts::REFUTED;
+use counts::BREAKING;
+use counts::BROKEN;
+use counts::DRAWN;
+use counts::EDGED;
+use counts::GRAPHS;
+use counts::HOLDING;
+use counts::MEETING;
+use counts::MET;
+use counts::PASSING;
+use counts::REFUTED;
 use libc::STDOUT_FILENO;
+
+mod graphs; // graphs.rt: small graphs for a query
+mod counts; // counts.rt: the verdict of a query tried, and counted
 
 // A case: an allowance, a space and a query. The number that goes on.
 fn take(
@@ -33,7 +36,7 @@ fn take(
     }
     let query = &text[from..];
     let r = search::search_alone(query, allowance.value, words, buffer);
-    circle_counts::tried(
+    counts::tried(
         r,
         query,
         outcome_lines::sheet_of(r, buffer),

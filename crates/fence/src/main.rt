@@ -4,8 +4,15 @@
 // long, whatever follows, so no more are read. A sheet is read up to 4 + 269 * 4,097 bytes: a longer one has a field within them that is wrong,
 // the 4,097th standing at the latest, or the field behind a refuted sheet's word, so that it is refused alike. Each kind of call has its own memory.
 use fence_call::Call;
-use fence_sheet::Asked;
 use libc::STDERR_FILENO;
+use sheets::Asked;
+
+mod input; // input.rt: the arguments and the files that they name
+mod output; // output.rt: what is written
+mod help; // help.rt: what the program does, in a screen
+mod verdict; // verdict.rt: the calls of a verdict and of its sheet
+mod sheets; // sheets.rt: the calls with a sheet
+mod judgement; // judgement.rt: the call of the judge
 
 // The argument that does not fit.
 fn wrong(i: usize) {
@@ -25,14 +32,14 @@ fn short() {
 }
 
 fn main() {
-    let call = fence_input::call();
+    let call = input::call();
     match call {
-        Call::Query(allowance, file) => fence_search::verdict(file, allowance),
-        Call::Sheet(allowance, file) => fence_search::searched(file, allowance, true),
-        Call::Check(query, sheet) => fence_sheet::with_sheet(Asked::Check, query, sheet),
-        Call::Draw(dot, query, sheet) => fence_sheet::drawn(dot, query, sheet),
-        Call::Judge(query, graph) => fence_judge::judge(query, graph),
-        Call::Help => fence_help::write_help(),
+        Call::Query(allowance, file) => verdict::verdict(file, allowance),
+        Call::Sheet(allowance, file) => verdict::searched(file, allowance, true),
+        Call::Check(query, sheet) => sheets::with_sheet(Asked::Check, query, sheet),
+        Call::Draw(dot, query, sheet) => sheets::drawn(dot, query, sheet),
+        Call::Judge(query, graph) => judgement::judge(query, graph),
+        Call::Help => help::write_help(),
         Call::Wrong(i) => wrong(i),
         Call::Short => short(),
     }
