@@ -1,7 +1,7 @@
 // Sets of numbers below 64 as machine words: number k is a member where bit k is set. A table of such sets is a slice of rows, and a
 // row past its end is empty. In a set, members are taken lowest number first (document 01, "The form for each place"): each loop walks
 // a set by its trailing zeros, and the count of its ones falls.
-use words::word;
+use memory::word;
 ghost use mathlib.Core.Path.{_≡_};
 ghost use Rattle.claims.specs.Query.{bit};
 ghost use Rattle.bits.specs.Sets.{including, allBelow, unionRows, meetsRows, anyMember};

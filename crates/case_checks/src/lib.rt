@@ -1,10 +1,11 @@
-// Answers of the sheet check and of the judge on standard output: one a line, or those to bytes that are cut anywhere or have another byte
-// somewhere, equal ones in a row counted. What is written no contract can say; the cases compare it.
+// Answers of the sheet check and of the judge to bytes that are cut anywhere or have another byte somewhere, on standard output, equal ones in a
+// row counted. What is written no contract can say, and the cases compare it; the bytes are left as they were.
 use graph::Judged;
 use libc::STDOUT_FILENO;
 use refusals::Reason;
 use sheet_checked::Checked;
 ghost use Prim.Native.Nat.{_<_};
+ghost use mathlib.Core.Path.{_≡_};
 
 // Whose answers they are: the bytes are a sheet or a graph.
 pub enum Asked {
@@ -30,7 +31,7 @@ fn refused(why: Reason, place: usize) -> u64 {
 }
 
 // An answer of the check as a number.
-pub fn code(r: Checked) -> u64 {
+fn code(r: Checked) -> u64 {
     match r {
         Checked::Proved => packed(0, 0, 0, 0),
         Checked::Refuted => packed(1, 0, 0, 0),
@@ -95,27 +96,6 @@ fn write_code(c: u64) {
     write_judged(form, a, b, c / 8796093022208);
 }
 
-// Writes the line of an answer.
-pub fn write_line(c: u64) {
-    write_code(c);
-    io::write_all(STDOUT_FILENO, b"\n");
-}
-
-// A byte as a number.
-fn wide(b: u8) -> u64 {
-    b as u64
-}
-
-// Writes bytes in hex as a line.
-pub fn write_hex(bytes: &[u8]) {
-    let mut i = 0;
-    while i < bytes.len() {
-        io::print_hex(STDOUT_FILENO, wide(bytes[i]), 2);
-        i += 1;
-    }
-    io::write_all(STDOUT_FILENO, b"\n");
-}
-
 // Equal answers in a row: how many, and which.
 struct Run {
     count: u64,
@@ -159,8 +139,10 @@ fn cuts(of: Asked, query: &[u8], bytes: &[u8]) {
     io::write_all(STDOUT_FILENO, b"\n");
 }
 
-// The answer to the first n bytes of the buffer with another byte at a place.
-fn changed(of: Asked, query: &[u8], buffer: &mut [u8], n: usize, at: usize, b: u8) -> u64 {
+// The answer to the first n bytes of the buffer with another byte at a place; the byte that was there is put back.
+fn changed(of: Asked, query: &[u8], buffer: &mut [u8], n: usize, at: usize, b: u8) -> u64
+    ensures { λ r. ⌜ now (buffer .exit) ≡ now (buffer .entry) ⌝ }
+{
     if buffer.len() <= at {
         return 0;
     }
@@ -172,7 +154,9 @@ fn changed(of: Asked, query: &[u8], buffer: &mut [u8], n: usize, at: usize, b: u
 }
 
 // The answers to them with every byte at a place.
-fn changes(of: Asked, query: &[u8], buffer: &mut [u8], n: usize, at: usize) {
+fn changes(of: Asked, query: &[u8], buffer: &mut [u8], n: usize, at: usize)
+    ensures { λ r. ⌜ now (buffer .exit) ≡ now (buffer .entry) ⌝ }
+{
     let mut r = Run { count: 0, code: 0 };
     let mut b: u8 = 0;
     while b < 255 {
@@ -183,8 +167,11 @@ fn changes(of: Asked, query: &[u8], buffer: &mut [u8], n: usize, at: usize) {
     io::write_all(STDOUT_FILENO, b"\n");
 }
 
-// The answers to all edits of a sheet or a graph, the first n bytes of the buffer: a line for the cuts, and one for each place.
-pub fn edits(of: Asked, query: &[u8], buffer: &mut [u8], n: usize) {
+// Writes the answers to all edits of a sheet or a graph, the first n bytes of the buffer: a line for the cuts, and one for each place. The buffer is
+// in the end as it was.
+pub fn edits(of: Asked, query: &[u8], buffer: &mut [u8], n: usize)
+    ensures { λ r. ⌜ now (buffer .exit) ≡ now (buffer .entry) ⌝ }
+{
     cuts(of, query, texts::first(buffer, n));
     let mut i = 0;
     while i < n {

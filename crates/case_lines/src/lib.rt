@@ -1,8 +1,13 @@
 // Stored cases on standard input, one a line, escaped as vectors/README.md says. The programs that run them ask for one after the other.
 use escape::Place;
 use libc::STDIN_FILENO;
-ghost use Prim.Native.Nat.{_≤_};
-ghost use lib.ListN.{length};
+ghost use Prim.Native.Nat.{_*_, _≤_};
+ghost use mathlib.Core.Bool.{cond};
+ghost use mathlib.Core.Path.{_≡_};
+ghost use lib.ListN.{length, take};
+ghost use Rattle.case_lines.specs.Escapes.{hexByte};
+ghost use Rattle.case_lines.specs.Fields.{Puts, digitsIn, hexBytes, hexPairs, noBytes, withDigit, withDigits};
+ghost use Rattle.case_lines.specs.Lines.{Scanned, Told, left};
 
 mod escape; // escape.rt: the bytes that a line stands for
 
@@ -31,7 +36,9 @@ pub struct Digits {
 }
 
 // Goes on in a line, up to its end or to the end of the part. What does not fit into the text is left out.
-fn scan(part: &[u8], from: usize, filled: usize, text: &mut [u8], start: Place) -> Found {
+fn scan(part: &[u8], from: usize, filled: usize, text: &mut [u8], start: Place) -> Found
+    ensures { λ r. ⌜ Scanned (now (part .entry)) from filled (now (text .entry)) start r (now (text .exit)) ⌝ }
+{
     let mut at = from;
     let mut place = start;
     while at < filled {
@@ -49,7 +56,9 @@ fn scan(part: &[u8], from: usize, filled: usize, text: &mut [u8], start: Place) 
 }
 
 // The next case, its bytes in the text. A line of more than 1,024 parts is taken for the end.
-pub fn next(part: &mut [u8], used: Cases, text: &mut [u8]) -> Case {
+pub fn next(part: &mut [u8], used: Cases, text: &mut [u8]) -> Case
+    ensures { λ r. ⌜ Told (left (now (part .entry)) (used .at) (used .filled)) (now (text .entry)) r (now (part .exit)) (now (text .exit)) ⌝ }
+{
     let mut at = used.at;
     let mut filled = used.filled;
     let mut place = escape::start();
@@ -73,7 +82,7 @@ pub fn next(part: &mut [u8], used: Cases, text: &mut [u8]) -> Case {
 // A number with one more digit; one over 1,000,000,000 stays as it is.
 fn more(value: usize, digit: usize) -> usize
     requires { ⌜ digit ≤ 255 ⌝ }
-    ensures { λ r. ⌜ (value ≤ 20000000000 → r ≤ 20000000000) ⌝ }
+    ensures { λ r. ⌜ r ≡ withDigit value digit ⌝ }
 {
     if 1000000000 < value {
         return value;
@@ -83,7 +92,8 @@ fn more(value: usize, digit: usize) -> usize
 
 // The number at the start of the first n bytes of a text, of at most 20 digits.
 pub fn number(text: &[u8], n: usize) -> Digits
-    ensures { λ r. ⌜ r .count ≤ 20 ⌝ }
+    ensures { λ r. ⌜ (r .count ≤ 20) × (r .count ≡ length (digitsIn (take 20 (take n (now (text .entry))))))
+        × (r .value ≡ withDigits 0 (digitsIn (take 20 (take n (now (text .entry)))))) ⌝ }
 {
     let mut value: usize = 0;
     let mut i = 0;
@@ -114,43 +124,51 @@ pub struct HexBytes {
 }
 
 // The byte that two hex digits are; a byte that is no digit counts as the digit 0.
-fn hex_byte(high: u8, low: u8) -> u8 {
-    (escape::digit(high) << 4) | escape::digit(low)
+fn hex_byte(high: u8, low: u8) -> u8
+    ensures { λ r. ⌜ r ≡ hexByte high low ⌝ }
+{
+    16 * escape::digit(high) + escape::digit(low)
 }
 
-// The bytes that two hex digits each are at the start of a text, up to the first space, as many as there is room for; a `-` stands for no
-// bytes.
-pub fn hex(text: &[u8], to: &mut [u8]) -> HexBytes {
+// The bytes that two hex digits each are at the start of a text, up to the first space, as many as there is room for.
+fn hex_pairs(text: &[u8], to: &mut [u8]) -> usize
+    ensures { λ r. ⌜ Puts (now (to .entry)) 0 (hexPairs (now (text .entry))) r (now (to .exit)) ⌝ }
+{
     let mut used = 0;
-    let mut at = 0;
-    while at < text.len() {
-        if text.len() - at < 2 {
-            return HexBytes {
-                bytes: used,
-                count: at,
-            };
+    while used < to.len() {
+        if text.len() - 2 * used < 2 {
+            return used;
         }
-        if text[at] == b'-' {
-            return HexBytes { bytes: 0, count: 1 };
+        if text[2 * used] == b' ' {
+            return used;
         }
-        if text[at] == b' ' {
-            return HexBytes {
-                bytes: used,
-                count: at,
-            };
-        }
-        if to.len() <= used {
-            return HexBytes {
-                bytes: used,
-                count: at,
-            };
-        }
-        to[used] = hex_byte(text[at], text[at + 1]);
+        to[used] = hex_byte(text[2 * used], text[2 * used + 1]);
         used += 1;
-        at += 2;
     }
+    used
+}
+
+// Whether a `-` stands at the start of a text.
+fn no_bytes(text: &[u8]) -> bool
+    ensures { λ r. ⌜ r ≡ noBytes (now (text .entry)) ⌝ }
+{
+    if text.len() == 0 {
+        return false;
+    }
+    text[0] == b'-'
+}
+
+// The bytes that stand in hex at the start of a text, as many as there is room for; a `-` stands for no bytes.
+pub fn hex(text: &[u8], to: &mut [u8]) -> HexBytes
+    ensures { λ r. ⌜ Puts (now (to .entry)) 0 (hexBytes (now (text .entry))) (r .bytes) (now (to .exit))
+        × (r .count ≡ cond (noBytes (now (text .entry))) 1 (2 * r .bytes)) ⌝ }
+{
+    if no_bytes(text) {
+        return HexBytes { bytes: 0, count: 1 };
+    }
+    let used = hex_pairs(text, to);
     HexBytes {
         bytes: used,
-        count: at,
+        count: 2 * used,
     }
 }

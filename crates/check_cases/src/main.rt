@@ -7,6 +7,10 @@
 // - `whole`, the same, and for a refuted claim the drawn graph in hex and as text.
 use case_lines::Case;
 use case_lines::Cases;
+use layout::EDGE_BYTES;
+use layout::EVENT_BYTES;
+use layout::LONGEST_SHEET;
+use layout::MOST_WORDS;
 use sheets::Part;
 
 mod sheets; // sheets.rt: one case answered
@@ -95,9 +99,9 @@ fn run(
 fn main() {
     let mut input = [0u8; 65536];
     let mut text = [0u8; 163840];
-    let mut words = [0u64; 163840];
-    let mut buffer = [0u8; 1102097];
-    let mut graph = [0u8; 24832];
+    let mut words = [0u64; MOST_WORDS];
+    let mut buffer = [0u8; LONGEST_SHEET];
+    let mut graph = [0u8; EVENT_BYTES + EDGE_BYTES];
     let mut out = [0u8; 262144];
     run(
         &mut input,

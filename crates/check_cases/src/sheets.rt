@@ -2,7 +2,9 @@
 // contract can say; the cases compare it.
 use case_checks::Asked;
 use draw::Drawing;
+use layout::WORD_AT;
 use libc::STDOUT_FILENO;
+use refusals::Reason;
 use search_outcomes::Outcome;
 use sheet_checked::Checked;
 
@@ -15,11 +17,46 @@ pub enum Part {
     Whole,
 }
 
+// Writes the line of a refusal.
+fn write_refusal(why: Reason, place: usize) {
+    let mut out = [0u8; 64];
+    let n = print_line::refusal_line(&mut out, why, place);
+    io::write_all(STDOUT_FILENO, texts::first(&out, n));
+}
+
+// Writes the line of the check.
+fn write_check(r: Checked) {
+    match r {
+        Checked::Proved => {
+            io::write_all(STDOUT_FILENO, b"passes proved\n");
+        }
+        Checked::Refuted => {
+            io::write_all(STDOUT_FILENO, b"passes refuted\n");
+        }
+        Checked::Refused(why, place) => write_refusal(why, place),
+    }
+}
+
+// A byte as a number.
+fn wide(b: u8) -> u64 {
+    b as u64
+}
+
+// Writes bytes in hex as a line.
+fn write_hex(bytes: &[u8]) {
+    let mut i = 0;
+    while i < bytes.len() {
+        io::print_hex(STDOUT_FILENO, wide(bytes[i]), 2);
+        i += 1;
+    }
+    io::write_all(STDOUT_FILENO, b"\n");
+}
+
 // Writes the graph in hex, the line of a refusal, or `none`.
 fn write_graph(r: Drawing, graph: &[u8]) {
     match r {
         Drawing::Graph(n) => {
-            case_checks::write_hex(texts::first(graph, n));
+            write_hex(texts::first(graph, n));
         }
         Drawing::TooLarge(_) => {
             io::write_all(STDOUT_FILENO, b"none\n");
@@ -30,22 +67,19 @@ fn write_graph(r: Drawing, graph: &[u8]) {
         Drawing::Short => {
             io::write_all(STDOUT_FILENO, b"short\n");
         }
-        Drawing::Refused(why, place) => case_checks::write_line(case_checks::code(Checked::Refused(
-            why,
-            place,
-        ))),
+        Drawing::Refused(why, place) => write_refusal(why, place),
     }
 }
 
-// Writes the text of the graph, where there is one; the word stands in the sheet behind seven bytes.
+// Writes the text of the graph, where there is one; the word stands in the sheet behind the verdict and its own header.
 fn write_text(r: Drawing, query: &[u8], sheet: &[u8], graph: &[u8], out: &mut [u8]) {
     let Drawing::Graph(n) = r else {
         return;
     };
-    if sheet.len() < 7 {
+    if sheet.len() < WORD_AT {
         return;
     }
-    let m = dot::dot(query, &sheet[7..], texts::first(graph, n), out);
+    let m = dot::dot(query, &sheet[WORD_AT..], texts::first(graph, n), out);
     io::write_all(STDOUT_FILENO, texts::first(out, m));
 }
 
@@ -59,7 +93,7 @@ fn write_outcome(r: Outcome, buffer: &[u8], out: &mut [u8]) {
 
 // Draws the graph of a sheet, in hex and as text.
 fn draw_whole(r: Outcome, query: &[u8], sheet: &[u8], graph: &mut [u8], out: &mut [u8]) {
-    let Outcome::Refuted(_) = r else {
+    let Outcome::Refuted(_, _) = r else {
         return;
     };
     let d = draw::draw(query, sheet, graph);
@@ -83,7 +117,7 @@ fn write_checked(
     }
     let sheet = outcome_lines::sheet_of(r, buffer);
     io::write_all(STDOUT_FILENO, b", ");
-    case_checks::write_line(case_checks::code(sheet::check(query, sheet)));
+    write_check(sheet::check(query, sheet));
     if whole {
         draw_whole(r, query, sheet, graph, out);
     }
@@ -122,9 +156,6 @@ pub fn sheet_case(text: &[u8], part: Part, buffer: &mut [u8], graph: &mut [u8]) 
             write_graph(d, graph);
         }
         Part::Edits => case_checks::edits(Asked::Check, query, buffer, n),
-        _ => case_checks::write_line(case_checks::code(sheet::check(
-            query,
-            texts::first(buffer, n),
-        ))),
+        _ => write_check(sheet::check(query, texts::first(buffer, n))),
     }
 }

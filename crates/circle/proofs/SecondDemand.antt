@@ -21,7 +21,7 @@ use Rattle.claims.proofs.Judging.{judgement-is-meaning}
 use Rattle.claims.proofs.OneJudgement.{one-judgement}
 use Rattle.claims.proofs.JudgeCall.{meaning-is-judge-call}
 use Rattle.search_outcomes.specs.declared.Outcome.{Outcome}
-use Rattle.search_outcomes.specs.Outcomes.{Says, Gives}
+use Rattle.search_outcomes.specs.Outcomes.{Says, SearchGives}
 use Rattle.search_outcomes.proofs.ByWords.{search-by-words}
 use Rattle.graph.specs.Meanings.{IsMeaning}
 use Rattle.graph.proofs.Answered.{answer-means}
@@ -54,7 +54,7 @@ meaning-answered text graph j J =
     })
 
 -- a text that the reader refuses
-unread-refused : (text : List ℕ) (allowance : ℕ) (before after : Lent) (r : Outcome) → Gives (search-call text allowance before) r after
+unread-refused : (text : List ℕ) (allowance : ℕ) (before after : Lent) (r : Outcome) → SearchGives text allowance before r after
     → (why : Refusal) → read text ≡ refused why → Says (refused why) r × (after ≡ before)
 unread-refused text allowance before after r gives why e =
     let d : search-call text allowance before ≡ record { result = refused why; lent = before } = search-reads-first text allowance before why e in

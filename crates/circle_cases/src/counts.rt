@@ -156,8 +156,8 @@ pub fn tried(
     counts: &mut [u64],
 ) -> u64 {
     match r {
-        Outcome::Proved(_) => proved(query, place, state, graph, counts),
-        Outcome::Refuted(_) => {
+        Outcome::Proved(_, _) => proved(query, place, state, graph, counts),
+        Outcome::Refuted(_, _) => {
             refuted(query, sheet, place, graph, counts);
             state
         }

@@ -14,6 +14,10 @@ use counts::MEETING;
 use counts::MET;
 use counts::PASSING;
 use counts::REFUTED;
+use layout::EDGE_BYTES;
+use layout::EVENT_BYTES;
+use layout::LONGEST_SHEET;
+use layout::MOST_WORDS;
 use libc::STDOUT_FILENO;
 
 mod graphs; // graphs.rt: small graphs for a query
@@ -119,9 +123,9 @@ fn whole(
 fn main() {
     let mut input = [0u8; 65536];
     let mut text = [0u8; 16384];
-    let mut words = [0u64; 163840];
-    let mut buffer = [0u8; 1102097];
-    let mut graph = [0u8; 24832];
+    let mut words = [0u64; MOST_WORDS];
+    let mut buffer = [0u8; LONGEST_SHEET];
+    let mut graph = [0u8; EVENT_BYTES + EDGE_BYTES];
     let mut counts = [0u64; 10];
     whole(
         &mut input,

@@ -9,6 +9,7 @@ pub use Rattle.notation.proofs.ClaimLast
 pub use Rattle.notation.proofs.Decisions
 pub use Rattle.notation.proofs.Precedence
 pub use Rattle.notation.proofs.Counts
+pub use Rattle.notation.proofs.Under
 -- Of `verdicts`, passed on.
 pub use Rattle.verdicts.proofs.CasesOfVerdicts
 pub use Rattle.verdicts.proofs.Rows

@@ -1,9 +1,9 @@
 -- What the query program prints is the line of the answer that the words fix: its memory and its buffer are enough for any answer, so that the
 -- result of its call is refused by none of 9 and 11.
 -- Assumes nothing.
-use Prim.Native.Nat.{ℕ, _+_, _*_, _≤_, zero-le}
+use Prim.Native.Nat.{ℕ, _*_, _≤_, zero-le}
 use native.Mathlib.Omega.{arith}
-use mathlib.Core.Path.{_≡_, refl, sym, _∙_, ap, subst}
+use mathlib.Core.Path.{_≡_, refl, sym, ap, subst}
 use mathlib.Core.Bool.{Bool, true, false, _&&_}
 use mathlib.Core.List.{List}
 use lib.Dec.{leb}
@@ -15,7 +15,7 @@ use Rattle.claims.specs.SheetBytes.{contentsLength}
 use Rattle.notation.specs.Sides.{Decision}
 use Rattle.verdicts.specs.Standings.{systemOf}
 use Rattle.notation.specs.Refusals.{badAllowance, Result, ok, refused, refuse, afterwards}
-use Rattle.claims.specs.Calls.{provedWith, searched, Asked, asked, Lent, neededRecords, neededWords, searchAsked, search-call}
+use Rattle.claims.specs.Calls.{provedWith, searched, Asked, asked, neededRecords, neededWords, searchAsked, search-call}
 use Rattle.claims.specs.CallOrder.{Ready}
 use Rattle.claims.specs.Demands.{FixedByWords, answerAlone}
 use Rattle.claims.specs.Sheets.{sheetLength}

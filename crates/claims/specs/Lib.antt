@@ -16,6 +16,7 @@ pub use Rattle.notation.specs.Decisions
 pub use Rattle.notation.specs.Reading
 pub use Rattle.notation.specs.Sides
 pub use Rattle.notation.specs.Words
+pub use Rattle.notation.specs.Under
 pub use Rattle.notation.specs.RefusalOrder
 -- Of `verdicts`, passed on: "Standings", what a verdict says, which sheets pass, and which letters may be left out.
 pub use Rattle.verdicts.specs.Standings

@@ -107,6 +107,10 @@ WITHIN-LINE = 144
 abbrev pub CLOSED-LINE : ℕ
 CLOSED-LINE = 160
 
+-- behind the last `closed` line: its code says which of the 16 relations is closed
+abbrev pub CLOSED-END : ℕ
+CLOSED-END = 176
+
 -- declarations: at most so many tests, relations and lets ("The query")
 abbrev pub MOST-TESTS : ℕ
 MOST-TESTS = 6

@@ -75,6 +75,9 @@ pub const WITHIN_LINE: u64 = 144;
 
 pub const CLOSED_LINE: u64 = 160;
 
+// Behind the last `closed` line: its code says which of the 16 relations is closed.
+pub const CLOSED_END: u64 = 176;
+
 // Declarations: at most so many tests, relations and lets.
 pub const MOST_TESTS: usize = 6;
 

@@ -15,7 +15,7 @@ use Rattle.claims.specs.GraphWriting.{joined, edgeOf}
 use Rattle.texts.specs.Lines.{nameAt}
 use Rattle.print_line.specs.Puts.{Puts}
 use Rattle.print_line.proofs.Putting.{puts-start, puts-append, puts-bytes}
-use Rattle.draw_fields.proofs.Pieces.{Left, left-begin, left-more, left-end}
+use Rattle.print_line.proofs.Pieces.{Left, left-begin, left-more, left-end}
 use Rattle.dot.specs.DotText.{isStep, testText, testsText, eventLine, eventLines, styleText, edgeLine, edgeLines, atomsIn, edgesIn, listedIn, graphText, dotText}
 use Rattle.dot.proofs.Listing.{eventAt, event-more, event-none, edge-more, edge-none}
 

@@ -15,8 +15,13 @@ use Rattle.kat.proofs.Bools.{true-not-false, le-or-lt}
 use Rattle.claims.specs.Fields.{field, bigEndian}
 use Rattle.claims.specs.GraphBytes.{Edge, Listed}
 use Rattle.claims.specs.GraphWriting.{joined, eventField, edgeField, edgeOf, graphBytes}
-use Rattle.draw_fields.proofs.Pieces.{event-field, pieces-length}
+use Rattle.print_line.proofs.Pieces.{pieces-length}
 use Rattle.dot.specs.DotText.{atomsIn, edgesIn, listedIn, graphText, dotText}
+
+-- the four bytes of an event's field
+four-bytes : (a : ℕ) → length (eventField a) ≡ 4
+unfolding field bigEndian
+four-bytes a = refl
 
 -- the byte at a place, and those behind it
 byte-at : (bs : List ℕ) (i : ℕ) → i < length bs → drop i bs ≡ getD bs i 0 ∷ drop (i + 1) bs
@@ -132,7 +137,7 @@ edges-listed (e ∷ es) = ap (λ (fs : List Edge). e ∷ fs) (edges-listed es)
 
 behind-events : (xs : List ℕ) (bs : List ℕ) → drop (4 * length xs) (joined eventField xs ++ bs) ≡ bs
 behind-events xs bs =
-    ap (λ (k : ℕ). drop k (joined eventField xs ++ bs)) (sym (pieces-length eventField 4 (λ a. ap length (sym (event-field a))) xs)) ∙ drop-front (joined eventField xs)
+    ap (λ (k : ℕ). drop k (joined eventField xs ++ bs)) (sym (pieces-length eventField 4 four-bytes xs)) ∙ drop-front (joined eventField xs)
   where
     drop-front : (cs : List ℕ) → drop (length cs) (cs ++ bs) ≡ bs
     drop-front [] = refl

@@ -1,9 +1,9 @@
 // A drawn graph as text for the program `dot`: an event with its number and the tests that hold of it, an edge with its relation, by the query's own
 // names; solid where it is a step of the word, dashed where it comes from closing. What does not fit is left out.
+use memory::least;
 use print_line::put_byte;
 use print_line::put_decimal;
 use print_line::put_text;
-use words::least;
 ghost use Prim.Native.Nat.{_*_, _≤_};
 ghost use mathlib.Core.Path.{_≡_};
 ghost use mathlib.Core.List.{[]};

@@ -21,7 +21,6 @@ use Rattle.print_line.proofs.Putting.{puts-all}
 use Rattle.sheet_checked.specs.declared.Checked.{Checked}
 use Rattle.sheet_checked.specs.declared.Checked.the-variants.{Proved as ProvedSheet, Refuted as RefutedSheet, Refused as RefusedSheet}
 use Rattle.sheet_checked.specs.Checks.{Says}
-use Rattle.draw.specs.declared.Drawing.{Drawing}
 use Rattle.draw.specs.declared.Drawing.the-variants.{Graph, TooLarge, Proved, Short, Refused}
 use Rattle.draw.specs.DrawCall.{graphOf, tooLarge, saidProved, tooShort, Drew, drew, drawnFor, drawnBytes, drawSaid, drawSheet, drawCall}
 use Rattle.draw.specs.Drawings.{resultOf, Draws}

@@ -1,7 +1,8 @@
 -- From the reading of the query to the graph: what the reader leaves of a query whose sheet passes as refuted draws the graph of the sheet's word. The
 -- codes say which relations are closed, the facts how many there are and whether the claim is one of rings.
 -- Assumes nothing.
-use Prim.Native.Nat.{ℕ, _-_, _≤_}
+use Prim.Native.Nat.{ℕ, _-_, _≤_, _<_}
+use native.Mathlib.Omega.{arith}
 use mathlib.Core.Path.{_≡_, sym, _∙_, ap, ap₂, subst}
 use mathlib.Core.Bool.{Bool}
 use mathlib.Core.List.{List, [], _++_}
@@ -18,7 +19,7 @@ use Rattle.claims.proofs.Precedence.{read-accepts}
 use Rattle.claims.proofs.JudgeCall.{IsAsked, asked-is, decided-ranges}
 use Rattle.codes.specs.Codes.{queryCodes}
 use Rattle.codes.proofs.Orderly.{Orderly, taken-orderly}
-use Rattle.words.specs.Memory.{zeros}
+use Rattle.memory.specs.Memory.{zeros}
 use Rattle.read_text.specs.Reading.{leftCodes}
 use Rattle.query.specs.declared.Facts.{Facts}
 use Rattle.query.specs.declared.Answer.{Answer}
@@ -26,11 +27,11 @@ use Rattle.query.specs.declared.Answer.the-variants.{Accepted as AcceptedFacts}
 use Rattle.query.specs.Answer.{Says, factsOf, leftAfter, rightAfter}
 use Rattle.query.proofs.Asked.{AskedWith, asked-with}
 use Rattle.side_relations.specs.Relations.{closedSet}
-use Rattle.draw_rows.specs.Rows.{eventCount}
+use Rattle.draw_rows.specs.Rows.{eventCount, drawnRows, tableAt}
 use Rattle.draw_rows.proofs.ClosedLines.{closed-relation}
 use Rattle.draw_rows.proofs.Drawn.{event-number}
 use Rattle.draw_bytes.specs.Bytes.{bytesOf}
-use Rattle.draw_bytes.proofs.Drawn.{bytes-drawn}
+use Rattle.draw_bytes.proofs.Drawn.{bytes-drawn, bytes-same}
 use Rattle.draw.specs.declared.Drawing.{Drawing}
 use Rattle.draw.specs.DrawCall.{Drew, drew, drawnFor, drawnBytes, drawCall}
 use Rattle.draw.specs.Drawings.{Draws}
@@ -43,17 +44,25 @@ long-enough text sheet e =
     let r : Refutes text sheet [] = refuted-is text sheet [] e in
     word-stands (r .asks .decided) sheet (r .word) (r .reads) .0
 
+-- tables that are filled give the bytes of what is drawn, where there is one for each relation
+pub filled-bytes : (bs : List ℕ) (n closed rs size : ℕ) (ts : List (List ℕ)) → rs ≤ size → (set : ℕ) → set ≡ closed
+    → ((r : ℕ) → r < size → tableAt ts r ≡ drawnRows bs n set r) → bytesOf bs n (tableAt ts) rs ≡ bytesOf bs n (drawnRows bs n closed) rs
+filled-bytes bs n closed rs size ts h set e f =
+    bytes-same bs n (tableAt ts) (drawnRows bs n closed) rs (λ r l. f r (omega arith) ∙ ap (λ s. drawnRows bs n s r) e)
+
 -- the graph of a word, from the codes of its query
 word-drawn : (a : Asked) → Orderly [] (a .query) → (w : Word) (n : ℕ) (out : List ℕ)
     → drew (eventCount (a .decided .ring) (length (numbers w)))
-    (bytesOf (numbers w) (eventCount (a .decided .ring) (length (numbers w))) (closedSet 0 (queryCodes (a .query) ++ zeros n)) (length (relations (a .query)))) out
+    (bytesOf (numbers w) (eventCount (a .decided .ring) (length (numbers w)))
+    (drawnRows (numbers w) (eventCount (a .decided .ring) (length (numbers w))) (closedSet 0 (queryCodes (a .query) ++ zeros n))) (length (relations (a .query)))) out
     ≡ drew (length (drawnFor a w .atoms)) (drawnBytes a w) out
 unfolding drawnBytes
 word-drawn a o w n out =
     let q : Query = a .query in
     let ring : Bool = a .decided .ring in
     drew-same (eventCount ring (length (numbers w)))
-    (bytesOf (numbers w) (eventCount ring (length (numbers w))) (closedSet 0 (queryCodes q ++ zeros n)) (length (relations q))) (drawnBytes a w) out
+    (bytesOf (numbers w) (eventCount ring (length (numbers w)))
+    (drawnRows (numbers w) (eventCount ring (length (numbers w))) (closedSet 0 (queryCodes q ++ zeros n))) (length (relations q))) (drawnBytes a w) out
     (λ few. bytes-drawn q ring w (closedSet 0 (queryCodes q ++ zeros n)) few (closed-relation q o n))
     ∙ ap (λ k. drew k (drawnBytes a w) out) (sym (event-number q ring w))
 
@@ -67,7 +76,7 @@ module _ (text sheet : List ℕ) (passed : check-call text sheet ≡ ok passedRe
   -- the graph that is drawn from what the reader leaves is that of the call
   pub refuted-drawn : (set : ℕ) → set ≡ closedSet 0 codes → (out ws : List ℕ) → ws ≡ take (length sheet - 7) (drop 7 sheet)
       → {r : Drawing} {after : List ℕ}
-      → Draws (drew (eventCount (f .ring) (length ws)) (bytesOf ws (eventCount (f .ring) (length ws)) set (f .relations)) out) r after
+      → Draws (drew (eventCount (f .ring) (length ws)) (bytesOf ws (eventCount (f .ring) (length ws)) (drawnRows ws (eventCount (f .ring) (length ws)) set) (f .relations)) out) r after
       → Draws (drawCall text sheet out) r after
   unfolding factsOf leftCodes
   refuted-drawn set s out ws v {r} {after} d =
@@ -86,7 +95,7 @@ module _ (text sheet : List ℕ) (passed : check-call text sheet ≡ ok passedRe
       let left-codes : codes ≡ queryCodes (a .query) ++ zeros (4096 - length (queryCodes (a .query))) = is-codes ∙ ap leftCodes (i .reads) in
       let o : Orderly [] (a .query) = taken-orderly (rawLines text) (a .query) (read-accepts text (a .query) .0 (i .reads) .every-line-taken) in
       subst (λ (z : Drew). Draws z r after)
-      (ap₂ (λ (b : Bool) (k : ℕ). drew (eventCount b (length ws)) (bytesOf ws (eventCount b (length ws)) set k) out) ring count
+      (ap₂ (λ (b : Bool) (k : ℕ). drew (eventCount b (length ws)) (bytesOf ws (eventCount b (length ws)) (drawnRows ws (eventCount b (length ws)) set) k) out) ring count
       ∙ ap₂ (λ (us : List ℕ) (t : ℕ). drew (eventCount (a .decided .ring) (length us))
-      (bytesOf us (eventCount (a .decided .ring) (length us)) t (length (relations (a .query)))) out) word (s ∙ ap (closedSet 0) left-codes)
+      (bytesOf us (eventCount (a .decided .ring) (length us)) (drawnRows us (eventCount (a .decided .ring) (length us)) t) (length (relations (a .query)))) out) word (s ∙ ap (closedSet 0) left-codes)
       ∙ word-drawn a o (R .word) (4096 - length (queryCodes (a .query))) out ∙ sym (R .drawing)) d

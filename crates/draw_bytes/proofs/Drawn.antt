@@ -14,13 +14,13 @@ use Rattle.kat.proofs.Sets.{upto-in}
 use Rattle.claims.specs.Query.{Query, bit, relations, closed}
 use Rattle.claims.specs.GraphWriting.{joined, eventField, edgeField, edgeOf, edgesOver, isEdge, graphBytes, listedOf}
 use Rattle.claims.specs.Drawn.{drawn}
-use Rattle.words.specs.Memory.{words}
+use Rattle.memory.specs.Memory.{words}
 use Rattle.bits.proofs.Members.{number-filter, number-wide}
-use Rattle.draw_rows.specs.Rows.{eventCount, relationRows}
+use Rattle.draw_rows.specs.Rows.{eventCount, drawnRows}
 use Rattle.draw_rows.proofs.Drawn.{event-number, event-atoms, row-below, row-bit}
-use Rattle.draw_fields.specs.Fields.{eventsBytes, rowBytes, rowsBytes}
+use Rattle.draw_bytes.specs.Fields.{eventsBytes, rowBytes, rowsBytes}
 use Rattle.draw_bytes.specs.Bytes.{relationBytes, edgesBytes, bytesOf}
-use Rattle.draw_fields.proofs.Pieces.{anEdge, aRow}
+use Rattle.draw_bytes.proofs.Pieces.{anEdge, aRow}
 
 -- pieces of other pieces
 module _ {A : Type 0} where
@@ -102,22 +102,30 @@ module _ (q : Query) (ring : Bool) (w : Word) (set : ℕ) (few : eventCount ring
   events = eventCount ring (length (numbers w))
 
   abbrev rowsOf : ℕ → List ℕ
-  rowsOf r = relationRows (numbers w) events r (bit r set)
+  rowsOf = drawnRows (numbers w) events set
 
   events-drawn : eventsBytes (numbers w) events ≡ joined eventField (drawn q ring w .atoms)
   unfolding eventsBytes words
   events-drawn =
       sym (ap (joined eventField) (event-atoms q ring w) ∙ joined-map eventField (λ i. getD (numbers w) (2 * i) 0) (upto 0 events))
 
-  edges-drawn : edgesBytes (numbers w) events set (length (relations q)) ≡ joined edgeField (listedOf (drawn q ring w) (length (relations q)) .edges)
-  unfolding edgesBytes relationBytes listedOf
+  edges-drawn : edgesBytes events rowsOf (length (relations q)) ≡ joined edgeField (listedOf (drawn q ring w) (length (relations q)) .edges)
+  unfolding edgesBytes relationBytes listedOf drawnRows
   edges-drawn =
       all-edges (drawn q ring w) events (length (relations q)) few rowsOf
       (λ r x h. row-below w q ring few r (bit r set) x h)
       (λ r x y h k l. row-bit w q ring few r (bit r set) (closes r h) x y k l)
       ∙ ap (λ n. joined edgeField (filter (isEdge (drawn q ring w)) (edgesOver (upto 0 (length (relations q))) (upto 0 n)))) (sym (event-number q ring w))
 
-  pub bytes-drawn : bytesOf (numbers w) (eventCount ring (length (numbers w))) set (length (relations q))
+  pub bytes-drawn : bytesOf (numbers w) (eventCount ring (length (numbers w))) (drawnRows (numbers w) (eventCount ring (length (numbers w))) set) (length (relations q))
       ≡ graphBytes (listedOf (drawn q ring w) (length (relations q)))
   unfolding bytesOf listedOf
   bytes-drawn = ap₂ _++_ events-drawn edges-drawn
+
+-- rows that are the same for each relation that is written give the same bytes
+pub bytes-same : (bs : List ℕ) (n : ℕ) (rows others : ℕ → List ℕ) (rs : ℕ) → ((r : ℕ) → r < rs → rows r ≡ others r)
+    → bytesOf bs n rows rs ≡ bytesOf bs n others rs
+unfolding bytesOf edgesBytes relationBytes
+bytes-same bs n rows others rs e =
+    ap (λ es. eventsBytes bs n ++ es)
+    (joined-same (λ r. rowsBytes r n (rows r)) (λ r. rowsBytes r n (others r)) (upto 0 rs) (λ r i. ap (rowsBytes r n) (e r (upto-in r 0 rs i .1))))

@@ -1,4 +1,4 @@
--- Relations put one after another, and counted.
+-- The pieces of a graph put one after another, and their lengths; relations; and that the bytes are those of the drawn graph.
+pub mod Pieces
 pub mod Relations
--- The bytes are those of the drawn graph.
 pub mod Drawn

@@ -26,7 +26,7 @@ use Rattle.codes.proofs.NamedRelations.{named-relation, same-number}
 use Rattle.codes.proofs.NameKinds.{each-more}
 use Rattle.codes.proofs.Names.{has, has-append, index-lt, index-append}
 use Rattle.codes.proofs.Orderly.{Orderly, isRelation, slip-first, undeclared, Settled, settled-none, settled-more, settled-on}
-use Rattle.words.specs.Memory.{zeros}
+use Rattle.memory.specs.Memory.{zeros}
 use Rattle.side_relations.specs.Relations.{closedSet}
 use Rattle.side_relations.proofs.ClosedSets.{ofClosed, closed-bit}
 

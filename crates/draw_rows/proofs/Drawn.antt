@@ -23,8 +23,8 @@ use Rattle.claims.specs.GraphWriting.{edgeOf}
 use Rattle.claims.specs.Drawn.{lineAtoms, allButLast, ringAtoms, lineSteps, ringSteps, stepsOf, filled, drawn}
 use Rattle.claims.proofs.WordBytes.{numbers-length}
 use Rattle.claims.proofs.Laid.{line-length, inner-length}
-use Rattle.words.specs.Memory.{words}
-use Rattle.words.proofs.Words.{words-at, words-length, words-ext}
+use Rattle.memory.specs.Memory.{words}
+use Rattle.memory.proofs.Words.{words-at, words-length, words-ext}
 use Rattle.bits.specs.Sets.{including}
 use Rattle.bits.proofs.Bit.{bit-none}
 use Rattle.bits.proofs.Rows.{bit-including, including-in}

@@ -7,7 +7,7 @@ use mathlib.Core.List.{List}
 use lib.Dec.{eqb}
 use lib.ListN.{length, getD}
 use borrow.Author.Tests.{lt-ltb, le-ltb, le-leb, lt-leb, eq-eqb, ne-eqb}
-use Rattle.words.specs.Memory.{words}
+use Rattle.memory.specs.Memory.{words}
 use Rattle.bits.specs.Sets.{including}
 use Rattle.rows.specs.Rows.{rounds}
 use Rattle.draw_rows.specs.Rows.{eventCount, nextEvent, stepRow, stepRows, relationRows}

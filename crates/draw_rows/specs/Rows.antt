@@ -2,14 +2,15 @@
 -- "Words", Drawn graph.) A word is given by its numbers: atom, relation, atom, .., atom, so that the relation of the step from event x
 -- stands at place 2 x + 1. Which relations are closed is a set too (`side_relations`).
 -- Assumes nothing.
-use Prim.Native.Nat.{ℕ, _+_, _*_, _-_, _/_}
+use Prim.Native.Nat.{ℕ, _+_, _*_, _/_}
 use mathlib.Core.Bool.{Bool, cond}
 use mathlib.Core.List.{List}
 use lib.Dec.{eqb, ltb, leb}
 use lib.ListN.{length, getD}
-use Rattle.words.specs.Memory.{words}
+use Rattle.memory.specs.Memory.{words}
 use Rattle.bits.specs.Sets.{including}
-use Rattle.rows.specs.Rows.{rounds}
+use Rattle.claims.specs.Query.{bit}
+use Rattle.rows.specs.Rows.{blank, rounds}
 
 -- how many events the graph of a word of so many numbers has, in a line (false) or in a ring (true) ("Words")
 unfoldable pub eventCount : Bool → ℕ → ℕ
@@ -31,3 +32,11 @@ stepRows bs n r = words 64 (stepRow bs n r)
 -- the edges of relation r among n events, closed or not ("Words")
 unfoldable pub relationRows : List ℕ → ℕ → ℕ → Bool → List ℕ
 relationRows bs n r closed = cond closed (rounds (stepRows bs n r) n n) (stepRows bs n r)
+
+-- the edges of each relation, where `closed` has the closed relations: what is drawn ("Words")
+unfoldable pub drawnRows : List ℕ → ℕ → ℕ → ℕ → List ℕ
+drawnRows bs n closed r = relationRows bs n r (bit r closed)
+
+-- the table of a relation in memory; past it a blank one
+unfoldable pub tableAt : List (List ℕ) → ℕ → List ℕ
+tableAt ts r = getD ts r blank

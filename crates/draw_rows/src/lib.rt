@@ -1,20 +1,13 @@
 // The edges of a drawn graph as sets: a relation is a table of 64 rows, and bit y of row x is the edge from event x to event y. (Document 01,
 // "Words", Drawn graph.) The steps of a word lead from each event to the next, the last of a ring to the first; a closed relation is then
-// closed.
+// closed. All relations are drawn into one memory before a byte is written: what an edge is is decided here alone.
+use bits::member;
 use bits::with;
-ghost use Prim.Native.Nat.{_≤_, _<_};
+ghost use Prim.Native.Nat.{ℕ, _≤_, _<_};
 ghost use mathlib.Core.Path.{_≡_};
 ghost use lib.ListN.{length};
-ghost use Rattle.words.specs.Memory.{words};
-ghost use Rattle.side_relations.specs.Relations.{closedSet};
-ghost use Rattle.draw_rows.specs.Rows.{eventCount, nextEvent, stepRow, relationRows};
-
-// The relations that the lines of a query close, from the codes that its reading leaves.
-pub fn closed_set(codes: &[u64; 4096]) -> u64
-    ensures { λ r. ⌜ r ≡ closedSet 0 (now (codes .entry)) ⌝ }
-{
-    side_relations::closed_set(codes)
-}
+ghost use Rattle.memory.specs.Memory.{words};
+ghost use Rattle.draw_rows.specs.Rows.{eventCount, nextEvent, stepRow, relationRows, drawnRows, tableAt};
 
 // How many events the graph of a word of so many numbers has: in a line one more than its length, in a ring as many, and one for length 0.
 pub fn event_count(ring: bool, size: usize) -> usize
@@ -72,7 +65,7 @@ fn step_rows(word: &[u8], n: usize, r: usize, rows: &mut [u64])
 }
 
 // The edges of relation r among n events, which is closed or not.
-pub fn relation_rows(word: &[u8], n: usize, r: usize, closed: bool) -> [u64; 64]
+fn relation_rows(word: &[u8], n: usize, r: usize, closed: bool) -> [u64; 64]
     ensures { λ t. ⌜ t ≡ relationRows (now (word .entry)) n r closed ⌝ }
 {
     let mut steps = [0u64; 64];
@@ -81,4 +74,27 @@ pub fn relation_rows(word: &[u8], n: usize, r: usize, closed: bool) -> [u64; 64]
         return rows::plus(steps, n);
     }
     steps
+}
+
+// The edges of each relation that has a table, among n events, where `closed` has the closed relations.
+pub fn fill(word: &[u8], n: usize, closed: u64, tables: &mut [[u64; 64]])
+    ensures { λ u.
+        ⌜ ((r : ℕ) → r < length (now (tables .entry)) → tableAt (now (tables .exit)) r ≡ drawnRows (now (word .entry)) n closed r) ⌝ }
+{
+    let mut r = 0;
+    while r < tables.len() {
+        tables[r] = relation_rows(word, n, r, member(closed, r));
+        r += 1;
+    }
+}
+
+// The table of relation r, which is blank where there is none.
+pub fn table(tables: &[[u64; 64]], r: usize) -> [u64; 64]
+    ensures { λ t. ⌜ t ≡ tableAt (now (tables .entry)) r ⌝ }
+{
+    if r < tables.len() {
+        tables[r]
+    } else {
+        [0u64; 64]
+    }
 }

@@ -1,8 +1,11 @@
 // What comes to the program from outside: the call that its arguments ask for, and the bytes of the files that they name. No contract can say
 // what is read.
-use fence_call::Call;
-use fence_call::Seen;
+use arguments::Call;
+use arguments::Seen;
 use libc::STDIN_FILENO;
+
+// Room for the longest query and one byte more: from there on it is too long, whatever follows.
+pub const TEXT: usize = layout::LONGEST_QUERY + 1;
 
 // So many bytes of a file, at the start of the memory lent; or it could not be read, which was said on standard error.
 pub enum Input {
@@ -14,23 +17,23 @@ pub enum Input {
 fn taken(seen: Seen, i: usize) -> Seen {
     let mut word = io::buffer();
     let n = os::arg(i, &mut word);
-    fence_call::take(seen, &word[..n], i)
+    arguments::take(seen, &word[..n], i)
 }
 
 // The call that the arguments ask for. From the eighth on they are not looked at: no call has so many, so that one of those before them
 // does not fit.
 pub fn call() -> Call {
     let count = os::arg_count();
-    let mut seen = fence_call::start();
+    let mut seen = arguments::start();
     let mut i = 1;
     while i < 8 {
         if count <= i {
-            return fence_call::asked(seen);
+            return arguments::asked(seen);
         }
         seen = taken(seen, i);
         i += 1;
     }
-    fence_call::asked(seen)
+    arguments::asked(seen)
 }
 
 // The bytes that the descriptor still has, as many as fit; the next read tells whether it failed.

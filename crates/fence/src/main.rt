@@ -1,11 +1,12 @@
 // The program for all calls: a query's verdict, its sheet, the check of a sheet, the drawn graph, the judgement of a graph. It reads files,
 // calls what is proved of slices, and writes: on standard output the line of document 01 ("The desk's cases") or the bytes, and on standard
 // error what a refusal or a judgement means. With no argument it is the query program of document 01. From 4,097 bytes on a query is too
-// long, whatever follows, so no more are read. A sheet is read up to 4 + 269 * 4,097 bytes: a longer one has a field within them that is wrong,
-// the 4,097th standing at the latest, or the field behind a refuted sheet's word, so that it is refused alike. Each kind of call has its own memory.
-use fence_call::Call;
+// long, whatever follows, so no more are read. A sheet is read up to the longest one's bytes and a standing more: a longer one has a field within them
+// that is wrong, the 4,097th standing at the latest, or the field behind a refuted sheet's word, so that it is refused alike. Each kind of call
+// has its own memory.
+use arguments::Call;
 use libc::STDERR_FILENO;
-use sheets::Asked;
+use sheets::OfSheet;
 
 mod input; // input.rt: the arguments and the files that they name
 mod output; // output.rt: what is written
@@ -31,16 +32,23 @@ fn short() {
     );
 }
 
-fn main() {
-    let call = input::call();
+// A call without a sheet.
+fn answer(call: Call) {
     match call {
         Call::Query(allowance, file) => verdict::verdict(file, allowance),
         Call::Sheet(allowance, file) => verdict::searched(file, allowance, true),
-        Call::Check(query, sheet) => sheets::with_sheet(Asked::Check, query, sheet),
-        Call::Draw(dot, query, sheet) => sheets::drawn(dot, query, sheet),
         Call::Judge(query, graph) => judgement::judge(query, graph),
         Call::Help => help::write_help(),
         Call::Wrong(i) => wrong(i),
-        Call::Short => short(),
+        _ => short(),
+    }
+}
+
+fn main() {
+    let call = input::call();
+    let of_sheet = sheets::of_call(call);
+    match of_sheet {
+        OfSheet::Asks(asked, query, sheet) => sheets::with_sheet(asked, query, sheet),
+        OfSheet::Nothing => answer(call),
     }
 }

@@ -1,6 +1,8 @@
 // What the program writes: on standard output the line of document 01 ("The desk's cases") or the bytes, and on standard error, beside a
 // refusal, what it means. What is written no contract can say; the lines and texts are said by the crates that make them.
 use draw::Drawing;
+use layout::PROGRAM_ALLOWANCE;
+use layout::WORD_AT;
 use libc::STDERR_FILENO;
 use libc::STDOUT_FILENO;
 use refusals::Reason;
@@ -17,7 +19,7 @@ pub fn write(fd: i32, out: &[u8], n: usize) {
 
 // Says on standard error what a refusal means.
 fn explain(why: Reason, place: usize, text: &[u8], out: &mut [u8]) {
-    let n = fence_words::refusal(out, why, place, text);
+    let n = refusal_texts::refusal(out, why, place, text);
     write(STDERR_FILENO, out, n);
 }
 
@@ -59,7 +61,7 @@ pub fn show_check(r: Checked, text: &[u8], out: &mut [u8]) {
     }
 }
 
-// Writes the graph that a passing refuted sheet draws, as bytes or as text; its word stands behind seven bytes.
+// Writes the graph that a passing refuted sheet draws, as bytes or as text; its word stands behind the verdict and the header of its field.
 pub fn show_graph(
     r: Drawing,
     as_text: bool,
@@ -74,8 +76,8 @@ pub fn show_graph(
                 write(STDOUT_FILENO, graph, n);
                 return;
             }
-            if 7 <= sheet.len() {
-                let m = dot::dot(text, &sheet[7..], texts::first(graph, n), out);
+            if WORD_AT <= sheet.len() {
+                let m = dot::dot(text, &sheet[WORD_AT..], texts::first(graph, n), out);
                 write(STDOUT_FILENO, out, m);
             }
         }
@@ -102,7 +104,7 @@ pub fn show_graph(
 pub fn query(text: &[u8], allowance: usize, words: &mut [u64], buffer: &mut [u8], out: &mut [u8])
     requires { ⌜ longestLine ≤ length (now out) ⌝ }
 {
-    if allowance != 200 {
+    if allowance != PROGRAM_ALLOWANCE {
         let r = search::search_alone(text, allowance, words, buffer);
         show(r, text, buffer, out);
         return;

@@ -1,12 +1,29 @@
 // The calls with a sheet: the query and the sheet are read, and the sheet is checked or its graph drawn. What is read and written no contract
 // can say.
 use crate::input::Input;
+use crate::input::TEXT;
+use arguments::Call;
+use layout::EDGE_BYTES;
+use layout::EVENT_BYTES;
+use layout::LONGEST_SHEET;
+use layout::RING_FIELD;
+
+// A longer sheet has a field within so many bytes that is wrong, the 4,097th standing at the latest.
+const SHEET: usize = LONGEST_SHEET + RING_FIELD;
+
+const GRAPH: usize = EVENT_BYTES + EDGE_BYTES;
 
 // What is asked of a sheet: whether it passes, or the graph that it draws, as bytes or as text.
 pub enum Asked {
     Check,
     Graph,
     Text,
+}
+
+// What a call asks of a sheet, with the arguments that name the query and the sheet; or it is a call without one.
+pub enum OfSheet {
+    Asks(Asked, usize, usize),
+    Nothing,
 }
 
 // Draws the graph of a sheet.
@@ -49,12 +66,12 @@ fn sheet_into(
     );
 }
 
-// A call with a sheet, with memory for every drawn graph: 64 events and at most 4,096 edges, since only where all steps of a ring have one
-// relation does closing join every event with every other.
+// A call with a sheet, with memory for the longest sheet and a standing more, and for every drawn graph: only where all steps of a ring have one
+// relation does closing join every event with every other, so that there are no more edges than one relation may have.
 pub fn with_sheet(asked: Asked, query: usize, sheet: usize) {
-    let mut text = [0u8; 4097];
-    let mut buffer = [0u8; 1102097];
-    let mut graph = [0u8; 24832];
+    let mut text = [0u8; TEXT];
+    let mut buffer = [0u8; SHEET];
+    let mut graph = [0u8; GRAPH];
     let mut out = [0u8; 262144];
     sheet_into(
         asked,
@@ -67,11 +84,19 @@ pub fn with_sheet(asked: Asked, query: usize, sheet: usize) {
     );
 }
 
-// The call that draws.
-pub fn drawn(as_text: bool, query: usize, sheet: usize) {
+// How a graph is drawn: as text, or as bytes.
+fn drawn(as_text: bool) -> Asked {
     if as_text {
-        with_sheet(Asked::Text, query, sheet);
-        return;
+        return Asked::Text;
     }
-    with_sheet(Asked::Graph, query, sheet);
+    Asked::Graph
+}
+
+// What a call asks of a sheet, if it is one that has a sheet. So the memory of such a call has one place in the program.
+pub fn of_call(call: Call) -> OfSheet {
+    match call {
+        Call::Check(query, sheet) => OfSheet::Asks(Asked::Check, query, sheet),
+        Call::Draw(as_text, query, sheet) => OfSheet::Asks(drawn(as_text), query, sheet),
+        _ => OfSheet::Nothing,
+    }
 }

@@ -1,5 +1,9 @@
 // The calls of a verdict and of its sheet: the query is read, searched and shown. What is read and written no contract can say.
 use crate::input::Input;
+use crate::input::TEXT;
+use layout::LONGEST_SHEET;
+use layout::MOST_WORDS;
+use layout::PROGRAM_ALLOWANCE;
 ghost use Prim.Native.Nat.{_≤_};
 ghost use lib.ListN.{length};
 ghost use Rattle.outcome_lines.specs.Shown.{longestLine};
@@ -32,13 +36,13 @@ fn search_into(
 
 // The query program of document 01, at its allowance: the line is made with memory of its own, so that none is lent.
 fn queried(file: usize) {
-    let mut text = [0u8; 4097];
+    let mut text = [0u8; TEXT];
     let mut words = [0u64; 0];
     let mut buffer = [0u8; 0];
     let mut out = [0u8; LINE];
     search_into(
         file,
-        200,
+        PROGRAM_ALLOWANCE,
         false,
         &mut text,
         &mut words,
@@ -49,9 +53,9 @@ fn queried(file: usize) {
 
 // The call of a verdict or its sheet, with memory for the largest allowance, its longest sheet and its longest line.
 pub fn searched(file: usize, allowance: usize, as_sheet: bool) {
-    let mut text = [0u8; 4097];
-    let mut words = [0u64; 163840];
-    let mut buffer = [0u8; 1102097];
+    let mut text = [0u8; TEXT];
+    let mut words = [0u64; MOST_WORDS];
+    let mut buffer = [0u8; LONGEST_SHEET];
     let mut out = [0u8; LINE];
     search_into(
         file,
@@ -66,7 +70,7 @@ pub fn searched(file: usize, allowance: usize, as_sheet: bool) {
 
 // The call of a verdict.
 pub fn verdict(file: usize, allowance: usize) {
-    if allowance == 200 {
+    if allowance == PROGRAM_ALLOWANCE {
         queried(file);
         return;
     }

@@ -2,19 +2,19 @@
 -- Assumes nothing.
 use Prim.Native.Nat.{ℕ, zero, suc, _+_, _*_, _≤_, _<_, _^_}
 use native.Mathlib.Omega.{arith}
-use mathlib.Core.Path.{_≡_, refl, sym, _∙_, ap, subst⁻¹}
+use mathlib.Core.Path.{_≡_, refl, _∙_, ap}
 use mathlib.Core.Logic.{⊎-elim}
-use mathlib.Core.Bool.{Bool, true, false, cond}
+use mathlib.Core.Bool.{cond}
 use mathlib.Core.List.{List, [], _∷_}
 use lib.Dec.{leb}
 use lib.ListN.{length, take, drop, getD, List·getD-eq-default}
 use borrow.Author.Tests.{le-leb, lt-leb}
-use Rattle.kat.specs.Lists.{In, here, there}
+use Rattle.kat.specs.Lists.{here, there}
 use Rattle.kat.proofs.Bools.{le-or-lt, lt-or-le}
 use Rattle.claims.specs.Fields.{fromBytes}
 use Rattle.claims.specs.SheetWriting.{AllBytes}
-use Rattle.words.specs.Memory.{words}
-use Rattle.words.proofs.Words.{words-length, words-at}
+use Rattle.memory.specs.Memory.{words}
+use Rattle.memory.proofs.Words.{words-length, words-at}
 use Rattle.fields.specs.Places.{cellAt, cellsAt}
 use Rattle.fields.proofs.Fields.{byte-first, header-first}
 

@@ -29,7 +29,7 @@ use Rattle.claims.proofs.CheckOrder.{judge-reads-first}
 use Rattle.claims.proofs.JudgeCall.{judge-call-is-meaning}
 use Rattle.codes.specs.Codes.{queryCodes}
 use Rattle.codes.proofs.Claimed.{Claimed, taken-claimed}
-use Rattle.words.specs.Memory.{zeros}
+use Rattle.memory.specs.Memory.{zeros}
 use Rattle.refusals.specs.Causes.{causeOf}
 use Rattle.refusals.specs.declared.Reason.{Reason}
 use Rattle.read_text.specs.Reading.{leftCodes}
@@ -40,10 +40,10 @@ use Rattle.query.specs.Answer.{factsOf, Says}
 use Rattle.side_items.specs.Items.{argsOf, paired, itemsOf}
 use Rattle.rows.specs.Outcomes.{pairOutcome, eventOutcome}
 use Rattle.tree_heights.proofs.LowLines.{low-lines}
-use Rattle.graph_read.specs.declared.Reading.{Reading}
-use Rattle.graph_read.specs.declared.Reading.the-variants.{Events, Wrong}
+use Rattle.graph_read.specs.declared.GraphRead.{GraphRead}
+use Rattle.graph_read.specs.declared.GraphRead.the-variants.{Events, Wrong}
 use Rattle.graph_read.specs.Reading.{listedWords, leftWords, Says as SaysGraph}
-use Rattle.graph_tables.specs.declared.State.{State}
+use Rattle.graph_tables.specs.declared.JudgedSoFar.{JudgedSoFar}
 use Rattle.graph_judge.specs.Machine.{performedAll, beginning}
 use Rattle.graph_judge.specs.Outcome.{outcomeOf}
 use Rattle.graph_judge.proofs.Graphed.{read-graphed}
@@ -85,7 +85,7 @@ first-codes codes i j e =
     (lt-or-le i (length codes))
 
 -- the first codes with what they need, in memory; i of them count, and j of these there are
-pub items-read : (L codes args rest : List ℕ) (n i j : ℕ) (r : State) → args ≡ argsOf (take j codes) → length args ≡ j → j ≡ min i (length codes)
+pub items-read : (L codes args rest : List ℕ) (n i j : ℕ) (r : JudgedSoFar) → args ≡ argsOf (take j codes) → length args ≡ j → j ≡ min i (length codes)
     → r ≡ performedAll L (beginning n) (paired (take j codes) (take j (args ++ rest))) .state
     → r ≡ performedAll L (beginning n) (itemsOf (take i codes)) .state
 unfolding itemsOf
@@ -161,7 +161,7 @@ module _ (text : List ℕ) (f : Facts) (said : Says (read text) (AcceptedFacts f
       (λ G. ok (judgement (finite G) (a .query) (a .claim))))) (z .asks)
       ∙ ap (λ S. afterwards (graphIn S gs) (λ G. ok (judgement (finite G) (z .query) (z .claim)))) (sym e)
 
-  module _ (gs : List ℕ) (m : ℕ) (few : m ≡ min (f .relations) 16) (x : Reading)
+  module _ (gs : List ℕ) (m : ℕ) (few : m ≡ min (f .relations) 16) (x : GraphRead)
       (reads : SaysGraph (graphIn (record { atoms = f .atoms; relations = m }) gs) x) where
     -- a wrong field
     pub wrong-field : (k : ℕ) → x ≡ Wrong k → resultOf (Refused Reason.GraphField k) ≡ judge-call text gs
@@ -177,7 +177,7 @@ module _ (text : List ℕ) (f : Facts) (said : Says (read text) (AcceptedFacts f
 
     -- a graph: its judgement
     pub events-judged : (n : ℕ) → x ≡ Events n → (L : List ℕ) → L ≡ leftWords (graphIn (record { atoms = f .atoms; relations = m }) gs) → length codes ≡ 4096
-        → (s : State) → s ≡ performedAll L (beginning n) (itemsOf (take (min (f .codes) 4096) codes)) .state
+        → (s : JudgedSoFar) → s ≡ performedAll L (beginning n) (itemsOf (take (min (f .codes) 4096) codes)) .state
         → (r : Judged) → resultOf r ≡ says (s .broken) (outcomeOf (f .ring) (s .found)) → resultOf r ≡ judge-call text gs
     unfolding leftWords factsOf judgement
     events-judged n e L is-words size s is-state r is-result =
@@ -205,7 +205,7 @@ module _ (text : List ℕ) (f : Facts) (said : Says (read text) (AcceptedFacts f
             in
             let ring : f .ring ≡ ringClaim c = ap (λ (x : Facts). x .ring) (z .facts) ∙ claim-ring q c in
             is-result
-            ∙ ap₂ (λ (t : State) b. says (t .broken) (outcomeOf b (t .found))) same ring
+            ∙ ap₂ (λ (t : JudgedSoFar) b. says (t .broken) (outcomeOf b (t .found))) same ring
             ∙ ap₂ says (J .line) (J .outcome)
             ∙ sym (called z gs R (ranges z m few) ∙ ap (λ r. afterwards r (λ G. ok (judgement (finite G) q c))) g)
 

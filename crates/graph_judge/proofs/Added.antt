@@ -12,7 +12,7 @@ use lib.Seq.{getD-set-same, getD-set-other}
 use borrow.Author.Tests.{lt-ltb}
 use Rattle.rows.specs.Rows.{blank}
 use Rattle.rows.proofs.Shown.{Shows}
-use Rattle.graph_tables.specs.declared.State.{State}
+use Rattle.graph_tables.specs.declared.JudgedSoFar.{JudgedSoFar}
 use Rattle.graph_tables.specs.Machine.{Judging, tableAt, top, second, waitingNow, pushed, changedTop, merged}
 
 -- from j on a table more waits, which shows f over n events
@@ -41,7 +41,7 @@ module _ (n : ℕ) where
   added-lets f j k l s a i h = a .kept i (omega arith) ∙ s i h
 
   -- a table stored behind those that waited
-  added-store : (f : ℕ → ℕ → Bool) (k : Judging) (m : List (List ℕ)) (st : State) (i : ℕ) (t : List ℕ)
+  added-store : (f : ℕ → ℕ → Bool) (k : Judging) (m : List (List ℕ)) (st : JudgedSoFar) (i : ℕ) (t : List ℕ)
       → st ≡ waitingNow (k .state) (k .state .waiting + 1) → length m ≡ length (k .mem)
       → ((i : ℕ) → i < 32 + k .state .waiting → tableAt m i ≡ tableAt (k .mem) i)
       → i ≡ 32 + k .state .waiting → i < length m → Shows n t f → Added n f k (record { mem = set m i t; state = st })
@@ -70,7 +70,7 @@ module _ (n : ℕ) where
   adds-changed h f g j F op one shows a k r s =
       let x = a k r s in
       let w = k .state .waiting in
-      let e : 31 + F k .state .waiting ≡ 32 + w = omega (arith, ap (λ (s : State). s .waiting) (x .state)) in
+      let e : 31 + F k .state .waiting ≡ 32 + w = omega (arith, ap (λ (s : JudgedSoFar). s .waiting) (x .state)) in
       added-store g k (F k .mem) (F k .state) (31 + F k .state .waiting) (op (top (F k))) (x .state) (x .size) (x .kept) e
       (omega (arith, x .size, r .size, r .room))
       (shows (top (F k)) (subst (λ i. Shows n (tableAt (F k .mem) i) f) (sym e) (x .shown)))
@@ -85,14 +85,14 @@ module _ (n : ℕ) where
       let x = a k (record { events = r .events; size = r .size; room = omega (arith, r .room) }) s in
       let y = b (F k)
       (record {
-        events = ap (λ (s : State). s .events) (x .state) ∙ r .events;
+        events = ap (λ (s : JudgedSoFar). s .events) (x .state) ∙ r .events;
         size = x .size ∙ r .size;
-        room = omega (arith, ap (λ (s : State). s .waiting) (x .state), r .room);
+        room = omega (arith, ap (λ (s : JudgedSoFar). s .waiting) (x .state), r .room);
       })
       (added-lets f j k (F k) s x) in
       let l = K (F k) in
-      let v : F k .state .waiting ≡ w + 1 = ap (λ (s : State). s .waiting) (x .state) in
-      let z : l .state .waiting ≡ w + 2 = omega (arith, ap (λ (s : State). s .waiting) (y .state)) in
+      let v : F k .state .waiting ≡ w + 1 = ap (λ (s : JudgedSoFar). s .waiting) (x .state) in
+      let z : l .state .waiting ≡ w + 2 = omega (arith, ap (λ (s : JudgedSoFar). s .waiting) (y .state)) in
       let low : 30 + l .state .waiting ≡ 32 + w = omega arith in
       let high : 31 + l .state .waiting ≡ 32 + F k .state .waiting = omega arith in
       added-store e k (l .mem) (waitingNow (l .state) (l .state .waiting - 1)) (30 + l .state .waiting) (op (second l) (top l))
@@ -108,7 +108,7 @@ module _ (n : ℕ) where
 module _ (n : ℕ) (f : ℕ → ℕ → Bool) (j k : Judging) (a : Added n f j k) where
   -- so many tables wait then, and the other numbers stay
   pub one-more : k .state .waiting ≡ j .state .waiting + 1
-  one-more = ap (λ (s : State). s .waiting) (a .state)
+  one-more = ap (λ (s : JudgedSoFar). s .waiting) (a .state)
 
   -- the new table is on top
   pub top-shows : Shows n (top k) f
@@ -119,6 +119,6 @@ module _ (n : ℕ) (f : ℕ → ℕ → Bool) (j k : Judging) (a : Added n f j k
   -- and after another one below it
   pub second-shows : (g : ℕ → ℕ → Bool) (l : Judging) → Added n g k l → Shows n (second l) f
   second-shows g l b =
-      let e : 32 + j .state .waiting ≡ 30 + l .state .waiting = omega (arith, one-more, ap (λ (s : State). s .waiting) (b .state)) in
+      let e : 32 + j .state .waiting ≡ 30 + l .state .waiting = omega (arith, one-more, ap (λ (s : JudgedSoFar). s .waiting) (b .state)) in
       subst (λ i. Shows n (tableAt (l .mem) i) f) e
       (subst (λ t. Shows n t f) (sym (b .kept (32 + j .state .waiting) (omega (arith, one-more)))) (a .shown))

@@ -8,9 +8,9 @@ use mathlib.Core.List.{List}
 use lib.Dec.{eqb, ltb}
 use lib.ListN.{getD, set, replicate}
 use borrow.Author.Tests.{lt-ltb, le-ltb, eq-eqb, ne-eqb}
-use Rattle.words.specs.Memory.{zeros}
+use Rattle.memory.specs.Memory.{zeros}
 use Rattle.rows.specs.Rows.{blank, composed, lowestPair}
-use Rattle.graph_tables.specs.declared.State.{State}
+use Rattle.graph_tables.specs.declared.JudgedSoFar.{JudgedSoFar}
 use Rattle.graph_tables.specs.Listed.{relationRows, eventsWith}
 use Rattle.graph_tables.specs.Machine.{Judging, judging, top, second, operated}
 use Rattle.graph_judge.specs.Machine.{onward, brokenIf, foundNow, keptLet, outside, unclosed, anyPair, anyLoop, relationLine, judgedLine, lineEnded, performed}
@@ -25,26 +25,26 @@ first-before b old line e f = sym (ap₂ (λ x y. cond (x && y) line old) e (ne-
 pub not-now : (b : Bool) (old line : ℕ) → b ≡ false → old ≡ cond (b && eqb old 0) line old
 not-now b old line e = sym (ap (λ x. cond (x && eqb old 0) line old) e)
 
-abbrev at-end : State → ℕ → State
+abbrev at-end : JudgedSoFar → ℕ → JudgedSoFar
 at-end s b = record { events = s .events; waiting = 0; lets = s .lets; line = s .line + 1; broken = b; found = s .found }
 
-pub broken-state : (s : State) (b : Bool) (m : ℕ) → m ≡ cond (b && eqb (s .broken) 0) (s .line) (s .broken)
+pub broken-state : (s : JudgedSoFar) (b : Bool) (m : ℕ) → m ≡ cond (b && eqb (s .broken) 0) (s .line) (s .broken)
     → record { events = s .events; waiting = 0; lets = s .lets; line = s .line + 1; broken = m; found = s .found } ≡ brokenIf b s
 unfolding brokenIf
 broken-state s b m e = ap (at-end s) e
 
-pub found-state : (s : State) (m : ℕ)
+pub found-state : (s : JudgedSoFar) (m : ℕ)
     → record { events = s .events; waiting = 0; lets = s .lets; line = s .line + 1; broken = s .broken; found = m } ≡ foundNow m s
 unfolding foundNow
 found-state s m = refl
 
 -- nothing to judge
-pub onward-state : (s : State) → brokenIf false s ≡ onward s
+pub onward-state : (s : JudgedSoFar) → brokenIf false s ≡ onward s
 unfolding brokenIf
 onward-state s = refl
 
 -- the table of a let
-pub kept-room : (m m′ : List (List ℕ)) (s : State) (t : List ℕ) → s .lets < 32 → t ≡ getD m (31 + s .waiting) blank → m′ ≡ set m (s .lets) t
+pub kept-room : (m m′ : List (List ℕ)) (s : JudgedSoFar) (t : List ℕ) → s .lets < 32 → t ≡ getD m (31 + s .waiting) blank → m′ ≡ set m (s .lets) t
     → judging m′ (record {
       events = s .events;
       waiting = 0;
@@ -55,29 +55,29 @@ pub kept-room : (m m′ : List (List ℕ)) (s : State) (t : List ℕ) → s .let
     }) ≡ keptLet (judging m s)
 unfolding keptLet
 kept-room m m′ s t h e f =
-    let after : State = record { events = s .events; waiting = 0; lets = s .lets + 1; line = s .line + 1; broken = s .broken; found = s .found } in
+    let after : JudgedSoFar = record { events = s .events; waiting = 0; lets = s .lets + 1; line = s .line + 1; broken = s .broken; found = s .found } in
     ap (λ x. judging x after) (f ∙ ap (set m (s .lets)) e)
     ∙ sym (ap (λ c. cond c (judging (set m (s .lets) (top (judging m s))) after) (judging m (onward s))) (lt-ltb (s .lets) 32 h))
 
-pub kept-full : (m : List (List ℕ)) (s r : State) → 32 ≤ s .lets → r ≡ brokenIf false s → judging m r ≡ keptLet (judging m s)
+pub kept-full : (m : List (List ℕ)) (s r : JudgedSoFar) → 32 ≤ s .lets → r ≡ brokenIf false s → judging m r ≡ keptLet (judging m s)
 unfolding keptLet
 kept-full m s r h e =
-    let after : State = record { events = s .events; waiting = 0; lets = s .lets + 1; line = s .line + 1; broken = s .broken; found = s .found } in
+    let after : JudgedSoFar = record { events = s .events; waiting = 0; lets = s .lets + 1; line = s .line + 1; broken = s .broken; found = s .found } in
     ap (judging m) (e ∙ onward-state s)
     ∙ sym (ap (λ c. cond c (judging (set m (s .lets) (top (judging m s))) after) (judging m (onward s))) (le-ltb (s .lets) 32 h))
 
 -- the lowest pair and event of the table on top
-pub pair-read : (m : List (List ℕ)) (s : State) (t : List ℕ) (r : ℕ) → t ≡ getD m (31 + s .waiting) blank
+pub pair-read : (m : List (List ℕ)) (s : JudgedSoFar) (t : List ℕ) (r : ℕ) → t ≡ getD m (31 + s .waiting) blank
     → r ≡ lowestPair t (replicate 64 0) (s .events) → r ≡ anyPair (judging m s)
 unfolding blank zeros
 pair-read m s t r e f = f ∙ ap (λ u. lowestPair u (replicate 64 0) (s .events)) e
 
-pub apart-read : (m : List (List ℕ)) (s : State) (t u : List ℕ) (r : ℕ) → t ≡ getD m (30 + s .waiting) blank → u ≡ getD m (31 + s .waiting) blank
+pub apart-read : (m : List (List ℕ)) (s : JudgedSoFar) (t u : List ℕ) (r : ℕ) → t ≡ getD m (30 + s .waiting) blank → u ≡ getD m (31 + s .waiting) blank
     → r ≡ lowestPair t u (s .events) → r ≡ lowestPair (second (judging m s)) (top (judging m s)) (s .events)
 apart-read m s t u r e f g = g ∙ ap₂ (λ x y. lowestPair x y (s .events)) e f
 
 -- the limits of a relation, and whether it is closed
-pub limits-read : (L : List ℕ) (m : List (List ℕ)) (s : State) (r : ℕ) (t u e f g : List ℕ) (k : ℕ) → t ≡ getD m (30 + s .waiting) blank
+pub limits-read : (L : List ℕ) (m : List (List ℕ)) (s : JudgedSoFar) (r : ℕ) (t u e f g : List ℕ) (k : ℕ) → t ≡ getD m (30 + s .waiting) blank
     → u ≡ getD m (31 + s .waiting) blank → e ≡ relationRows L r → f ≡ composed t e → g ≡ composed f u → k ≡ lowestPair e g (s .events)
     → ltb k 4096 ≡ outside L (judging m s) r
 unfolding outside
@@ -86,7 +86,7 @@ limits-read L m s r t u e f g k a b c d h i =
     ∙ ap₂ (λ x y. lowestPair x y (s .events)) c
     (h ∙ ap₂ composed (d ∙ ap₂ composed a c) b))
 
-pub closed-read : (L : List ℕ) (s : State) (r : ℕ) (e f : List ℕ) (k : ℕ) → e ≡ relationRows L r → f ≡ composed e e → k ≡ lowestPair f e (s .events)
+pub closed-read : (L : List ℕ) (s : JudgedSoFar) (r : ℕ) (e f : List ℕ) (k : ℕ) → e ≡ relationRows L r → f ≡ composed e e → k ≡ lowestPair f e (s .events)
     → ltb k 4096 ≡ unclosed L s r
 unfolding unclosed
 closed-read L s r e f k a b c =
@@ -101,9 +101,13 @@ module _ (L : List ℕ) (j : Judging) (k : ℕ) where
   unfolding relationLine
   ends-within h i = rw (le-ltb k 144 h, lt-ltb k 160 i) refl
 
-  pub ends-closed : 160 ≤ k → relationLine L j k ≡ brokenIf (unclosed L (j .state) (k - 160)) (j .state)
+  pub ends-closed : 160 ≤ k → k < 176 → relationLine L j k ≡ brokenIf (unclosed L (j .state) (k - 160)) (j .state)
   unfolding relationLine
-  ends-closed h = rw (le-ltb k 144 (omega arith), le-ltb k 160 h) refl
+  ends-closed h i = rw (le-ltb k 144 (omega arith), le-ltb k 160 h, lt-ltb k 176 i) refl
+
+  pub ends-past : 176 ≤ k → relationLine L j k ≡ onward (j .state)
+  unfolding relationLine
+  ends-past h = rw (le-ltb k 144 (omega arith), le-ltb k 160 (omega arith), le-ltb k 176 h) refl
 
   module _ (x : ℕ) where
     pub ends-never : k ≡ 131 → judgedLine L j k x ≡ brokenIf (not (eqb (eventsWith L (j .state .events) x) 0)) (j .state)
@@ -151,7 +155,7 @@ module _ (L : List ℕ) (j : Judging) (k : ℕ) where
         sym (ap (λ c. cond c (operated L j k x) (lineEnded L j k x)) (le-ltb k 128 h)
         ∙ ap (λ c. cond c (keptLet j) (record { mem = j .mem; state = judgedLine L j k x })) (eq-eqb k 130 e))
 
-    pub does-end : 128 ≤ k → (k ≡ 130 → ⊥) → (r : State) → r ≡ judgedLine L j k x → judging (j .mem) r ≡ performed L j (record { code = k; arg = x })
+    pub does-end : 128 ≤ k → (k ≡ 130 → ⊥) → (r : JudgedSoFar) → r ≡ judgedLine L j k x → judging (j .mem) r ≡ performed L j (record { code = k; arg = x })
     unfolding performed lineEnded
     does-end h n r e =
         ap (judging (j .mem)) e

@@ -35,7 +35,7 @@ use Rattle.side_items.proofs.EarlierTests.{set-earlier}
 use Rattle.rows.specs.Rows.{joined, composed, reflexive, rounds, eventsIn, diagonal}
 use Rattle.rows.proofs.Shown.{Shows, shows-same, shows-joined, shows-composed, shows-closed, shows-reflexive, bit-events, shows-diagonal}
 use Rattle.tree_heights.specs.Heights.{height}
-use Rattle.graph_tables.specs.declared.State.{State}
+use Rattle.graph_tables.specs.declared.JudgedSoFar.{JudgedSoFar}
 use Rattle.graph_tables.specs.Listed.{relationRows, eventsWith}
 use Rattle.graph_tables.specs.Machine.{Judging, tableAt, pushed, changedTop, merged, operated}
 use Rattle.graph_judge.specs.Machine.{performed, performedAll}
@@ -219,7 +219,7 @@ module _ (G : Finite) (q : Query) (L : List ℕ) (n : ℕ) (g : Graphed G L n) w
         adds-same n (height e) f f′ j (λ k. changedTop (op n) (performedAll L k (treeItems ss p e)))
         (λ k. performedAll L k (treeItems ss p e ++ (item c 0 ∷ [])))
         (λ k r l. sym (performed-last L k (treeItems ss p e) (item c 0) ∙ does (performedAll L k (treeItems ss p e))
-        ∙ ap (λ m. changedTop (op m) (performedAll L k (treeItems ss p e))) (ap (λ (s : State). s .events) (a k r l .state) ∙ r .events)))
+        ∙ ap (λ m. changedTop (op m) (performedAll L k (treeItems ss p e))) (ap (λ (s : JudgedSoFar). s .events) (a k r l .state) ∙ r .events)))
         same
         (adds-changed n (height e) (related e) f j (λ k. performedAll L k (treeItems ss p e)) (op n) (height-some e) shows a)
 

@@ -18,8 +18,8 @@ use Rattle.claims.specs.Refusals.{ok}
 use Rattle.claims.specs.GraphBytes.{Listed, Ranges, finite, graphIn}
 use Rattle.claims.specs.GraphWriting.{WellListed, edgeOf}
 use Rattle.claims.proofs.GraphReading.{edge-is-listed, getD-in, graph-accepted}
-use Rattle.words.specs.Memory.{words}
-use Rattle.words.proofs.Words.{words-at}
+use Rattle.memory.specs.Memory.{words}
+use Rattle.memory.proofs.Words.{words-at}
 use Rattle.bits.proofs.Bit.{bit-above}
 use Rattle.side_atoms.specs.Atoms.{atomsOf}
 use Rattle.side_atoms.proofs.Atoms.{atoms-bit, atoms-small}

@@ -18,7 +18,7 @@ use Rattle.claims.specs.Judgement.{breaks, claimed}
 use Rattle.claims.proofs.Results.{each-append}
 use Rattle.rows.specs.Rows.{blank}
 use Rattle.rows.proofs.Shown.{Shows}
-use Rattle.graph_tables.specs.declared.State.{State}
+use Rattle.graph_tables.specs.declared.JudgedSoFar.{JudgedSoFar}
 use Rattle.graph_tables.specs.Machine.{Judging, tableAt, top}
 use Rattle.graph_judge.specs.Machine.{onward, brokenIf, foundNow, keptLet}
 use Rattle.graph_judge.specs.Outcome.{outcomeOf}
@@ -81,9 +81,9 @@ module _ (G : Finite) (q : Query) (L : List ℕ) (n : ℕ) (g : Graphed G L n) w
   added-in-line p f j k few a s =
       record {
         size = a .size ∙ s .size;
-        events = ap (λ (s : State). s .events) (a .state) ∙ s .events;
-        lets-before = ap (λ (s : State). s .lets) (a .state) ∙ s .lets-before;
-        number = ap (λ (s : State). s .line) (a .state) ∙ s .number;
+        events = ap (λ (s : JudgedSoFar). s .events) (a .state) ∙ s .events;
+        lets-before = ap (λ (s : JudgedSoFar). s .lets) (a .state) ∙ s .lets-before;
+        number = ap (λ (s : JudgedSoFar). s .line) (a .state) ∙ s .number;
         known = known-kept 0 (each lets p) (j .mem) (k .mem) (omega arith) (λ x l. a .kept x (omega arith)) (s .known);
       }
 
@@ -139,7 +139,7 @@ module _ (G : Finite) (q : Query) (L : List ℕ) (n : ℕ) (g : Graphed G L n) w
   unfolding keptLet lets breaks
   let-done p m e j k few s b i =
       let st = k .state in
-      let after : State = record { events = st .events; waiting = 0; lets = st .lets + 1; line = st .line + 1; broken = st .broken; found = st .found } in
+      let after : JudgedSoFar = record { events = st .events; waiting = 0; lets = st .lets + 1; line = st .line + 1; broken = st .broken; found = st .found } in
       let kept : Judging = record { mem = set (k .mem) (st .lets) (top k); state = after } in
       let bs = each lets p in
       let own : Bound Tree = record { called = m; means = e } in

@@ -28,7 +28,7 @@ use Rattle.rows.specs.Rows.{composed, NOWHERE, lowestPair}
 use Rattle.rows.proofs.Shown.{Shows, shows-same}
 use Rattle.tree_heights.specs.Heights.{height}
 use Rattle.graph_tables.specs.Listed.{relationRows}
-use Rattle.graph_tables.specs.declared.State.{State}
+use Rattle.graph_tables.specs.declared.JudgedSoFar.{JudgedSoFar}
 use Rattle.graph_tables.specs.Machine.{Judging, judging, top, second}
 use Rattle.graph_judge.specs.Machine.{outside, unclosed, brokenIf, relationLine, performed, performedAll}
 use Rattle.graph_judge.proofs.Ends.{ends-within, ends-closed, ends-other, does-end}
@@ -41,7 +41,7 @@ use Rattle.graph_judge.proofs.Lines.{expression-added}
 
 -- the end of a line on a relation
 module _ (L : List ℕ) (j : Judging) (k : ℕ) (h : 144 ≤ k) where
-  relation-does : (r : State) → r ≡ relationLine L j k → performed L j (item k 0) ≡ judging (j .mem) r
+  relation-does : (r : JudgedSoFar) → r ≡ relationLine L j k → performed L j (item k 0) ≡ judging (j .mem) r
   relation-does r e =
       sym (does-end L j k 0 (omega arith) (λ z. omega arith) r
       (e ∙ sym (ends-other L j k 0 (λ z. omega arith) (λ z. omega arith) (λ z. omega arith) (λ z. omega arith) (λ z. omega arith) (λ z. omega arith)
@@ -58,7 +58,7 @@ module _ (L : List ℕ) (j : Judging) (r : ℕ) (h : r < 16) where
   closed-does =
       let e : 160 + r - 160 ≡ r = omega arith in
       relation-does L j (160 + r) (omega arith) (brokenIf (unclosed L (j .state) r) (j .state))
-      (sym (ends-closed L j (160 + r) (omega arith) ∙ ap (λ i. brokenIf (unclosed L (j .state) i) (j .state)) e))
+      (sym (ends-closed L j (160 + r) (omega arith) (omega arith) ∙ ap (λ i. brokenIf (unclosed L (j .state) i) (j .state)) e))
 
 module _ (G : Finite) (q : Query) (L : List ℕ) (n : ℕ) (g : Graphed G L n) (o : Orderly [] q) (p r : Query) (z : p ++ r ≡ q) (s : Settled p)
     (ss : List ℕ) (j : Judging) (i : InLine G q L n g p j) (w : j .state .waiting ≡ 0) (m : Name) (e : slip p (usesRelation m) ≡ none) where

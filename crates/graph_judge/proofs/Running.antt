@@ -15,17 +15,17 @@ use borrow.Author.Tests.{ltb-true}
 use Rattle.kat.proofs.Bools.{le-or-lt}
 use Rattle.rows.specs.Rows.{joined, composed, reflexive, rounds, diagonal, lowestPair}
 use Rattle.side_items.specs.Items.{Item, paired}
-use Rattle.graph_tables.specs.declared.State.{State}
+use Rattle.graph_tables.specs.declared.JudgedSoFar.{JudgedSoFar}
 use Rattle.graph_tables.specs.Listed.{relationRows, eventsWith}
 use Rattle.graph_tables.specs.Machine.{Judging, judging, tableAt, top, second, waitingNow, pushed, changedTop, merged, operated}
 use Rattle.graph_judge.specs.Machine.{brokenIf, foundNow, keptLet, outside, unclosed, anyPair, anyLoop, relationLine, judgedLine, lineEnded, performed, performedAll}
 
 -- the bounds of a state, in line b at the most
-pub record Steady (b : ℕ) (s : State) : Type 0 where
+pub record Steady (b : ℕ) (s : JudgedSoFar) : Type 0 where
   pub few-waiting : s .waiting ≤ 68
   pub few-lines : s .line ≤ b
 
-either-steady : (b : ℕ) (c : Bool) (s t : State) → Steady b s → Steady b t → Steady b (cond c s t)
+either-steady : (b : ℕ) (c : Bool) (s t : JudgedSoFar) → Steady b s → Steady b t → Steady b (cond c s t)
 either-steady b true s t h k = h
 either-steady b false s t h k = k
 
@@ -93,7 +93,9 @@ module _ (L : List ℕ) (b : ℕ) (j : Judging) (h : Steady b (j .state)) where
   unfolding relationLine
   relation-steady k =
       either-steady (b + 1) (ltb k 144) _ _ (next (j .state .lets) (j .state .broken) (j .state .found))
-      (either-steady (b + 1) (ltb k 160) _ _ (broken-steady (outside L j (k - 144))) (broken-steady (unclosed L (j .state) (k - 160))))
+      (either-steady (b + 1) (ltb k 160) _ _ (broken-steady (outside L j (k - 144)))
+      (either-steady (b + 1) (ltb k 176) _ _ (broken-steady (unclosed L (j .state) (k - 160)))
+      (next (j .state .lets) (j .state .broken) (j .state .found))))
 
   line-steady : (k x : ℕ) → Steady (b + 1) (judgedLine L j k x)
   unfolding judgedLine
@@ -113,18 +115,18 @@ module _ (L : List ℕ) (b : ℕ) (j : Judging) (h : Steady b (j .state)) where
       (either-judging (b + 1) (eqb (i .code) 130) _ _ kept-steady (line-steady (i .code) (i .arg)))
 
 -- what holds in the loop at place i, from s on
-pub record Goes (L ks xs : List ℕ) (m : List (List ℕ)) (s : State) (m′ : List (List ℕ)) (t : State) (i : ℕ) : Type 0 where
+pub record Goes (L ks xs : List ℕ) (m : List (List ℕ)) (s : JudgedSoFar) (m′ : List (List ℕ)) (t : JudgedSoFar) (i : ℕ) : Type 0 where
   pub place : i ≤ min (length ks) (length xs)
   pub size : length m′ ≡ length m
   pub bounds : Steady (4096 + i) t
   pub left : performedAll L (judging m′ t) (paired (drop i ks) (drop i xs)) ≡ performedAll L (judging m s) (paired ks xs)
 
-module _ (L ks xs : List ℕ) (m : List (List ℕ)) (s : State) where
+module _ (L ks xs : List ℕ) (m : List (List ℕ)) (s : JudgedSoFar) where
   pub goes-begin : s .waiting ≤ 68 → s .line ≤ 4096 → Goes L ks xs m s m s 0
   goes-begin a b =
       record { place = omega arith; size = refl; bounds = record { few-waiting = a; few-lines = omega arith }; left = refl }
 
-  pub goes-more : (m′ : List (List ℕ)) (t : State) (i : ℕ) (m″ : List (List ℕ)) (u : State) → Goes L ks xs m s m′ t i → length m″ ≡ length m′ → i < length ks → i < length xs
+  pub goes-more : (m′ : List (List ℕ)) (t : JudgedSoFar) (i : ℕ) (m″ : List (List ℕ)) (u : JudgedSoFar) → Goes L ks xs m s m′ t i → length m″ ≡ length m′ → i < length ks → i < length xs
       → judging m″ u ≡ performed L (judging m′ t) (record { code = getD ks i 0; arg = getD xs i 0 }) → Goes L ks xs m s m″ u (i + 1)
   unfolding performedAll paired
   goes-more m′ t i m″ u g l h k e =
@@ -145,7 +147,7 @@ module _ (L ks xs : List ℕ) (m : List (List ℕ)) (s : State) where
           record { few-waiting = x .few-waiting; few-lines = omega (arith, x .few-lines) }
 
   -- past the codes, or past what they need, nothing is left
-  pub goes-end : (m′ : List (List ℕ)) (t : State) (i : ℕ) → Goes L ks xs m s m′ t i → min (length ks) (length xs) ≤ i
+  pub goes-end : (m′ : List (List ℕ)) (t : JudgedSoFar) (i : ℕ) → Goes L ks xs m s m′ t i → min (length ks) (length xs) ≤ i
       → judging m′ t ≡ performedAll L (judging m s) (paired ks xs)
   unfolding performedAll paired
   goes-end m′ t i g h = sym (ap (λ is. performedAll L (judging m′ t) is) none-left) ∙ g .left

@@ -7,20 +7,20 @@ use mathlib.Core.Bool.{Bool, cond, not, _&&_}
 use mathlib.Core.List.{List, [], _∷_}
 use lib.Dec.{eqb, ltb}
 use lib.ListN.{set, replicate}
-use Rattle.codes.specs.Codes.{LINE, LET-LINE, NEVER-LINE, ASSUME-EMPTY, ASSUME-IRREFLEXIVE, INCLUDED, CLAIM-INCLUDE, CLAIM-EMPTY, CLAIM-IRREFLEXIVE, WITHIN-LINE, CLOSED-LINE, MOST-LETS}
+use Rattle.codes.specs.Codes.{LINE, LET-LINE, NEVER-LINE, ASSUME-EMPTY, ASSUME-IRREFLEXIVE, INCLUDED, CLAIM-INCLUDE, CLAIM-EMPTY, CLAIM-IRREFLEXIVE, WITHIN-LINE, CLOSED-LINE, CLOSED-END, MOST-LETS}
 use Rattle.side_items.specs.Items.{Item}
 use Rattle.rows.specs.Rows.{blank, composed, NOWHERE, lowestPair, lowestLoop}
-use Rattle.graph_tables.specs.declared.State.{State}
+use Rattle.graph_tables.specs.declared.JudgedSoFar.{JudgedSoFar}
 use Rattle.graph_tables.specs.Listed.{relationRows, eventsWith}
 use Rattle.graph_tables.specs.Machine.{Judging, TABLES, top, second, operated}
 
 -- a line ends: nothing waits, and the next line begins
-abbrev pub onward : State → State
+abbrev pub onward : JudgedSoFar → JudgedSoFar
 onward s =
     record { events = s .events; waiting = 0; lets = s .lets; line = s .line + 1; broken = s .broken; found = s .found }
 
 -- a line ends that is broken or not; the first broken one stays
-unfoldable pub brokenIf : Bool → State → State
+unfoldable pub brokenIf : Bool → JudgedSoFar → JudgedSoFar
 brokenIf b s =
     onward (record {
       events = s .events;
@@ -32,7 +32,7 @@ brokenIf b s =
     })
 
 -- the claim ends, and this is found of it
-unfoldable pub foundNow : ℕ → State → State
+unfoldable pub foundNow : ℕ → JudgedSoFar → JudgedSoFar
 foundNow m s =
     onward (record { events = s .events; waiting = s .waiting; lets = s .lets; line = s .line; broken = s .broken; found = m })
 
@@ -61,7 +61,7 @@ outside L j r =
     ltb (lowestPair t (composed (composed (second j) t) (top j)) (j .state .events)) NOWHERE
 
 -- relation r lacks a pair that two of its pairs in a row lead to
-unfoldable pub unclosed : List ℕ → State → ℕ → Bool
+unfoldable pub unclosed : List ℕ → JudgedSoFar → ℕ → Bool
 unclosed L s r = let t = relationRows L r in ltb (lowestPair (composed t t) t (s .events)) NOWHERE
 
 -- the table on top has a pair, or relates an event to itself; the lowest of each
@@ -72,14 +72,15 @@ abbrev pub anyLoop : Judging → ℕ
 anyLoop j = lowestLoop (top j) (j .state .events)
 
 -- the state behind a line on a relation, `within` or `closed`, or one with nothing to judge
-unfoldable pub relationLine : List ℕ → Judging → ℕ → State
+unfoldable pub relationLine : List ℕ → Judging → ℕ → JudgedSoFar
 relationLine L j k =
     let s = j .state in
     cond (ltb k WITHIN-LINE) (onward s)
-    (cond (ltb k CLOSED-LINE) (brokenIf (outside L j (k - WITHIN-LINE)) s) (brokenIf (unclosed L s (k - CLOSED-LINE)) s))
+    (cond (ltb k CLOSED-LINE) (brokenIf (outside L j (k - WITHIN-LINE)) s)
+    (cond (ltb k CLOSED-END) (brokenIf (unclosed L s (k - CLOSED-LINE)) s) (onward s)))
 
 -- the state behind the end of a line that is no let
-unfoldable pub judgedLine : List ℕ → Judging → ℕ → ℕ → State
+unfoldable pub judgedLine : List ℕ → Judging → ℕ → ℕ → JudgedSoFar
 judgedLine L j k x =
     let s = j .state in
     cond (eqb k NEVER-LINE) (brokenIf (not (eqb (eventsWith L (s .events) x) 0)) s)

@@ -17,9 +17,9 @@ use Rattle.kat.proofs.Bools.{lt-or-le}
 use Rattle.claims.specs.Query.{bit}
 use Rattle.claims.specs.GraphBytes.{Edge, Listed, sameEdge, finite}
 use Rattle.claims.proofs.GraphReading.{moreEvent, moreEdge}
-use Rattle.words.specs.Memory.{words, zeros}
-use Rattle.words.proofs.Words.{words-length, words-at, words-ext, same-or-not}
-use Rattle.words.proofs.Zeros.{zeros-words}
+use Rattle.memory.specs.Memory.{words, zeros}
+use Rattle.memory.proofs.Words.{words-length, words-at, words-ext, same-or-not}
+use Rattle.memory.proofs.Zeros.{zeros-words}
 use Rattle.bits.specs.Sets.{including}
 use Rattle.bits.proofs.Rows.{bit-including, including-below}
 use Rattle.side_atoms.specs.Atoms.{atomsOf}

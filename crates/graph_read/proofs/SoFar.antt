@@ -11,10 +11,10 @@ use lib.ListN.{length, drop, length-drop, drop-of-length-le}
 use Rattle.claims.specs.Fields.{nextField, afterField}
 use Rattle.claims.specs.Refusals.{graphField, Result, ok, refused, refuse}
 use Rattle.claims.specs.GraphBytes.{Listed, Ranges, withField, fieldsIn, graphIn}
-use Rattle.words.specs.Memory.{zeros}
+use Rattle.memory.specs.Memory.{zeros}
 use Rattle.graph_read.specs.Reading.{leftWords, Says}
-use Rattle.graph_read.specs.declared.Reading.{Reading}
-use Rattle.graph_read.specs.declared.Reading.the-variants.{Events, Wrong}
+use Rattle.graph_read.specs.declared.GraphRead.{GraphRead}
+use Rattle.graph_read.specs.declared.GraphRead.the-variants.{Events, Wrong}
 use Rattle.graph_read.specs.declared.Turn.{Turn}
 use Rattle.graph_read.specs.declared.Turn.the-variants.{On, Not}
 use Rattle.graph_read.specs.inner.Steps.{Held, Turns, Leaves}
@@ -120,18 +120,18 @@ module _ {R : Ranges} {bs : List ℕ} {at n : ℕ} {edged : Bool} {k : ℕ} {ws 
             )
 
 -- what is answered and left in memory, after a whole reading and after a wrong field
-pub read-whole : (r : Result Listed) (ws : List ℕ) {a : Reading} {n : ℕ} → a ≡ Events n → Says r a → Leaves a ws (leftWords r)
+pub read-whole : (r : Result Listed) (ws : List ℕ) {a : GraphRead} {n : ℕ} → a ≡ Events n → Says r a → Leaves a ws (leftWords r)
     → Says r (Events n) × (ws ≡ leftWords r)
 read-whole r ws e s l = (subst (Says r) e s, subst (λ a. Leaves a ws (leftWords r)) e l)
 
-pub read-wrong : (r : Result Listed) (ws : List ℕ) {a : Reading} {k : ℕ} → a ≡ Wrong k → Says r a → ws ≡ zeros 1088
+pub read-wrong : (r : Result Listed) (ws : List ℕ) {a : GraphRead} {k : ℕ} → a ≡ Wrong k → Says r a → ws ≡ zeros 1088
     → Says r (Wrong k) × (ws ≡ leftWords r)
 unfolding leftWords
 read-wrong (ok G) ws {a} {k} e s z = absurd (subst (Says (ok G)) e s)
 read-wrong (refused x) ws {a} {k} e s z = (subst (Says (refused x)) e s, z)
 
 -- the number of relations by another name
-pub as-many : (bs : List ℕ) (a m k : ℕ) (x : Reading) (ws : List ℕ) → m ≡ k
+pub as-many : (bs : List ℕ) (a m k : ℕ) (x : GraphRead) (ws : List ℕ) → m ≡ k
     → Says (graphIn (record { atoms = a; relations = m }) bs) x × (ws ≡ leftWords (graphIn (record { atoms = a; relations = m }) bs))
     → Says (graphIn (record { atoms = a; relations = k }) bs) x × (ws ≡ leftWords (graphIn (record { atoms = a; relations = k }) bs))
 as-many bs a m k x ws e h =

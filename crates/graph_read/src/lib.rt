@@ -1,5 +1,6 @@
 // A graph read field by field: its events' atoms and its relations as rows of sets, or the first wrong field. (Document 01, "Sheet and graph
 // bytes" and refusal 12.) An edge repeated is found by its bit.
+use codes::MOST_RELATIONS;
 use fields::Field;
 ghost use Prim.Native.Nat.{ℕ, _+_, _≤_, _<_, min};
 ghost use mathlib.Core.Path.{_≡_};
@@ -7,12 +8,26 @@ ghost use mathlib.Core.Bool.{Bool, true};
 ghost use lib.ListN.{drop};
 ghost use Rattle.claims.specs.Fields.{nextField};
 ghost use Rattle.claims.specs.GraphBytes.{Listed, withEvent, withEdge, withField, graphIn};
-ghost use Rattle.words.specs.Memory.{zeros};
+ghost use Rattle.memory.specs.Memory.{zeros};
+ghost use Rattle.codes.specs.Codes.{MOST-RELATIONS};
+ghost use Rattle.graph_read.specs.Layout.{MOST-EVENTS, GRAPH};
 ghost use Rattle.graph_read.specs.Reading.{Says, leftWords};
 ghost use Rattle.graph_read.specs.inner.Steps.{Held, Takes, Turns, Leaves};
 
+// The events that a graph may have.
+pub const MOST_EVENTS: usize = 64;
+
+// Where the events' atoms begin in the memory of a graph: behind the rows, of which each relation has one for each event.
+pub const ATOMS_AT: usize = MOST_EVENTS * MOST_RELATIONS;
+
+// The words of a graph in memory.
+pub const GRAPH: usize = ATOMS_AT + MOST_EVENTS;
+
+// A graph in memory: for each relation the row of each event, bit y of row x being the edge from x to y, and then the events' atoms.
+pub type Graph = [u64; GRAPH];
+
 // So many events; or the number of the first wrong field, counted from 1.
-pub enum Reading {
+pub enum GraphRead {
     Events(usize),
     Wrong(usize),
 }
@@ -30,9 +45,9 @@ fn wide(b: u8) -> usize
     b as usize
 }
 
-// One event more, after n: its atom is stored. Whether the contents are an event's: one byte, an atom of the query, no edge before it, and at
-// most 63 events.
-fn add_event(contents: &[u8], atoms: usize, n: usize, edged: bool, listed: &mut [u64; 1088]) -> bool
+// One event more, after n: its atom is stored. Whether the contents are an event's: one byte, an atom of the query, no edge before it, and fewer
+// than MOST_EVENTS events.
+fn add_event(contents: &[u8], atoms: usize, n: usize, edged: bool, listed: &mut Graph) -> bool
     ensures { λ b.
         ⌜ ((relations : ℕ) (G : Listed) → Held G n edged (now (listed .entry))
         → Takes (withEvent (record { atoms = atoms; relations = relations }) G (now (contents .entry))) b (n + 1) edged (now (listed .exit))) ⌝ }
@@ -47,17 +62,17 @@ fn add_event(contents: &[u8], atoms: usize, n: usize, edged: bool, listed: &mut 
     if edged {
         return false;
     }
-    if 64 <= n {
+    if MOST_EVENTS <= n {
         return false;
     }
-    listed[1024 + n] = a as u64;
+    listed[ATOMS_AT + n] = a as u64;
     true
 }
 
 // One edge more: its bit is set. Whether the contents are an edge's: three bytes, a relation of the query, two of the n events, and a bit that
 // is not set yet.
-fn add_edge(contents: &[u8], relations: usize, n: usize, listed: &mut [u64; 1088]) -> bool
-    requires { ⌜ (relations ≤ 16) × (n ≤ 64) ⌝ }
+fn add_edge(contents: &[u8], relations: usize, n: usize, listed: &mut Graph) -> bool
+    requires { ⌜ (relations ≤ MOST-RELATIONS) × (n ≤ MOST-EVENTS) ⌝ }
     ensures { λ b.
         ⌜ ((atoms : ℕ) (G : Listed) (edged : Bool) → Held G n edged (now (listed .entry))
         → Takes (withEdge (record { atoms = atoms; relations = relations }) G (now (contents .entry))) b n true (now (listed .exit))) ⌝ }
@@ -77,7 +92,7 @@ fn add_edge(contents: &[u8], relations: usize, n: usize, listed: &mut [u64; 1088
     if n <= y {
         return false;
     }
-    let row = 64 * r + x;
+    let row = MOST_EVENTS * r + x;
     if bits::member(listed[row], y) {
         return false;
     }
@@ -93,9 +108,9 @@ fn add_field(
     relations: usize,
     n: usize,
     edged: bool,
-    listed: &mut [u64; 1088],
+    listed: &mut Graph,
 ) -> Turn
-    requires { ⌜ (relations ≤ 16) × (n ≤ 64) ⌝ }
+    requires { ⌜ (relations ≤ MOST-RELATIONS) × (n ≤ MOST-EVENTS) ⌝ }
     ensures { λ t.
         ⌜ ((G : Listed) → Held G n edged (now (listed .entry))
         → Turns (now (bytes .entry)) at
@@ -121,8 +136,8 @@ fn add_field(
 }
 
 // All fields, one after another, into memory that is clear.
-fn add_fields(bytes: &[u8], atoms: usize, relations: usize, listed: &mut [u64; 1088]) -> Reading
-    requires { ⌜ (relations ≤ 16) × (now listed ≡ zeros 1088) ⌝ }
+fn add_fields(bytes: &[u8], atoms: usize, relations: usize, listed: &mut Graph) -> GraphRead
+    requires { ⌜ (relations ≤ MOST-RELATIONS) × (now listed ≡ zeros GRAPH) ⌝ }
     ensures says { λ r. ⌜ Says (graphIn (record { atoms = atoms; relations = relations }) (now (bytes .entry))) r ⌝ }
     ensures leaves { λ r.
         ⌜ Leaves r (now (listed .exit)) (leftWords (graphIn (record { atoms = atoms; relations = relations }) (now (bytes .entry)))) ⌝ }
@@ -134,30 +149,35 @@ fn add_fields(bytes: &[u8], atoms: usize, relations: usize, listed: &mut [u64; 1
     while at < bytes.len() {
         let Turn::On(next, events, edge) = add_field(bytes, at, atoms, relations, n, edged, listed)
         else {
-            return Reading::Wrong(k);
+            return GraphRead::Wrong(k);
         };
         at = next;
         n = events;
         edged = edge;
         k += 1;
     }
-    Reading::Events(n)
+    GraphRead::Events(n)
 }
 
-// Reads the graph that the bytes are, of a query with so many atoms and relations, of which 16 count. After the number of events `listed` has for each of 16
-// relations the row of each of 64 events, bit y of row x being the edge from x to y, and then the events' atoms; after a wrong field all is zero.
-pub fn read(bytes: &[u8], atoms: usize, relations: usize, listed: &mut [u64; 1088]) -> Reading
-    ensures says { λ r. ⌜ Says (graphIn (record { atoms = atoms; relations = min relations 16 }) (now (bytes .entry))) r ⌝ }
+// Reads the graph that the bytes are, of a query with so many atoms and relations, of which MOST_RELATIONS count. After the number of events `listed` has the rows
+// and the events' atoms; after a wrong field all is zero.
+pub fn read(bytes: &[u8], atoms: usize, relations: usize, listed: &mut Graph) -> GraphRead
+    ensures says { λ r. ⌜ Says (graphIn (record { atoms = atoms; relations = min relations MOST-RELATIONS }) (now (bytes .entry))) r ⌝ }
     ensures leaves { λ r.
-        ⌜ now (listed .exit) ≡ leftWords (graphIn (record { atoms = atoms; relations = min relations 16 }) (now (bytes .entry))) ⌝ }
+        ⌜ now (listed .exit) ≡ leftWords (graphIn (record { atoms = atoms; relations = min relations MOST-RELATIONS }) (now (bytes .entry))) ⌝ }
 {
-    words::clear(listed);
-    let r = add_fields(bytes, atoms, words::least(relations, 16), listed);
+    memory::clear(listed);
+    let r = add_fields(
+        bytes,
+        atoms,
+        memory::least(relations, MOST_RELATIONS),
+        listed,
+    );
     match r {
-        Reading::Events(n) => Reading::Events(n),
-        Reading::Wrong(k) => {
-            words::clear(listed);
-            Reading::Wrong(k)
+        GraphRead::Events(n) => GraphRead::Events(n),
+        GraphRead::Wrong(k) => {
+            memory::clear(listed);
+            GraphRead::Wrong(k)
         }
     }
 }

@@ -7,7 +7,7 @@ use mathlib.Core.Bool.{cond}
 use mathlib.Core.List.{List, [], _∷_}
 use lib.ListN.{length, getD, replicate, List·getD-eq-default}
 use borrow.Author.Tests.{lt-ltb, le-ltb}
-use Rattle.words.specs.Memory.{words, zeros}
+use Rattle.memory.specs.Memory.{words, zeros}
 use Rattle.rows.specs.Rows.{blank}
 use Rattle.graph_tables.specs.Listed.{relationRows}
 

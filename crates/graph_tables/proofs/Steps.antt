@@ -8,11 +8,11 @@ use native.Mathlib.Omega.{arith}
 use lib.ListN.{getD, set, drop}
 use borrow.Author.Tests.{lt-ltb, le-ltb, le-leb, lt-leb, ne-eqb}
 use Rattle.rows.specs.Rows.{blank, joined, composed, reflexive, rounds, diagonal, eventsIn}
-use Rattle.graph_tables.specs.declared.State.{State}
+use Rattle.graph_tables.specs.declared.JudgedSoFar.{JudgedSoFar}
 use Rattle.graph_tables.specs.Listed.{relationRows, eventsWith}
 use Rattle.graph_tables.specs.Machine.{Judging, judging, tableAt, waitingNow, pushed, changedTop, merged, operated}
 
-module _ (m m′ : List (List ℕ)) (s r : State) where
+module _ (m m′ : List (List ℕ)) (s r : JudgedSoFar) where
   pub pushed-room : (t : List ℕ) → s .waiting < 68 → m′ ≡ set m (32 + s .waiting) t → r ≡ waitingNow s (s .waiting + 1)
       → judging m′ r ≡ pushed (judging m s) t
   unfolding pushed
@@ -32,7 +32,7 @@ module _ (m m′ : List (List ℕ)) (s r : State) where
   unfolding changedTop
   changed-with f t v a c e = ap (λ x. judging x s) (e ∙ ap (set m (31 + s .waiting)) (c ∙ ap f a))
 
-pub pushed-full : (m : List (List ℕ)) (s : State) (t : List ℕ) → 68 ≤ s .waiting → judging m s ≡ pushed (judging m s) t
+pub pushed-full : (m : List (List ℕ)) (s : JudgedSoFar) (t : List ℕ) → 68 ≤ s .waiting → judging m s ≡ pushed (judging m s) t
 unfolding pushed
 pushed-full m s t h =
     sym (ap (λ c. cond c (judging (set m (32 + s .waiting) t) (waitingNow s (s .waiting + 1))) (judging m s)) (le-ltb (s .waiting) 68 h))

@@ -1,33 +1,44 @@
 -- The tables of expressions, for any codes: each code of an expression changes the tables that wait. (Document 01, "Sheet and graph bytes", last
--- paragraph.) The memory has 100 tables: one for each of 32 lets, worked out once, at its line; and behind them those that wait, the last on
--- top. What is put where there is no room is lost, and past the memory a table is blank.
+-- paragraph.) The memory has TABLES tables: first one for each let, worked out once, at its line; and behind them those that wait, the last
+-- on top. What is put where there is no room is lost, and past the memory a table is blank.
 -- Assumes nothing.
 use Prim.Native.Nat.{ℕ, _+_, _-_}
 use mathlib.Core.Bool.{cond, _&&_}
 use mathlib.Core.List.{List}
 use lib.Dec.{eqb, leb, ltb}
 use lib.ListN.{getD, set}
-use Rattle.codes.specs.Codes.{TESTED, UNION, SEQUENCE, STAR, PLUS, OPTIONAL, A-RELATION, ANY, A-LET, LETS-END}
+use Rattle.codes.specs.Codes.{TESTED, UNION, SEQUENCE, STAR, PLUS, OPTIONAL, A-RELATION, ANY, A-LET, LETS-END, MOST-LETS}
 use Rattle.rows.specs.Rows.{blank, joined, composed, reflexive, rounds, diagonal}
-use Rattle.graph_tables.specs.declared.State.{State}
+use Rattle.graph_tables.specs.declared.JudgedSoFar.{JudgedSoFar}
 use Rattle.graph_tables.specs.Listed.{relationRows, eventsWith}
 
 -- the tables in memory, and where the judge stands
 pub record Judging : Type 0 where
   pub mem : List (List ℕ)
-  pub state : State
+  pub state : JudgedSoFar
 
 -- the two together
-abbrev pub judging : List (List ℕ) → State → Judging
+abbrev pub judging : List (List ℕ) → JudgedSoFar → Judging
 judging m s = record { mem = m; state = s }
 
 -- how many tables may wait: 67 for an expression, and the left side of an inclusion below them
 abbrev pub MOST-WAITING : ℕ
 MOST-WAITING = 68
 
--- all tables
+-- all tables: one for each let, and those that wait
 abbrev pub TABLES : ℕ
 TABLES = 100
+
+-- where w tables wait the next one goes to place NEXT + w, behind those of the lets; the one on top stands at place TOP + w, and the one below it
+-- at place SECOND + w
+abbrev pub NEXT : ℕ
+NEXT = MOST-LETS
+
+abbrev pub TOP : ℕ
+TOP = 31
+
+abbrev pub SECOND : ℕ
+SECOND = 30
 
 -- the table at a place
 abbrev pub tableAt : List (List ℕ) → ℕ → List ℕ
@@ -35,13 +46,13 @@ tableAt m i = getD m i blank
 
 -- the table on top, and the one below it
 abbrev pub top : Judging → List ℕ
-top j = tableAt (j .mem) (31 + j .state .waiting)
+top j = tableAt (j .mem) (TOP + j .state .waiting)
 
 abbrev pub second : Judging → List ℕ
-second j = tableAt (j .mem) (30 + j .state .waiting)
+second j = tableAt (j .mem) (SECOND + j .state .waiting)
 
 -- so many tables wait
-abbrev pub waitingNow : State → ℕ → State
+abbrev pub waitingNow : JudgedSoFar → ℕ → JudgedSoFar
 waitingNow s w =
     record { events = s .events; waiting = w; lets = s .lets; line = s .line; broken = s .broken; found = s .found }
 
@@ -49,18 +60,18 @@ waitingNow s w =
 unfoldable pub pushed : Judging → List ℕ → Judging
 pushed j t =
     cond (ltb (j .state .waiting) MOST-WAITING)
-    (record { mem = set (j .mem) (32 + j .state .waiting) t; state = waitingNow (j .state) (j .state .waiting + 1) })
+    (record { mem = set (j .mem) (NEXT + j .state .waiting) t; state = waitingNow (j .state) (j .state .waiting + 1) })
     j
 
 -- the table on top changed
 unfoldable pub changedTop : (List ℕ → List ℕ) → Judging → Judging
-changedTop f j = record { mem = set (j .mem) (31 + j .state .waiting) (f (top j)); state = j .state }
+changedTop f j = record { mem = set (j .mem) (TOP + j .state .waiting) (f (top j)); state = j .state }
 
 -- one table in place of the upper two
 unfoldable pub merged : (List ℕ → List ℕ → List ℕ) → Judging → Judging
 merged f j =
     record {
-      mem = set (j .mem) (30 + j .state .waiting) (f (second j) (top j));
+      mem = set (j .mem) (SECOND + j .state .waiting) (f (second j) (top j));
       state = waitingNow (j .state) (j .state .waiting - 1);
     }
 

@@ -3,16 +3,13 @@
 use Prim.Native.Nat.{ℕ, suc, _+_, _≤_, _<_}
 use native.Mathlib.Omega.{arith}
 use native.Mathlib.Numerals.{add-one}
-use mathlib.Core.Path.{_≡_, refl, sym, _∙_, ap, subst}
+use mathlib.Core.Path.{_≡_, refl, sym, ap, subst}
 use mathlib.Core.Bool.{Bool, true, false, cond}
-use mathlib.Core.List.{List, [], _∷_, _++_}
+use mathlib.Core.List.{List}
 use lib.Dec.{eqb, ltb}
 use lib.ListN.{length, getD, drop, drop-of-length-le}
 use lib.Seq.{drop-cons}
 use borrow.Author.Tests.{lt-ltb, le-ltb, eq-eqb, ne-eqb}
-use Rattle.claims.specs.Bytes.{text}
-use Rattle.claims.specs.Printed.{decimal}
-use Rattle.texts.specs.Lines.{lineAt}
 use Rattle.print_line.specs.Puts.{Puts}
 use Rattle.print_line.proofs.Putting.{puts-nothing}
 use Rattle.graph.specs.declared.Judged.{Judged}
@@ -20,7 +17,7 @@ use Rattle.claims.specs.Refusals.{Result}
 use Rattle.claims.specs.Judgement.{Judgement}
 use Rattle.graph.specs.Answers.{resultOf}
 use Rattle.judge_line.specs.JudgementLine.{judgementLine}
-use Rattle.judge_line.specs.JudgedWords.{lineEnds, notHeld, lineWords, brokenWords, judgedWords}
+use Rattle.judge_line.specs.JudgedWords.{lineEnds, lineWords, brokenWords, judgedWords}
 
 -- the line and the words of what a judgement is
 pub as-judged : {l m : List ℕ} {j x : Judged} {to : ℕ} → j ≡ x → Puts l 0 (judgementLine (resultOf x)) to m

@@ -8,7 +8,7 @@ use lib.Dec.{eqb, ltb}
 use Rattle.claims.specs.Bytes.{text}
 use Rattle.claims.specs.Printed.{decimal}
 use Rattle.texts.specs.Lines.{lineAt}
-use Rattle.fence_words.specs.Sentences.{wordsOf}
+use Rattle.refusal_texts.specs.Sentences.{wordsOf}
 use Rattle.graph.specs.declared.Judged.{Judged}
 use Rattle.graph.specs.declared.Judged.the-variants.{Holds, BreaksAt, BreaksFrom, Refused}
 

@@ -1,5 +1,6 @@
-// The line of a judgement, and what it means in words, as bytes in lent memory. (Document 01, "Sheet and graph bytes", last paragraph.)
-// Whatever does not fit is not written; for memory that is long enough the whole line stands there.
+// The line of the judgement of a graph, from the bytes of the query and of the graph, and what it means in words, as bytes in lent memory.
+// (Document 01, "Sheet and graph bytes", last paragraph.) Whatever does not fit is not written; for memory that is long enough the whole line
+// stands there.
 use graph::Judged;
 ghost use Prim.Native.Nat.{_+_};
 ghost use mathlib.Core.List.{[], _∷_, _++_};
@@ -9,6 +10,7 @@ ghost use Rattle.claims.specs.Printed.{decimal};
 ghost use Rattle.texts.specs.Lines.{lineAt};
 ghost use Rattle.print_line.specs.Puts.{Puts};
 ghost use Rattle.graph.specs.Answers.{resultOf};
+ghost use Rattle.claims.specs.Calls.{judge-call};
 ghost use Rattle.judge_line.specs.JudgementLine.{judgementLine};
 ghost use Rattle.judge_line.specs.JudgedWords.{lineEnds, notHeld, brokenWords, judgedWords};
 
@@ -113,6 +115,26 @@ pub fn words(j: Judged, text: &[u8], out: &mut [u8]) -> usize
         Judged::Holds(line) => broken_words(out, line, true, text),
         Judged::BreaksAt(line, _event) => broken_words(out, line, false, text),
         Judged::BreaksFrom(line, _from, _to) => broken_words(out, line, false, text),
-        Judged::Refused(why, place) => fence_words::refusal(out, why, place, text),
+        Judged::Refused(why, place) => refusal_texts::refusal(out, why, place, text),
+    }
+}
+
+// A line in memory: how many bytes it has, and the judgement that it shows.
+pub struct JudgedLine {
+    pub bytes: usize,
+    pub judged: Judged,
+}
+
+// The line of the judgement of a graph for the query that the text is, as far as it fits, and the judgement.
+pub fn judged_line(text: &[u8], graph: &[u8], out: &mut [u8]) -> JudgedLine
+    ensures { λ r.
+        ⌜ Puts (now (out .entry)) 0 (judgementLine (judge-call (now (text .entry)) (now (graph .entry)))) (r .bytes) (now (out .exit))
+        × (resultOf (r .judged) ≡ judge-call (now (text .entry)) (now (graph .entry))) ⌝ }
+{
+    let j = graph::judge(text, graph);
+    let n = line(j, out);
+    JudgedLine {
+        bytes: n,
+        judged: j,
     }
 }

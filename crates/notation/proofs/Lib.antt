@@ -14,3 +14,5 @@ pub mod Decisions
 pub mod Precedence
 -- What is counted of a side.
 pub mod Counts
+-- A claim under all lines.
+pub mod Under

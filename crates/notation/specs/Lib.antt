@@ -15,8 +15,9 @@ pub mod Expanded
 pub mod Counting
 pub mod Decisions
 pub mod Reading
--- "Words": the two sides, refuting words.
+-- "Words": the two sides, refuting words; the sides and the limits of a claim under some of the lines.
 pub mod Sides
 pub mod Words
+pub mod Under
 -- The rules of refusing, in plain words.
 pub mod RefusalOrder

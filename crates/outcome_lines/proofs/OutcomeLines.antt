@@ -26,9 +26,9 @@ use Rattle.outcome_lines.proofs.MoreRecords.{lend, same-result}
 pub as-outcome : {l m : List ℕ} {r x : Outcome} {to : ℕ} (sheet : List ℕ) → r ≡ x → Puts l 0 (outcomeLine x sheet) to m → Puts l 0 (outcomeLine r sheet) to m
 as-outcome {l} {m} {r} {x} {to} sheet e p = subst (λ (y : Outcome). Puts l 0 (outcomeLine y sheet) to m) (sym e) p
 
-pub as-refuted : {l m : List ℕ} {r : Outcome} {n to : ℕ} (sheet word : List ℕ) → r ≡ Refuted n → word ≡ take (2 * n + 1) (drop 7 sheet)
+pub as-refuted : {l m : List ℕ} {r : Outcome} {n bytes to : ℕ} (sheet word : List ℕ) → r ≡ Refuted n bytes → word ≡ take (2 * n + 1) (drop 7 sheet)
     → Puts l 0 (text "refuted" ++ (spaced word ++ (10 ∷ []))) to m → Puts l 0 (outcomeLine r sheet) to m
-as-refuted {l} {m} {r} {n} {to} sheet word e w p =
+as-refuted {l} {m} {r} {n} {bytes} {to} sheet word e w p =
     as-outcome sheet e (subst (λ (x : List ℕ). Puts l 0 (text "refuted" ++ (spaced x ++ (10 ∷ []))) to m) w p)
 
 pub puts-same : {l m bs cs : List ℕ} {to : ℕ} → bs ≡ cs → Puts l 0 bs to m → Puts l 0 cs to m
@@ -38,8 +38,8 @@ puts-same {l} {m} {bs} {cs} {to} e p = subst (λ (ds : List ℕ). Puts l 0 ds to
 pub says-line : (x : Result Answer) (r : Outcome) (sheet : List ℕ) → Says x r
     → ((w : Word) → x ≡ ok (refutedBy w) → take (2 * size w + 1) (drop 7 sheet) ≡ numbers w) → outcomeLine r sheet ≡ lineOf x
 unfolding lineOf answerLine refusalLine
-says-line (ok (provedWith c)) (Proved n) sheet e word = ap (λ (k : ℕ). text "proved" ++ (spaced (k ∷ []) ++ (10 ∷ []))) e
-says-line (ok (refutedBy w)) (Refuted n) sheet e word =
+says-line (ok (provedWith c)) (Proved n bytes) sheet e word = ap (λ (k : ℕ). text "proved" ++ (spaced (k ∷ []) ++ (10 ∷ []))) e
+says-line (ok (refutedBy w)) (Refuted n bytes) sheet e word =
     ap (λ (ns : List ℕ). text "refuted" ++ (spaced ns ++ (10 ∷ [])))
     (ap (λ (k : ℕ). take (2 * k + 1) (drop 7 sheet)) e ∙ word w refl)
 says-line (refused q) (Refused why p) sheet (e, f) word =

@@ -26,7 +26,7 @@ pub fn put_byte(out: &mut [u8], at: usize, b: u8) -> usize
 pub fn put_text(out: &mut [u8], at: usize, bytes: &[u8]) -> usize
     ensures { λ r. ⌜ Puts (now (out .entry)) at (now (bytes .entry)) r (now (out .exit)) ⌝ }
 {
-    let mut to = words::least(at, out.len());
+    let mut to = memory::least(at, out.len());
     let mut i = 0;
     while i < bytes.len() {
         to = put_byte(out, to, bytes[i]);
@@ -62,7 +62,7 @@ pub fn put_decimal(out: &mut [u8], at: usize, n: u64) -> usize
 }
 
 // A space and a number in decimal digits.
-pub fn put_number(out: &mut [u8], at: usize, n: u64) -> usize
+pub fn put_spaced(out: &mut [u8], at: usize, n: u64) -> usize
     ensures { λ r. ⌜ Puts (now (out .entry)) at (spaced (n ∷ [])) r (now (out .exit)) ⌝ }
 {
     let mut ds = [0u8; 20];
@@ -79,13 +79,13 @@ fn wide(b: u8) -> u64
 }
 
 // Numbers, each after a space.
-pub fn put_numbers(out: &mut [u8], at: usize, ns: &[u8]) -> usize
+fn put_numbers(out: &mut [u8], at: usize, ns: &[u8]) -> usize
     ensures { λ r. ⌜ Puts (now (out .entry)) at (spaced (now (ns .entry))) r (now (out .exit)) ⌝ }
 {
-    let mut to = words::least(at, out.len());
+    let mut to = memory::least(at, out.len());
     let mut i = 0;
     while i < ns.len() {
-        to = put_number(out, to, wide(ns[i]));
+        to = put_spaced(out, to, wide(ns[i]));
         i += 1;
     }
     to
@@ -96,7 +96,7 @@ pub fn proved_line(out: &mut [u8], count: usize) -> usize
     ensures { λ r. ⌜ Puts (now (out .entry)) 0 (quoted "proved" ++ (spaced (count ∷ []) ++ (10 ∷ []))) r (now (out .exit)) ⌝ }
 {
     let a = put_text(out, 0, b"proved");
-    let b = put_number(out, a, count as u64);
+    let b = put_spaced(out, a, count as u64);
     put_byte(out, b, b'\n')
 }
 
@@ -116,8 +116,8 @@ pub fn refusal_line(out: &mut [u8], why: Reason, place: usize) -> usize
         r (now (out .exit)) ⌝ }
 {
     let a = put_text(out, 0, b"refusal");
-    let b = put_number(out, a, refusals::number(why));
+    let b = put_spaced(out, a, refusals::number(why));
     let c = put_text(out, b, b" line");
-    let d = put_number(out, c, place as u64);
+    let d = put_spaced(out, c, place as u64);
     put_byte(out, d, b'\n')
 }

@@ -15,15 +15,14 @@ use Rattle.claims.specs.Refusals.{overLimit, Result, ok, refused, refuse}
 use Rattle.codes.specs.Codes.{queryCodes}
 use Rattle.refusals.specs.Causes.{causeOf}
 use Rattle.read_text.specs.Reading.{readable, leftCodes, summaryOf, SaysSummary}
-use Rattle.words.specs.Memory.{zeros}
+use Rattle.memory.specs.Memory.{zeros}
 use Rattle.refusals.specs.declared.Reason.{Reason}
 use Rattle.refusals.specs.declared.Reason.the-variants.{OverLimit}
 use Rattle.read_text.specs.declared.Summary.{Summary}
-use Rattle.read_text.specs.declared.Reading.{Reading}
-use Rattle.read_text.specs.declared.Reading.the-variants.{Accepted as Accepted-codes, Refused as Refused-codes}
+use Rattle.read_text.specs.declared.TextRead.{TextRead}
+use Rattle.read_text.specs.declared.TextRead.the-variants.{Accepted as Accepted-codes, Refused as Refused-codes}
 use Rattle.codes.proofs.Orderly.{settled-none, settled-on}
 use Rattle.codes.proofs.Claimed.{Claimed}
-use Rattle.side_tables.specs.SideTable.{sideTable}
 use Rattle.side_build.specs.Built.{leftTable, rightTable, builtFrom}
 use Rattle.side_build.specs.declared.Built.{Built}
 use Rattle.side_build.proofs.Decided.{Decided, decided}
@@ -33,6 +32,7 @@ use Rattle.query.specs.declared.Answer.{Answer}
 use Rattle.query.specs.declared.Answer.the-variants.{Accepted, Refused}
 use Rattle.query.specs.Answer.{factsOf, Says, claimTable, tableAfter, leftAfter, rightAfter}
 use Rattle.query.specs.inner.Counted.{isRing, factsBy, inLimits}
+use Rattle.side_tables.specs.Layout.{TABLE}
 use Rattle.query.proofs.Limits.{is-false, is-true}
 use Rattle.query.proofs.Readings.{Accepts, accepts, taken-claimed, ring-told, read-within, read-over, read-refused}
 
@@ -45,7 +45,7 @@ record Right (x : Result Query) (a : Answer) (codes left right : List ℕ) : Typ
 
 -- a refusal of 1 to 7
 refusal-right : (bs : List ℕ) (why : Reason) (p : ℕ) (out l r : List ℕ) → SaysSummary (readable bs) (Refused-codes why p)
-    → out ≡ leftCodes (readable bs) → l ≡ zeros 4241 → r ≡ zeros 4241 → Right (read bs) (Refused why p) out l r
+    → out ≡ leftCodes (readable bs) → l ≡ zeros TABLE → r ≡ zeros TABLE → Right (read bs) (Refused why p) out l r
 unfolding tableAfter
 refusal-right bs why p out l r s w x y = go (readable bs) refl s w
   where
@@ -127,7 +127,7 @@ module _ (bs : List ℕ) (s : Summary) (out : List ℕ) (a : Accepts bs s out) (
         right-table = z ∙ ap rightTable same ∙ D .right-table ∙ sym (ap (claimTable (λ d. d .right) q) (a .taken .found));
       })
 
-  over-right : inLimits s out ≡ false → (out′ l r : List ℕ) → out′ ≡ zeros 4096 → l ≡ zeros 4241 → r ≡ zeros 4241
+  over-right : inLimits s out ≡ false → (out′ l r : List ℕ) → out′ ≡ zeros 4096 → l ≡ zeros TABLE → r ≡ zeros TABLE
       → Right (read bs) (Refused OverLimit (s .lines)) out′ l r
   unfolding tableAfter leftCodes causeOf
   over-right t out′ l r z y v =
@@ -146,9 +146,9 @@ ReadOutcome x a out l r = Says x a × (out ≡ leftCodes x) × (l ≡ leftAfter 
 outcome : (x : Result Query) (a : Answer) (out l r : List ℕ) → Right x a out l r → ReadOutcome x a out l r
 outcome x a out l r y = (y .answer, y .codes-left, y .left-table, y .right-table)
 
-module _ (bs : List ℕ) (res : Reading) (out : List ℕ) (said : SaysSummary (readable bs) res) (left-codes : out ≡ leftCodes (readable bs)) where
+module _ (bs : List ℕ) (res : TextRead) (out : List ℕ) (said : SaysSummary (readable bs) res) (left-codes : out ≡ leftCodes (readable bs)) where
   -- a refusal of the reader
-  pub refused-way : (why : Reason) (p : ℕ) → res ≡ Refused-codes why p → (l r : List ℕ) → l ≡ zeros 4241 → r ≡ zeros 4241
+  pub refused-way : (why : Reason) (p : ℕ) → res ≡ Refused-codes why p → (l r : List ℕ) → l ≡ zeros TABLE → r ≡ zeros TABLE
       → ReadOutcome (read bs) (Refused why p) out l r
   refused-way why p e l r x y =
       outcome (read bs) (Refused why p) out l r (refusal-right bs why p out l r (subst (SaysSummary (readable bs)) e said) left-codes x y)
@@ -158,7 +158,7 @@ module _ (bs : List ℕ) (res : Reading) (out : List ℕ) (said : SaysSummary (r
     accepted = accepts bs s out size (subst (SaysSummary (readable bs)) e said) left-codes
 
     -- over the limits
-    pub over-way : (b : Bool) → b ≡ inLimits s out → not b ≡ true → (out′ l r : List ℕ) → out′ ≡ zeros (length out) → l ≡ zeros 4241 → r ≡ zeros 4241
+    pub over-way : (b : Bool) → b ≡ inLimits s out → not b ≡ true → (out′ l r : List ℕ) → out′ ≡ zeros (length out) → l ≡ zeros TABLE → r ≡ zeros TABLE
         → ReadOutcome (read bs) (Refused OverLimit (s .lines)) out′ l r
     over-way b t f out′ l r x y z =
         outcome (read bs) (Refused OverLimit (s .lines)) out′ l r

@@ -20,9 +20,9 @@ use Rattle.claims.specs.Refusals.{tooLong, badByte, noClaim, overLimit, Refusal
 use Rattle.claims.proofs.Decisions.{limited-by-the-claim}
 use Rattle.codes.specs.Codes.{queryCodes}
 use Rattle.read_text.specs.Reading.{claimed, inLines, readable, leftCodes, summaryOf, SaysSummary}
-use Rattle.words.specs.Memory.{zeros}
+use Rattle.memory.specs.Memory.{zeros}
 use Rattle.read_text.specs.declared.Summary.{Summary}
-use Rattle.read_text.specs.declared.Reading.the-variants.{Accepted}
+use Rattle.read_text.specs.declared.TextRead.the-variants.{Accepted}
 use Rattle.read_text.proofs.Answers.{readable-then-limits}
 use Rattle.side_limits.specs.Sizes.{withinTest}
 use Rattle.side_limits.proofs.Counted.{within-is-within}

@@ -17,11 +17,12 @@ use Rattle.claims.specs.Reading.{claimOf}
 use Rattle.claims.specs.Refusals.{Result, ok, refused}
 use Rattle.codes.specs.Codes.{queryCodes}
 use Rattle.refusals.specs.Causes.{causeOf}
-use Rattle.words.specs.Memory.{zeros}
+use Rattle.memory.specs.Memory.{zeros}
 use Rattle.side_tables.specs.SideTable.{sideTable}
 use Rattle.query.specs.declared.Facts.{Facts}
 use Rattle.query.specs.declared.Answer.{Answer}
 use Rattle.query.specs.declared.Answer.the-variants.{Accepted, Refused}
+use Rattle.side_tables.specs.Layout.{TABLE}
 
 -- what is told of a query with n codes and this decision ("Words")
 unfoldable pub factsOf : ℕ → Decision → Facts
@@ -45,13 +46,13 @@ Says (refused r) (Refused why p) = (causeOf why ≡ r .cause) × (p ≡ r .place
 
 -- the table of a side of the claim, zeros where there is none
 unfoldable pub claimTable : (Decision → Expr) → Query → Option Claim → List ℕ
-claimTable side q none = zeros 4241
+claimTable side q none = zeros TABLE
 claimTable side q (some c) = sideTable (side (decision q c))
 
 -- the table of a side, zeros after a refusal ("Standings")
 unfoldable pub tableAfter : (Decision → Expr) → Result Query → List ℕ
 tableAfter side (ok q) = claimTable side q (claimOf q)
-tableAfter side (refused r) = zeros 4241
+tableAfter side (refused r) = zeros TABLE
 
 -- the left side, and the right side
 abbrev pub leftAfter : Result Query → List ℕ

@@ -11,6 +11,7 @@ use Rattle.claims.specs.SheetWriting.{RisingWithin}
 use Rattle.side_tables.specs.SideTable.{sideTable}
 use Rattle.query.specs.declared.Facts.{Facts}
 use Rattle.query.specs.Answer.{factsOf}
+use Rattle.layout.specs.Layout.{MOST-RIGHT}
 
 -- the facts and the tables are those of the decision, which is within the limits ("Standings")
 pub record Decided (f : Facts) (left right : List ℕ) (D : Decision) : Type 0 where
@@ -19,7 +20,7 @@ pub record Decided (f : Facts) (left right : List ℕ) (D : Decision) : Type 0 w
   pub right-table : right ≡ sideTable (D .right)
   pub few-left : occurrences (D .left) ≤ 64
   pub few-right : occurrences (D .right) ≤ 64
-  pub few-right-of-rings : D .ring ≡ true → occurrences (D .right) ≤ 31
+  pub few-right-of-rings : D .ring ≡ true → occurrences (D .right) ≤ MOST-RIGHT
   pub few-relations : D .relations ≤ 16
   pub few-atoms : D .atoms ≤ 64
   pub live-rising : RisingWithin 0 (D .atoms) (D .live)

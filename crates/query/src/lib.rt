@@ -1,10 +1,12 @@
 // From the bytes of a query to its decision: what the search, the sheet check and the judge of graphs start from. (Document 01, "The query",
 // "Words", "Standings" and "Refusals with an example each".) Every list of bytes gets an answer, and every lent word is said.
-use read_text::Reading;
 use read_text::Summary;
+use read_text::TextRead;
 use refusals::Reason;
 use side_build::Built;
 use side_limits::Sizes;
+use side_tables::TABLE;
+use side_tables::Table;
 ghost use mathlib.Core.Path.{_≡_};
 ghost use lib.ListN.{take};
 ghost use Rattle.claims.specs.Reading.{read as reading};
@@ -41,7 +43,7 @@ fn is_ring(known: Summary) -> bool
 fn sizes(codes: &[u64], n: usize) -> Sizes
     ensures { λ r. ⌜ r ≡ claimSizes (take n (now (codes .entry))) ⌝ }
 {
-    let m = words::least(n, codes.len());
+    let m = memory::least(n, codes.len());
     let part = &codes[..m];
     let none = [0u64; 0];
     let d = side_claim::claimed_in(part);
@@ -73,25 +75,20 @@ fn facts_by(known: Summary, b: Built) -> Facts
 
 // Reads the query that the text is. After an answer `codes` has its codes and zeros behind, `left` and `right` the tables of the two sides;
 // after a refusal all are zero. Refusal 8 is at the last line.
-pub fn read(
-    text: &[u8],
-    codes: &mut [u64; 4096],
-    left: &mut [u64; 4241],
-    right: &mut [u64; 4241],
-) -> Answer
+pub fn read(text: &[u8], codes: &mut [u64; 4096], left: &mut Table, right: &mut Table) -> Answer
     ensures { λ r. ⌜ Says (reading (now (text .entry))) r
         × (now (codes .exit) ≡ leftCodes (reading (now (text .entry))))
         × (now (left .exit) ≡ leftAfter (reading (now (text .entry))))
         × (now (right .exit) ≡ rightAfter (reading (now (text .entry)))) ⌝ }
 {
-    words::clear(left);
-    words::clear(right);
+    memory::clear(left);
+    memory::clear(right);
     let r = read_text::read(text, codes);
     match r {
-        Reading::Refused(why, line) => Answer::Refused(why, line),
-        Reading::Accepted(known) => {
+        TextRead::Refused(why, line) => Answer::Refused(why, line),
+        TextRead::Accepted(known) => {
             if !within(codes, known) {
-                words::clear(codes);
+                memory::clear(codes);
                 return Answer::Refused(Reason::OverLimit, known.lines);
             }
             let tests = known.tests as u64;
@@ -102,7 +99,7 @@ pub fn read(
 }
 
 // Reads the query for the tables of its two sides. Its codes are needed no longer then, and their memory is this call's own.
-pub fn read_sides(text: &[u8], left: &mut [u64; 4241], right: &mut [u64; 4241]) -> Answer
+pub fn read_sides(text: &[u8], left: &mut Table, right: &mut Table) -> Answer
     ensures { λ r. ⌜ Says (reading (now (text .entry))) r
         × (now (left .exit) ≡ leftAfter (reading (now (text .entry))))
         × (now (right .exit) ≡ rightAfter (reading (now (text .entry)))) ⌝ }
@@ -115,7 +112,7 @@ pub fn read_sides(text: &[u8], left: &mut [u64; 4241], right: &mut [u64; 4241]) 
 pub fn read_codes(text: &[u8], codes: &mut [u64; 4096]) -> Answer
     ensures { λ r. ⌜ Says (reading (now (text .entry))) r × (now (codes .exit) ≡ leftCodes (reading (now (text .entry)))) ⌝ }
 {
-    let mut left = [0u64; 4241];
-    let mut right = [0u64; 4241];
+    let mut left = [0u64; TABLE];
+    let mut right = [0u64; TABLE];
     read(text, codes, &mut left, &mut right)
 }

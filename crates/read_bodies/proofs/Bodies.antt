@@ -24,7 +24,9 @@ use Rattle.read_names.specs.Keys.{reservedKey, findIn}
 use Rattle.read_tokens.proofs.Tokens.{ScannedWord, ScannedMark}
 use Rattle.read_tests.specs.declared.Parsed.{Parsed}
 use Rattle.read_tests.specs.declared.Parsed.the-variants.{Got}
-use Rattle.read_names.specs.Slips.{firstOf, slipNumber, slipOfCode, declaredSlip, relationNumber}
+use Rattle.read_names.specs.declared.Slip.{Slip}
+use Rattle.read_names.specs.declared.Slip.the-variants.{Clean, Unknown, OtherKind, Twice, Reserved}
+use Rattle.read_names.specs.Slips.{firstOf, slipBy, slipOfCode, declaredSlip, relationNumber}
 use Rattle.read_bodies.specs.Bodies.{TestThen, ending, BodyOutcome, Bare, Declaration, Declares, DeclaresLet}
 use Rattle.read_bodies.specs.inner.Parts.{TreeThen, limitsReader, limitCodes, limitUses, LimitsThen}
 use Rattle.read_next.proofs.Next.{goes-on, passed}
@@ -34,7 +36,7 @@ use Rattle.read_bodies.proofs.NextWords.{named-here, declared-here, nam
 -- a name that is declared, with the line's code
 module _ (kind : Name → Line) (code : ℕ) (d : Declaration kind code) (s names : List ℕ) (n at used : ℕ) where
   pub declaration-got : (t : Token) (k : Key) (next : ℕ) → t ≡ tokenAt s at → t ≡ Word k next → ScannedWord s at k next
-      → (i end : ℕ) (before after : List ℕ) → i ≡ declaredSlip n names k
+      → (i : Slip) (end : ℕ) (before after : List ℕ) → i ≡ declaredSlip n names k
       → (end ≡ used + 1) × (after ≡ sets before used (replicate 1 code))
       → BodyOutcome (λ ts. mapped kind (declared ts)) (Declares kind s at) s names n at used before after
       (Got (record { at = next; used = end; slip = i }))
@@ -46,7 +48,7 @@ module _ (kind : Name → Line) (code : ℕ) (d : Declaration kind code) (s name
       read = ap (mapped kind) (declared-here s at k next f);
       slip =
           j ∙ declared-slip s at k next f names n q m ∙ sym (slip-alone q (declares (f .spelling)))
-          ∙ ap (λ us. slipNumber (firstSlip q us)) (sym (d .names (f .spelling)));
+          ∙ ap (λ us. slipBy (firstSlip q us)) (sym (d .names (f .spelling)));
       written = λ z. v ∙ ap (sets before used) (sym (d .codes q (f .spelling)));
       used = omega (arith, u, ap length (d .codes q (f .spelling)));
     }),
@@ -75,7 +77,7 @@ module _ (s : List ℕ) (at : ℕ) (k : Key) (next : ℕ) (f : ScannedWord s at 
         let-begun ∙ rw (goes-on s next 61 start m)
         (ap (λ ts. mapped (letLine (f .spelling)) (expression ts)) (passed s next 61 start m))
 
-    pub let-passed : (t : Token) → t ≡ tokenAt s at → t ≡ Word k next → (names : List ℕ) (n used i : ℕ) (before after : List ℕ)
+    pub let-passed : (t : Token) → t ≡ tokenAt s at → t ≡ Word k next → (names : List ℕ) (n used : ℕ) (i : Slip) (before after : List ℕ)
         → i ≡ declaredSlip n names k → (r : Parsed)
         → TreeThen 130 s names n (record { at = start; used = used; slip = i }) before after r
         → BodyOutcome letReader (DeclaresLet s at) s names n at used before after r
@@ -86,7 +88,7 @@ module _ (s : List ℕ) (at : ℕ) (k : Key) (next : ℕ) (f : ScannedWord s at 
         (λ q z x. record {
           sort = (f .spelling, x, refl, named-here s at k next f t e h);
           slip =
-              ap (λ y. firstOf y (slipNumber (firstSlip q (treeUses x)))) (j ∙ declared-slip s at k next f names n q z)
+              ap (λ y. firstOf y (slipBy (firstSlip q (treeUses x)))) (j ∙ declared-slip s at k next f names n q z)
               ∙ sym (slip-first q (declares (f .spelling)) (treeUses x));
           codes = λ y. refl;
           count = refl;
@@ -97,7 +99,7 @@ module _ (s names : List ℕ) (n at used : ℕ) (k : Key) (next : ℕ) (f : Scan
   pub closed-reserved : b ≡ true → nameNext closedLine (tokens (drop at s)) ≡ wrong
   closed-reserved h = name-reserved s at k next f closedLine (sym free ∙ h)
 
-  pub closed-got : b ≡ false → (c i w : ℕ) → c ≡ findIn n names k → i ≡ slipOfCode 32 64 c → w ≡ relationNumber c
+  pub closed-got : b ≡ false → (c : ℕ) (i : Slip) (w : ℕ) → c ≡ findIn n names k → i ≡ slipOfCode 32 64 c → w ≡ relationNumber c
       → (end : ℕ) (before after : List ℕ) → (end ≡ used + 1) × (after ≡ sets before used (replicate 1 (160 + w)))
       → BodyOutcome (λ ts. nameNext closedLine ts) (Bare false) s names n at used before after
       (Got (record { at = next; used = end; slip = i }))
@@ -155,7 +157,7 @@ module _ (s names : List ℕ) (n at used : ℕ) (k : Key) (next : ℕ) (f : Scan
   unfolding withinReader
   within-begun h = rw (name-here s at k next f (λ n. n) (sym free ∙ h), withinReader) (within-limits (f .spelling) (tokens (drop next s)))
 
-  pub within-passed : b ≡ false → (c i w : ℕ) → c ≡ findIn n names k → i ≡ slipOfCode 32 64 c → w ≡ relationNumber c
+  pub within-passed : b ≡ false → (c : ℕ) (i : Slip) (w : ℕ) → c ≡ findIn n names k → i ≡ slipOfCode 32 64 c → w ≡ relationNumber c
       → (before after : List ℕ) (r : Parsed) → LimitsThen (144 + w) s names n (record { at = next; used = used; slip = i }) before after r
       → BodyOutcome withinReader (Bare false) s names n at used before after r
   unfolding uses lineCodes
@@ -165,7 +167,7 @@ module _ (s names : List ℕ) (n at used : ℕ) (k : Key) (next : ℕ) (f : Scan
       (λ q m l. record {
         sort = refl;
         slip =
-            ap (λ x. firstOf x (slipNumber (firstSlip q (limitUses l)))) (ie ∙ ap (slipOfCode 32 64) ce ∙ relation-slip s at k next f names n q m)
+            ap (λ x. firstOf x (slipBy (firstSlip q (limitUses l)))) (ie ∙ ap (slipOfCode 32 64) ce ∙ relation-slip s at k next f names n q m)
             ∙ sym (slip-first q (usesRelation (f .spelling)) (limitUses l));
         codes = λ z.
             append-assoc (ending 6 testCodes q (l .from)) (ending 6 testCodes q (l .to)) ((144 + w) ∷ [])
@@ -174,20 +176,23 @@ module _ (s names : List ℕ) (n at used : ℕ) (k : Key) (next : ℕ) (f : Scan
         count = lengths (ending 6 testCodes q (l .from)) (ending 6 testCodes q (l .to)) (144 + w) (144 + indexOf (f .spelling) (relations q));
       })
     where
-      no-first : (x y : ℕ) → firstOf x y ≡ 0 → x ≡ 0
-      no-first ℕ.zero y e = refl
-      no-first (ℕ.suc x) y e = e
+      no-first : (x y : Slip) → firstOf x y ≡ Clean → x ≡ Clean
+      no-first Clean y e = refl
+      no-first Unknown y e = e
+      no-first OtherKind y e = e
+      no-first Twice y e = e
+      no-first Reserved y e = e
 
       lengths : (cs ds : List ℕ) (x y : ℕ) → length ((cs ++ ds) ++ (x ∷ [])) ≡ length (cs ++ (ds ++ (y ∷ [])))
       lengths cs ds x y = ap length (append-assoc cs ds (x ∷ [])) ∙ simp length-append
 
 -- `never T`
 pub never-passed : (s names : List ℕ) (n at used : ℕ) (before after : List ℕ) (r : Parsed)
-    → TestThen 131 s names n (record { at = at; used = used; slip = 0 }) before after r
+    → TestThen 131 s names n (record { at = at; used = used; slip = Clean }) before after r
     → BodyOutcome (λ ts. mapped neverLine (condition ts)) (Bare false) s names n at used before after r
 unfolding uses lineCodes
 never-passed s names n at used before after =
-    tree-line condition (ending 131 testCodes) testUses (λ ts. mapped neverLine (condition ts)) (Bare false) neverLine s names n at at used 0 before after
+    tree-line condition (ending 131 testCodes) testUses (λ ts. mapped neverLine (condition ts)) (Bare false) neverLine s names n at at used Clean before after
     refl (omega arith) (λ q m x. record { sort = refl; slip = refl; codes = λ z. refl; count = refl })
 
 pub test-declares : Declaration testLine 128

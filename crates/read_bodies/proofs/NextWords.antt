@@ -30,9 +30,10 @@ use Rattle.read_tokens.proofs.Token.{the-type}
 use Rattle.read_tokens.proofs.Tokens.{Scanned, ScannedWord, tokens-scanned}
 use Rattle.read_names.proofs.Names.{same-key, reserved-name, reserved-is-reserved}
 use Rattle.read_next.specs.Next.{wordEnd, wordNext}
-use Rattle.read_names.specs.Slips.{slipNumber, firstOf, slipOfCode, declaredSlip, relationNumber}
+use Rattle.read_names.specs.Slips.{slipBy, firstOf, slipOfCode, declaredSlip, relationNumber}
 use Rattle.read_bodies.specs.Bodies.{wordOf, Named}
-use Rattle.read_names.proofs.Slips.{first-none}
+use Rattle.read_names.specs.declared.Slip.the-variants.{Clean, Unknown, OtherKind, Twice, Reserved}
+use Rattle.read_names.proofs.FirstSlips.{first-none, first-cause, unknown-slips, kind-slips}
 use Rattle.codes.proofs.NameKinds.{Coded, coded}
 
 -- the word w stands next and ends at e
@@ -172,51 +173,51 @@ module _ (s : List ℕ) (at : ℕ) (k : Key) (next : ℕ) (f : ScannedWord s at 
         subst (Coded q (f .spelling) (kindOf q (f .spelling))) (sym code-found)
         (coded q (f .spelling) (omega (arith, h .fewTests)) (omega (arith, h .fewRelations)))
 
-    pub declared-slip : declaredSlip n names k ≡ slipNumber (slip q (declares (f .spelling)))
+    pub declared-slip : declaredSlip n names k ≡ slipBy (slip q (declares (f .spelling)))
     unfolding declaredSlip slip declarationSlip
     declared-slip =
-        ap (λ b. cond b 4 (cond (eqb (findIn n names k) 0) 0 3)) (ap reservedKey (f .key) ∙ reserved-is-reserved (f .spelling) (f .spelled))
+        ap (λ b. cond b Reserved (cond (eqb (findIn n names k) 0) Clean Twice)) (ap reservedKey (f .key) ∙ reserved-is-reserved (f .spelling) (f .spelled))
         ∙ go (isReserved (f .spelling)) (kindOf q (f .spelling)) coded-here
       where
         go : (b : Bool) (o : Option Kind) → Coded q (f .spelling) o (findIn n names k)
-            → cond b 4 (cond (eqb (findIn n names k) 0) 0 3) ≡ slipNumber (declarationSlip b o)
+            → cond b Reserved (cond (eqb (findIn n names k) 0) Clean Twice) ≡ slipBy (declarationSlip b o)
         go true o c = refl
         go false none c = rw (eq-eqb _ _ c)
         go false (some aTest) c = rw (ne-eqb (findIn n names k) 0 (λ z. omega (arith, c .0)))
         go false (some aRelation) c = rw (ne-eqb (findIn n names k) 0 (λ z. omega (arith, c .0)))
         go false (some aLet) c = rw (ne-eqb (findIn n names k) 0 (λ z. omega (arith, c)))
 
-    pub relation-slip : slipOfCode 32 64 (findIn n names k) ≡ slipNumber (slip q (usesRelation (f .spelling)))
+    pub relation-slip : slipOfCode 32 64 (findIn n names k) ≡ slipBy (slip q (usesRelation (f .spelling)))
     unfolding slipOfCode slip relationSlip
     relation-slip = go (kindOf q (f .spelling)) (findIn n names k) coded-here
       where
-        go : (o : Option Kind) (c : ℕ) → Coded q (f .spelling) o c → slipOfCode 32 64 c ≡ slipNumber (relationSlip o)
+        go : (o : Option Kind) (c : ℕ) → Coded q (f .spelling) o c → slipOfCode 32 64 c ≡ slipBy (relationSlip o)
         go none c e = rw e
         go (some aTest) c e = rw (ne-eqb c 0 (λ z. omega (arith, e .0)), lt-ltb c 32 (e .1))
         go (some aRelation) c e = rw (ne-eqb c 0 (λ z. omega (arith, e .0)), le-ltb c 32 (omega (arith, e .0)), lt-ltb c 64 (e .1))
         go (some aLet) c e = rw (ne-eqb c 0 (λ z. omega (arith, e)), le-ltb c 32 (omega (arith, e)), le-ltb c 64 (omega (arith, e)))
 
-    pub relation-number : slipOfCode 32 64 (findIn n names k) ≡ 0 → relationNumber (findIn n names k) ≡ indexOf (f .spelling) (relations q)
+    pub relation-number : slipOfCode 32 64 (findIn n names k) ≡ Clean → relationNumber (findIn n names k) ≡ indexOf (f .spelling) (relations q)
     unfolding slipOfCode relationNumber
     relation-number z = go (kindOf q (f .spelling)) (findIn n names k) coded-here z
       where
-        go : (o : Option Kind) (c : ℕ) → Coded q (f .spelling) o c → slipOfCode 32 64 c ≡ 0 → relationNumber c ≡ indexOf (f .spelling) (relations q)
-        go none c e y = absurd (let x : _≡_ {A = ℕ} 1 0 = rw e at y in omega arith)
-        go (some aTest) c e y = absurd (let x : _≡_ {A = ℕ} 2 0 = rw (ne-eqb c 0 (λ z. omega (arith, e .0)), lt-ltb c 32 (e .1)) at y in omega arith)
+        go : (o : Option Kind) (c : ℕ) → Coded q (f .spelling) o c → slipOfCode 32 64 c ≡ Clean → relationNumber c ≡ indexOf (f .spelling) (relations q)
+        go none c e y = absurd (let x : Unknown ≡ Clean = rw e at y in unknown-slips x)
+        go (some aTest) c e y = absurd (let x : OtherKind ≡ Clean = rw (ne-eqb c 0 (λ z. omega (arith, e .0)), lt-ltb c 32 (e .1)) at y in kind-slips x)
         go (some aRelation) c e y = rw (le-ltb c 32 (omega (arith, e .0)), lt-ltb c 64 (e .1)) (omega (arith, e .0))
         go (some aLet) c e y =
-            absurd (let x : _≡_ {A = ℕ} 2 0 = rw (ne-eqb c 0 (λ z. omega (arith, e)), le-ltb c 32 (omega (arith, e)), le-ltb c 64 (omega (arith, e))) at y in omega arith)
+            absurd (let x : OtherKind ≡ Clean = rw (ne-eqb c 0 (λ z. omega (arith, e)), le-ltb c 32 (omega (arith, e)), le-ltb c 64 (omega (arith, e))) at y in kind-slips x)
 
 -- the first slip of a name and others behind it
 pub slip-first : (q : Query) (u : Use) (us : List Use)
-    → slipNumber (firstSlip q (u ∷ us)) ≡ firstOf (slipNumber (slip q u)) (slipNumber (firstSlip q us))
+    → slipBy (firstSlip q (u ∷ us)) ≡ firstOf (slipBy (slip q u)) (slipBy (firstSlip q us))
 unfolding firstSlip
 slip-first q u us = go (slip q u)
   where
-    go : (o : Option Cause) → slipNumber (elim o [ some c ↦ some c | none ↦ firstSlip q us ]) ≡ firstOf (slipNumber o) (slipNumber (firstSlip q us))
-    go (some c) = refl
+    go : (o : Option Cause) → slipBy (elim o [ some c ↦ some c | none ↦ firstSlip q us ]) ≡ firstOf (slipBy o) (slipBy (firstSlip q us))
+    go (some c) = first-cause c (slipBy (firstSlip q us))
     go none = refl
 
-pub slip-alone : (q : Query) (u : Use) → slipNumber (firstSlip q (u ∷ [])) ≡ slipNumber (slip q u)
+pub slip-alone : (q : Query) (u : Use) → slipBy (firstSlip q (u ∷ [])) ≡ slipBy (slip q u)
 unfolding firstSlip
-slip-alone q u = slip-first q u [] ∙ sym (first-none (slipNumber (slip q u)))
+slip-alone q u = slip-first q u [] ∙ sym (first-none (slipBy (slip q u)))

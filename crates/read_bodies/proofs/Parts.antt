@@ -16,7 +16,7 @@ use Rattle.claims.specs.Tree.{Line}
 use Rattle.claims.specs.Lines.{mapped, condition, bracketed}
 use Rattle.claims.specs.Names.{Use, uses, testUses, firstSlip}
 use Rattle.claims.specs.Query.{Query}
-use Rattle.words.specs.Memory.{zeros}
+use Rattle.memory.specs.Memory.{zeros}
 use Rattle.codes.specs.Codes.{testCodes, lineCodes}
 use Rattle.read_tokens.proofs.Tokens.{ScannedMark}
 use Rattle.read_tests.specs.declared.Place.{Place}
@@ -24,7 +24,9 @@ use Rattle.read_tests.specs.declared.Parsed.{Parsed}
 use Rattle.read_tests.specs.declared.Parsed.the-variants.{Got, Wrong, Deep}
 use Rattle.read_tests.specs.Places.{ReaderOutcome, Is}
 use Rattle.read_names.specs.Keys.{Knows}
-use Rattle.read_names.specs.Slips.{firstOf, slipNumber}
+use Rattle.read_names.specs.declared.Slip.{Slip}
+use Rattle.read_names.specs.declared.Slip.the-variants.{Clean}
+use Rattle.read_names.specs.Slips.{firstOf, slipBy}
 use Rattle.read_bodies.specs.Bodies.{Behind, Ends, Reads, ending, TestThen, BodyOutcome}
 use Rattle.read_bodies.specs.inner.Parts.{Fits, oneCode, codeStored, Bracketed, limitsReader, limitCodes, limitUses, LimitsThen}
 use denote.Enum.Declared.{tagOf}
@@ -106,14 +108,14 @@ module _ {A : Type 0} (D : List Token → Found A) (codes : Query → A → List
 
 -- A line made of one tree, which was read from a later place on where the slip i was remembered. What is wanted of the line: its sort, its
 -- slip, and its codes where no name has a slip.
-pub record Makes {A : Type 0} (codes′ : Query → A → List ℕ) (uses′ : A → List Use) (K : Line → Type 0) (i : ℕ) (q : Query) (l : Line) (a : A) : Type 0 where
+pub record Makes {A : Type 0} (codes′ : Query → A → List ℕ) (uses′ : A → List Use) (K : Line → Type 0) (i : Slip) (q : Query) (l : Line) (a : A) : Type 0 where
   pub sort : K l
-  pub slip : firstOf i (slipNumber (firstSlip q (uses′ a))) ≡ slipNumber (firstSlip q (uses l))
-  pub codes : firstOf i (slipNumber (firstSlip q (uses′ a))) ≡ 0 → codes′ q a ≡ lineCodes q l
+  pub slip : firstOf i (slipBy (firstSlip q (uses′ a))) ≡ slipBy (firstSlip q (uses l))
+  pub codes : firstOf i (slipBy (firstSlip q (uses′ a))) ≡ Clean → codes′ q a ≡ lineCodes q l
   pub count : length (codes′ q a) ≡ length (lineCodes q l)
 
 pub tree-line : {A : Type 0} (R : List Token → Found A) (codes : Query → A → List ℕ) (uses′ : A → List Use) (D : List Token → Found Line)
-    (K : Line → Type 0) (kind : A → Line) (s names : List ℕ) (n at later used i : ℕ) (before after : List ℕ)
+    (K : Line → Type 0) (kind : A → Line) (s names : List ℕ) (n at later used : ℕ) (i : Slip) (before after : List ℕ)
     → D (tokens (drop at s)) ≡ mapped kind (R (tokens (drop later s))) → at ≤ later
     → ((q : Query) → Knows names n q → (a : A) → Makes codes uses′ K i q (kind a) a)
     → (r : Parsed) → Reads R codes uses′ 1 s names n (record { at = later; used = used; slip = i }) before after r

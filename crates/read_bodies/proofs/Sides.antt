@@ -15,13 +15,14 @@ use Rattle.claims.specs.Tree.{Tree, includes, empty, irreflexive, Line, assumeE
 use Rattle.claims.specs.Lines.{choose, mapped, expression, includeReader, claims}
 use Rattle.claims.specs.Names.{treeUses, claimUses, uses, firstSlip}
 use Rattle.claims.specs.Query.{Query}
-use Rattle.words.specs.Memory.{zeros}
+use Rattle.memory.specs.Memory.{zeros}
 use Rattle.codes.specs.Codes.{treeCodes, claimCodes, lineCodes}
 use Rattle.read_tests.specs.declared.Place.{Place}
 use Rattle.read_tests.specs.declared.Parsed.{Parsed}
 use Rattle.read_tests.specs.declared.Parsed.the-variants.{Got, Wrong, Deep}
 use Rattle.read_names.specs.Keys.{Knows}
-use Rattle.read_names.specs.Slips.{slipNumber}
+use Rattle.read_names.specs.declared.Slip.the-variants.{Clean}
+use Rattle.read_names.specs.Slips.{slipBy}
 use Rattle.read_bodies.specs.Bodies.{ending, BodyOutcome, Bare, OneSided, oneSide}
 use Rattle.read_bodies.specs.inner.Parts.{TreeThen}
 use Rattle.read_next.proofs.Stores.{stores-then}
@@ -45,13 +46,13 @@ body-via D E K s names n at later used before after e h Deep (a, b) = (a, λ q m
 pub side-passed : (D : List Notation.Token → Found Line) (kind : Tree → Line) (code : ℕ) (c : Bool) → OneSided kind code c
     → (s names : List ℕ) (n at later used : ℕ) (before after : List ℕ)
     → D (tokens (drop at s)) ≡ mapped kind (expression (tokens (drop later s))) → at ≤ later → (r : Parsed)
-    → TreeThen code s names n (record { at = later; used = used; slip = 0 }) before after r
+    → TreeThen code s names n (record { at = later; used = used; slip = Clean }) before after r
     → BodyOutcome D (Bare c) s names n at used before after r
 side-passed D kind code c i s names n at later used before after e h =
-    tree-line expression (ending code treeCodes) treeUses D (Bare c) kind s names n at later used 0 before after e h
+    tree-line expression (ending code treeCodes) treeUses D (Bare c) kind s names n at later used Clean before after e h
     (λ q m x. record {
       sort = i .plain x;
-      slip = ap (λ us. slipNumber (firstSlip q us)) (sym (i .names x));
+      slip = ap (λ us. slipBy (firstSlip q us)) (sym (i .names x));
       codes = λ z. sym (i .codes q x);
       count = ap length (sym (i .codes q x));
     })
@@ -117,7 +118,7 @@ module _ (ts us : List Notation.Token) (e : Tree) (h : expression ts ≡ got e u
   include-in g = include-left ∙ ap rest g
 
 abbrev start : ℕ → ℕ → Place
-start at used = record { at = at; used = used; slip = 0 }
+start at used = record { at = at; used = used; slip = Clean }
 
 module _ (s names : List ℕ) (n at used : ℕ) (before mid : List ℕ) (r : Parsed) (w : TreeThen 135 s names n (start at used) before mid r) where
   pub include-failed : Failed r → BodyOutcome includeReader (Bare true) s names n at used before mid r
@@ -168,7 +169,7 @@ module _ (s names : List ℕ) (n at used : ℕ) (before mid : List ℕ) (r : Par
                   line = claimLine (includes (o .tree) (p .tree));
                   sort = refl;
                   read = joined q m ∙ ap (mapped (λ f. claimLine (includes (o .tree) f))) (p .read);
-                  slip = slips-then q (treeUses (o .tree)) (treeUses (p .tree)) 0 (g .slip) (h .slip) (o .slip) (p .slip);
+                  slip = slips-then q (treeUses (o .tree)) (treeUses (p .tree)) Clean (g .slip) (h .slip) (o .slip) (p .slip);
                   written = λ z.
                       stores-then before used (treeCodes q (o .tree) ++ (135 ∷ [])) (treeCodes q (p .tree) ++ (136 ∷ [])) mid after (g .used)
                       (o .written) (o .used) (p .written)

@@ -14,7 +14,7 @@ use Rattle.claims.specs.Bytes.{text}
 use Rattle.claims.specs.Lines.{Choice, mapped, expression, condition}
 use Rattle.claims.specs.Names.{Use, declares, uses, testUses, treeUses, firstSlip}
 use Rattle.claims.specs.Query.{Query}
-use Rattle.words.specs.Memory.{zeros}
+use Rattle.memory.specs.Memory.{zeros}
 use Rattle.codes.specs.Codes.{testCodes, treeCodes, lineCodes}
 use Rattle.read_tokens.specs.declared.Key.{Key}
 use Rattle.read_tokens.specs.declared.Token.{Token}
@@ -24,7 +24,8 @@ use Rattle.read_names.specs.Keys.{Knows as Found-in}
 use Rattle.read_tests.specs.declared.Place.{Place}
 use Rattle.read_tests.specs.declared.Parsed.{Parsed}
 use Rattle.read_tests.specs.declared.Parsed.the-variants.{Got, Wrong, Deep}
-use Rattle.read_names.specs.Slips.{firstOf, slipNumber}
+use Rattle.read_names.specs.declared.Slip.the-variants.{Clean}
+use Rattle.read_names.specs.Slips.{firstOf, slipBy}
 
 -- the place r behind what begins at `at` with `used` codes written: what is left of the line has room, with so many codes more
 pub record Behind (s : List ℕ) (at used more : ℕ) (r : Place) : Type 0 where
@@ -45,7 +46,7 @@ pub record ReadTree {A : Type 0} (D : List Piece → Found A) (codes : A → Lis
   pub read : D (tokens (drop (p .at) s)) ≡ got tree (tokens (drop (r .at) s))
   pub written : after ≡ sets before (p .used) (codes tree)
   pub used : r .used ≡ p .used + length (codes tree)
-  pub slip : r .slip ≡ firstOf (p .slip) (slipNumber (firstSlip q (uses tree)))
+  pub slip : r .slip ≡ firstOf (p .slip) (slipBy (firstSlip q (uses tree)))
 
 module _ {A : Type 0} (D : List Piece → Found A) where
   abbrev pub Answers : (A → List ℕ) → (A → List Use) → Query → List ℕ → Place → List ℕ → List ℕ → Parsed → Type 0
@@ -73,8 +74,8 @@ pub record Body (D : List Piece → Found Line) (Sort : Line → Type 0) (q : Qu
   pub line : Line
   pub sort : Sort line
   pub read : D (tokens (drop at s)) ≡ got line (tokens (drop (r .at) s))
-  pub slip : r .slip ≡ slipNumber (firstSlip q (uses line))
-  pub written : r .slip ≡ 0 → after ≡ sets before from (lineCodes q line)
+  pub slip : r .slip ≡ slipBy (firstSlip q (uses line))
+  pub written : r .slip ≡ Clean → after ≡ sets before from (lineCodes q line)
   pub used : r .used ≡ from + length (lineCodes q line)
 
 module _ (D : List Piece → Found Line) (Sort : Line → Type 0) where

@@ -1,4 +1,5 @@
 // What stands behind the first word of a line, by the kind of line, and its codes. (Document 01, "The query".) After a fault no code is left.
+use read_names::Slip;
 use read_tests::Parsed;
 use read_tests::Place;
 use read_tokens::Token;
@@ -47,11 +48,12 @@ fn code_behind(r: Parsed, code: u64, out: &mut [u64; 4096]) -> Parsed
     let Parsed::Got(g) = r else {
         return r;
     };
+    let slip = g.slip;
     let used = read_next::write(out, g.used, 1, code);
     Parsed::Got(Place {
         at: g.at,
         used,
-        slip: g.slip,
+        slip,
     })
 }
 
@@ -96,6 +98,7 @@ fn bracketed(s: &[u8], names: &[u64], n: usize, p: Place, out: &mut [u64; 4096])
     if next == 0 {
         return read_tests::wrong(out);
     }
+    let slip = p.slip;
     let r = condition_then(
         s,
         names,
@@ -103,7 +106,7 @@ fn bracketed(s: &[u8], names: &[u64], n: usize, p: Place, out: &mut [u64; 4096])
         Place {
             at: next,
             used: p.used,
-            slip: p.slip,
+            slip,
         },
         codes::TESTED,
         out,
@@ -111,6 +114,7 @@ fn bracketed(s: &[u8], names: &[u64], n: usize, p: Place, out: &mut [u64; 4096])
     let Parsed::Got(g) = r else {
         return r;
     };
+    let found = g.slip;
     let end = read_next::mark_next(s, g.at, b']');
     if end == 0 {
         return read_tests::wrong(out);
@@ -118,7 +122,7 @@ fn bracketed(s: &[u8], names: &[u64], n: usize, p: Place, out: &mut [u64; 4096])
     Parsed::Got(Place {
         at: end,
         used: g.used,
-        slip: g.slip,
+        slip: found,
     })
 }
 
@@ -252,7 +256,7 @@ pub fn one_side(
     requires { ⌜ used + (length (now s) - at) + 1 ≤ 4096 ⌝ }
     ensures { λ r. ⌜ ((f g : Tree → Line) (c : Bool) → OneSided f empty c → OneSided g irreflexive c → BodyOutcome (choose (oneSide f g)) (Bare c) (now (s .entry)) (now (names .entry)) n at used (now (out .entry)) (now (out .exit)) r) ⌝ }
 {
-    let e = read_next::word_next(s, at, read_names::word_key(read_names::EMPTY));
+    let e = read_next::word_next(s, at, read_names::word_key(read_names::EMPTY_WORD));
     if e != 0 {
         return expression_then(
             s,
@@ -261,13 +265,13 @@ pub fn one_side(
             Place {
                 at: e,
                 used,
-                slip: 0,
+                slip: Slip::Clean,
             },
             empty,
             out,
         );
     }
-    let i = read_next::word_next(s, at, read_names::word_key(read_names::IRREFLEXIVE));
+    let i = read_next::word_next(s, at, read_names::word_key(read_names::IRREFLEXIVE_WORD));
     if i != 0 {
         return expression_then(
             s,
@@ -276,7 +280,7 @@ pub fn one_side(
             Place {
                 at: i,
                 used,
-                slip: 0,
+                slip: Slip::Clean,
             },
             irreflexive,
             out,
@@ -301,14 +305,19 @@ fn two_sides(
         s,
         names,
         n,
-        Place { at, used, slip: 0 },
+        Place {
+            at,
+            used,
+            slip: Slip::Clean,
+        },
         codes::INCLUDED,
         out,
     );
     let Parsed::Got(g) = r else {
         return r;
     };
-    let next = read_next::word_next(s, g.at, read_names::word_key(read_names::IN));
+    let slip = g.slip;
+    let next = read_next::word_next(s, g.at, read_names::word_key(read_names::IN_WORD));
     if next == 0 {
         return read_tests::wrong(out);
     }
@@ -319,7 +328,7 @@ fn two_sides(
         Place {
             at: next,
             used: g.used,
-            slip: g.slip,
+            slip,
         },
         codes::CLAIM_INCLUDE,
         out,
@@ -338,7 +347,7 @@ pub fn claim_body(
     requires { ⌜ used + (length (now s) - at) + 1 ≤ 4096 ⌝ }
     ensures { λ r. ⌜ BodyOutcome (choose claims) (Bare true) (now (s .entry)) (now (names .entry)) n at used (now (out .entry)) (now (out .exit)) r ⌝ }
 {
-    let i = read_next::word_next(s, at, read_names::word_key(read_names::INCLUDE));
+    let i = read_next::word_next(s, at, read_names::word_key(read_names::INCLUDE_WORD));
     if i != 0 {
         return two_sides(s, i, names, n, used, out);
     }

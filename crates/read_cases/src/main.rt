@@ -2,12 +2,13 @@
 // what the reader says of it. Of a query 4,097 bytes are kept: from there on it is too long, whatever follows.
 use case_lines::Case;
 use case_lines::Cases;
+use libc::STDOUT_FILENO;
 
-// Writes what the reader says of the first n bytes of the text.
-fn answer(text: &[u8], n: usize) {
-    if n <= text.len() {
-        show::show(&text[..n]);
-    }
+// Writes what the reader says of a query.
+fn answer(text: &[u8]) {
+    let mut out = [0u8; reading_line::LONGEST];
+    let n = reading_line::line(text, &mut out);
+    io::write_all(STDOUT_FILENO, texts::first(&out, n));
 }
 
 // Answers the cases of standard input, one after the other.
@@ -18,7 +19,7 @@ fn run(part: &mut [u8], text: &mut [u8]) {
         let c = case_lines::next(part, used, text);
         match c {
             Case::Line(n, behind) => {
-                answer(text, n);
+                answer(texts::first(text, n));
                 used = behind;
             }
             Case::End => return,
@@ -29,6 +30,6 @@ fn run(part: &mut [u8], text: &mut [u8]) {
 
 fn main() {
     let mut part = io::large_buffer();
-    let mut text = [0u8; 4097];
+    let mut text = [0u8; layout::LONGEST_QUERY + 1];
     run(&mut part, &mut text);
 }

@@ -21,7 +21,7 @@ use Rattle.read_bodies.specs.Bodies.{Bare}
 use Rattle.read_declarations.specs.State.{hasClaim, After, Tabled}
 use Rattle.read_declarations.specs.inner.Declaring.{numberOf, oneMore, DeclaresName}
 use Rattle.read_names.specs.Keys.{entered}
-use Rattle.read_declarations.specs.declared.State.{State}
+use Rattle.read_declarations.specs.declared.LineState.{LineState}
 use Rattle.codes.proofs.NameKinds.{each-more}
 use Rattle.read_declarations.proofs.NameTable.{knows-entered, knows-kept}
 
@@ -91,8 +91,8 @@ bare-plain c (assumeIrreflexive e) h = record { tests = refl; relations = refl; 
 bare-plain c (claimLine x) h = record { tests = refl; relations = refl; lets = refl; none = λ w. refl; claim = sym h; free = λ q. refl }
 
 -- the state after a line more, by what the line declares
-module _ (q : Query) (st : State) (before out : List ℕ) (a : After q st before out) where
-  after-line : (l : Line) (next : State) (out′ : List ℕ) → out′ ≡ sets out (st .used) (lineCodes q l)
+module _ (q : Query) (st : LineState) (before out : List ℕ) (a : After q st before out) where
+  after-line : (l : Line) (next : LineState) (out′ : List ℕ) → out′ ≡ sets out (st .used) (lineCodes q l)
       → next .used ≡ st .used + length (lineCodes q l) → next .tests ≡ st .tests + length (testNames l)
       → next .relations ≡ st .relations + length (relationNames l) → next .lets ≡ st .lets + length (lets l)
       → next .names ≡ st .names + (length (testNames l) + length (relationNames l) + length (lets l))

@@ -15,23 +15,23 @@ use Rattle.read_names.specs.Keys.{entered}
 use Rattle.read_bodies.specs.Bodies.{Declares, DeclaresLet}
 use Rattle.refusals.specs.declared.Reason.{Reason}
 use Rattle.refusals.specs.declared.Reason.the-variants.{TooMany}
-use Rattle.read_declarations.specs.declared.Checked.{Checked}
-use Rattle.read_declarations.specs.declared.Checked.the-variants.{Fine, Faulty}
-use Rattle.read_declarations.specs.declared.State.{State}
+use Rattle.read_declarations.specs.declared.LineCheck.{LineCheck}
+use Rattle.read_declarations.specs.declared.LineCheck.the-variants.{Fine, Faulty}
+use Rattle.read_declarations.specs.declared.LineState.{LineState}
 use Rattle.read_declarations.specs.declared.LineRead.{LineRead}
 use Rattle.read_declarations.specs.declared.LineRead.the-variants.{Taken, Refused}
 use Rattle.read_declarations.specs.inner.Declaring.{countOf, numberOf, mostOf, oneIf, oneMore, declaredRead, declaredNames, DeclaresName, DeclaresNext}
 use Rattle.read_declarations.proofs.Fates.{fresh-name}
 
 -- the state with a name more, by three numbers that are 1 or 0
-pub one-more-is : (of u : ℕ) (st : State) (i j k : ℕ) → i ≡ oneIf of 16 → j ≡ oneIf of 32 → k ≡ oneIf of 64
+pub one-more-is : (of u : ℕ) (st : LineState) (i j k : ℕ) → i ≡ oneIf of 16 → j ≡ oneIf of 32 → k ≡ oneIf of 64
     → record { used = u; names = st .names + 1; tests = st .tests + i; relations = st .relations + j; lets = st .lets + k; claimed = st .claimed }
     ≡ oneMore of u st
 unfolding oneMore
 one-more-is of u st i j k e f g = rw (e, f, g)
 
 -- the answer and the table behind a line with the check x, which is c
-module _ (of : ℕ) (st : State) (key : Key) (names : List ℕ) (c x : Checked) (checks : x ≡ c) where
+module _ (of : ℕ) (st : LineState) (key : Key) (names : List ℕ) (c x : LineCheck) (checks : x ≡ c) where
   abbrev Answered : LineRead → List ℕ → Type 0
   Answered l names′ = (l ≡ declaredRead of st c) × (names′ ≡ declaredNames key of st c names)
 
@@ -47,7 +47,7 @@ module _ (of : ℕ) (st : State) (key : Key) (names : List ℕ) (c x : Checked) 
         let g = le-leb (mostOf of) (countOf of st) (omega arith) in
         (rw (e, g), rw (e, g))
 
-    pub answer-taken : n < m → (next : State) → next ≡ oneMore of u st → (k : Key) → k ≡ key → (names′ : List ℕ)
+    pub answer-taken : n < m → (next : LineState) → next ≡ oneMore of u st → (k : Key) → k ≡ key → (names′ : List ℕ)
         → names′ ≡ entered names (st .names) k (of + n) → Answered (Taken next) names′
     unfolding declaredRead declaredNames
     answer-taken h next i k ke names′ j =

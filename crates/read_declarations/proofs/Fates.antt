@@ -6,9 +6,7 @@ use mathlib.Core.Path.{_≡_, refl, sym, ap, _∙_}
 use mathlib.Core.Bool.{Bool, true, false, cond, _&&_}
 use mathlib.Core.List.{List, [], _∷_}
 use mathlib.Core.Option.{Option, some, none}
-use lib.Dec.{eqb}
 use lib.ListN.{drop}
-use borrow.Author.Tests.{eqb-true, eqb-false}
 use Rattle.claims.specs.Tokens as Notation
 use Rattle.claims.specs.Tokens.{tokens, isReserved}
 use Rattle.claims.specs.Grammar.{Found, got, wrong, deep}
@@ -22,11 +20,14 @@ use Rattle.read_tests.specs.declared.Place.{Place}
 use Rattle.read_tests.specs.declared.Parsed.{Parsed}
 use Rattle.read_tests.specs.declared.Parsed.the-variants.{Got, Wrong, Deep}
 use Rattle.refusals.specs.declared.Reason.{Reason}
-use Rattle.refusals.specs.declared.Reason.the-variants.{Notation as BadNotation, TooDeep}
-use Rattle.read_declarations.specs.declared.Checked.the-variants.{Fine, Faulty}
-use Rattle.read_names.specs.Slips.{slipNumber}
+use Rattle.refusals.specs.declared.Reason.the-variants.{Notation as BadNotation, TooDeep, UnknownName, WrongKind, DeclaredTwice, ReservedName}
+use Rattle.read_declarations.specs.declared.LineCheck.the-variants.{Fine, Faulty}
+use Rattle.read_names.specs.declared.Slip.{Slip}
+use Rattle.read_names.specs.declared.Slip.the-variants.{Clean, Unknown, OtherKind, Twice, Reserved}
+use Rattle.read_names.specs.Slips.{slipBy}
+use Rattle.read_names.proofs.FirstSlips.{cause-slips}
 use Rattle.refusals.specs.Causes.{causeOf}
-use Rattle.read_declarations.specs.inner.Kinds.{slipReason, checked, wholeLine}
+use Rattle.read_declarations.specs.inner.Kinds.{bySlip, checked, wholeLine}
 use Rattle.read_bodies.specs.Bodies.{BodySays}
 
 -- the causes that a name has
@@ -98,33 +99,46 @@ first-name q (u ∷ us) = go (slip q u) (slip-name q u) (first-name q us)
     go (some c) h i = h
     go none h i = i
 
--- a slip's number tells its cause
-told : (o : Option Cause) → NameSlip o → (slipNumber o ≡ 0 → ⊥) → o ≡ some (causeOf (slipReason (slipNumber o)))
-unfolding slipReason causeOf
-told none h f = absurd (f refl)
-told (some unknownName) h f = refl
-told (some wrongKind) h f = refl
-told (some declaredTwice) h f = refl
-told (some reservedName) h f = refl
-told (some tooLong) h f = absurd h
-told (some badByte) h f = absurd h
-told (some notation) h f = absurd h
-told (some tooDeep) h f = absurd h
-told (some tooMany) h f = absurd h
-told (some noClaim) h f = absurd h
-told (some afterClaim) h f = absurd h
-told (some overLimit) h f = absurd h
-told (some badAllowance) h f = absurd h
-told (some shortMemory) h f = absurd h
-told (some spentAllowance) h f = absurd h
-told (some shortBuffer) h f = absurd h
-told (some graphField) h f = absurd h
-told (some sheetField) h f = absurd h
-told (some doesNotPass) h f = absurd h
+-- what a line is refused for is the cause of its slip
+module _ (u : ℕ) (w : Reason) where
+  told-as : (c : Cause) (v : Reason) → c ≡ causeOf v → Faulty v ≡ Faulty w → some c ≡ some (causeOf w)
+  told-as c v i e = let j : v ≡ w = cc in ap some (i ∙ ap causeOf j)
 
-no-slip-number : (o : Option Cause) → slipNumber o ≡ 0 → o ≡ none
-no-slip-number none e = refl
-no-slip-number (some c) e = absurd (omega arith)
+  told : (o : Option Cause) → NameSlip o → bySlip u (slipBy o) ≡ Faulty w → o ≡ some (causeOf w)
+  unfolding bySlip causeOf
+  told none h e = let z : _≡_ {A = ℕ} 0 1 = cc in absurd (omega arith)
+  told (some unknownName) h e = told-as unknownName UnknownName refl e
+  told (some wrongKind) h e = told-as wrongKind WrongKind refl e
+  told (some declaredTwice) h e = told-as declaredTwice DeclaredTwice refl e
+  told (some reservedName) h e = told-as reservedName ReservedName refl e
+  told (some tooLong) h e = absurd h
+  told (some badByte) h e = absurd h
+  told (some notation) h e = absurd h
+  told (some tooDeep) h e = absurd h
+  told (some tooMany) h e = absurd h
+  told (some noClaim) h e = absurd h
+  told (some afterClaim) h e = absurd h
+  told (some overLimit) h e = absurd h
+  told (some badAllowance) h e = absurd h
+  told (some shortMemory) h e = absurd h
+  told (some spentAllowance) h e = absurd h
+  told (some shortBuffer) h e = absurd h
+  told (some graphField) h e = absurd h
+  told (some sheetField) h e = absurd h
+  told (some doesNotPass) h e = absurd h
+
+clean-cause : (o : Option Cause) → slipBy o ≡ Clean → o ≡ none
+clean-cause none e = refl
+clean-cause (some c) e = absurd (cause-slips c e)
+
+-- a line without a fault has no slip
+fine-clean : (u v : ℕ) (i : Slip) → bySlip u i ≡ Fine v → (i ≡ Clean) × (v ≡ u)
+unfolding bySlip
+fine-clean u v Clean e = (refl, cc)
+fine-clean u v Unknown e = let z : _≡_ {A = ℕ} 0 1 = cc in absurd (omega arith)
+fine-clean u v OtherKind e = let z : _≡_ {A = ℕ} 0 1 = cc in absurd (omega arith)
+fine-clean u v Twice e = let z : _≡_ {A = ℕ} 0 1 = cc in absurd (omega arith)
+fine-clean u v Reserved e = let z : _≡_ {A = ℕ} 0 1 = cc in absurd (omega arith)
 
 -- the fate of a line, by what was found
 module _ (q : Query) (ended : Bool) (n : ℕ) where
@@ -180,18 +194,19 @@ pub record Whole (s : List ℕ) (ended : Bool) (r : Parsed) (u : ℕ) : Type 0 w
   pub place : Place
   pub reached : r ≡ Got place
   pub ends : (atEnd (tokens (drop (place .at) s)) && ended) ≡ true
-  pub clean : place .slip ≡ 0
+  pub clean : place .slip ≡ Clean
   pub used : u ≡ place .used
 
 pub fine-whole : (s : List ℕ) (ended : Bool) (r : Parsed) (u : ℕ) → checked s ended r ≡ Fine u → Whole s ended r u
 unfolding checked
-fine-whole s ended (Got g) u e = go (atEnd (tokens (drop (g .at) s)) && ended) refl (eqb (g .slip) 0) refl e
+fine-whole s ended (Got g) u e = go (atEnd (tokens (drop (g .at) s)) && ended) refl e
   where
-    go : (a : Bool) → (atEnd (tokens (drop (g .at) s)) && ended) ≡ a → (b : Bool) → eqb (g .slip) 0 ≡ b
-        → cond a (cond b (Fine (g .used)) (Faulty (slipReason (g .slip)))) (Faulty BadNotation) ≡ Fine u → Whole s ended (Got g) u
-    go true h true i f = record { place = g; reached = refl; ends = h; clean = eqb-true (g .slip) 0 i; used = cc }
-    go true h false i f = let z : _≡_ {A = ℕ} 0 1 = cc in absurd (omega arith)
-    go false h b i f = let z : _≡_ {A = ℕ} 0 1 = cc in absurd (omega arith)
+    go : (a : Bool) → (atEnd (tokens (drop (g .at) s)) && ended) ≡ a
+        → cond a (bySlip (g .used) (g .slip)) (Faulty BadNotation) ≡ Fine u → Whole s ended (Got g) u
+    go true h f =
+        let c = fine-clean (g .used) u (g .slip) f in
+        record { place = g; reached = refl; ends = h; clean = c .0; used = c .1 }
+    go false h f = let z : _≡_ {A = ℕ} 0 1 = cc in absurd (omega arith)
 fine-whole s ended Wrong u e = let z : _≡_ {A = ℕ} 0 1 = cc in absurd (omega arith)
 fine-whole s ended Deep u e = let z : _≡_ {A = ℕ} 0 1 = cc in absurd (omega arith)
 
@@ -209,19 +224,14 @@ pub faulty-fate : (D : List Notation.Token → Found Line) (K : Line → Type 0)
     → (n : ℕ) → readLine q n (wholeLine ended (D (tokens (drop at s)))) ≡ refuse (causeOf w) n
 unfolding checked
 faulty-fate D K q s at used before after ended w (Got g) e o n =
-    go (atEnd (tokens (drop (g .at) s)) && ended) refl (eqb (g .slip) 0) refl e
+    go (atEnd (tokens (drop (g .at) s)) && ended) refl e
   where
-    go : (a : Bool) → (atEnd (tokens (drop (g .at) s)) && ended) ≡ a → (b : Bool) → eqb (g .slip) 0 ≡ b
-        → cond a (cond b (Fine (g .used)) (Faulty (slipReason (g .slip)))) (Faulty BadNotation) ≡ Faulty w
+    go : (a : Bool) → (atEnd (tokens (drop (g .at) s)) && ended) ≡ a → cond a (bySlip (g .used) (g .slip)) (Faulty BadNotation) ≡ Faulty w
         → readLine q n (wholeLine ended (D (tokens (drop at s)))) ≡ refuse (causeOf w) n
-    go true h true i f = let z : _≡_ {A = ℕ} 0 1 = cc in absurd (omega arith)
-    go true h false i f =
-        let v : slipReason (g .slip) ≡ w = cc in
-        let m : slipNumber (firstSlip q (uses (o .line))) ≡ 0 → ⊥ = λ z. eqb-false (g .slip) 0 i (o .slip ∙ z) in
+    go true h f =
         fate-slip q ended n (D (tokens (drop at s))) (o .line) (tokens (drop (g .at) s)) (o .read) h (causeOf w)
-        (told (firstSlip q (uses (o .line))) (first-name q (uses (o .line))) m
-        ∙ ap (λ x. some (causeOf (slipReason x))) (sym (o .slip)) ∙ ap (λ x. some (causeOf x)) v)
-    go false h b i f =
+        (told (g .used) w (firstSlip q (uses (o .line))) (first-name q (uses (o .line))) (ap (bySlip (g .used)) (sym (o .slip)) ∙ f))
+    go false h f =
         let v : BadNotation ≡ w = cc in
         fate-unended q ended n (D (tokens (drop at s))) (o .line) (tokens (drop (g .at) s)) (o .read) h ∙ notation-said w n v
 faulty-fate D K q s at used before after ended w Wrong e o n =
@@ -231,8 +241,8 @@ faulty-fate D K q s at used before after ended w Deep e o n =
     let v : TooDeep ≡ w = cc in
     fate-deep q ended n (D (tokens (drop at s))) o ∙ deep-said w n v
 
-pub clean-slips : (q : Query) (us : List Use) (x : ℕ) → x ≡ slipNumber (firstSlip q us) → x ≡ 0 → firstSlip q us ≡ none
-clean-slips q us x e f = no-slip-number (firstSlip q us) (sym e ∙ f)
+pub clean-slips : (q : Query) (us : List Use) (x : Slip) → x ≡ slipBy (firstSlip q us) → x ≡ Clean → firstSlip q us ≡ none
+clean-slips q us x e f = clean-cause (firstSlip q us) (sym e ∙ f)
 
 -- a declared name that has no slip is new
 pub fresh-name : (q : Query) (w : Name) (us : List Use) → firstSlip q (declares w ∷ us) ≡ none → kindOf q w ≡ none

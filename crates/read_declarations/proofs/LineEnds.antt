@@ -7,7 +7,7 @@ use mathlib.Core.Logic.{_⊎_, ⊎-elim}
 use mathlib.Core.Bool.{Bool, true, false, not, _&&_}
 use mathlib.Core.List.{List}
 use lib.ListN.{drop}
-use borrow.Author.Tests.{eq-eqb, ne-eqb, not-true, not-false}
+use borrow.Author.Tests.{not-true, not-false}
 use Rattle.claims.specs.Tokens.{tokens}
 use Rattle.claims.specs.Lines.{atEnd}
 use Rattle.read_tokens.specs.declared.Token.{Token}
@@ -21,10 +21,10 @@ use Rattle.read_bodies.proofs.NextWords.{NoWord}
 use Rattle.read_tests.specs.declared.Place.{Place}
 use Rattle.read_tests.specs.declared.Parsed.{Parsed}
 use Rattle.read_tests.specs.declared.Parsed.the-variants.{Got}
-use Rattle.refusals.specs.declared.Reason.{Reason}
 use Rattle.refusals.specs.declared.Reason.the-variants.{Notation}
-use Rattle.read_declarations.specs.declared.Checked.the-variants.{Fine, Faulty}
-use Rattle.read_declarations.specs.inner.Kinds.{slipReason, checked}
+use Rattle.read_declarations.specs.declared.LineCheck.{LineCheck}
+use Rattle.read_declarations.specs.declared.LineCheck.the-variants.{Faulty}
+use Rattle.read_declarations.specs.inner.Kinds.{bySlip, checked}
 
 -- the line's end, by the token that is found
 abbrev endOf : Bool → Token → Bool
@@ -72,10 +72,6 @@ module _ (s : List ℕ) (ended : Bool) (r : Parsed) (p : Place) (got : r ≡ Got
   unfolding checked
   checked-unended h = rw (got, ← e, not-true b h)
 
-  pub checked-fine : not b ≡ false → p .slip ≡ 0 → Fine (p .used) ≡ checked s ended r
+  pub checked-whole : not b ≡ false → (c : LineCheck) → c ≡ bySlip (p .used) (p .slip) → c ≡ checked s ended r
   unfolding checked
-  checked-fine h z = rw (got, ← e, not-false b h, eq-eqb _ _ z)
-
-  pub checked-slip : not b ≡ false → (p .slip ≡ 0 → ⊥) → (w : Reason) → w ≡ slipReason (p .slip) → Faulty w ≡ checked s ended r
-  unfolding checked
-  checked-slip h z w f = rw (got, ← e, not-false b h, ne-eqb _ _ z, f)
+  checked-whole h c f = rw (got, ← e, not-false b h, f)

@@ -16,11 +16,11 @@ use Rattle.claims.specs.Query.{Query, each, tests, relations, lets}
 use Rattle.claims.specs.Lines.{line}
 use Rattle.claims.specs.Refusals.{afterClaim, Result, ok, refuse}
 use Rattle.claims.specs.Reading.{claimOf, readLine}
-use Rattle.words.specs.Memory.{zeros}
+use Rattle.memory.specs.Memory.{zeros}
 use Rattle.codes.specs.Codes.{codeOf, queryCodes, MOST-TESTS, MOST-RELATIONS, MOST-LETS}
 use Rattle.read_tokens.specs.Scan.{wordByte, keyOf}
 use Rattle.read_names.specs.Keys.{findIn}
-use Rattle.read_declarations.specs.declared.State.{State}
+use Rattle.read_declarations.specs.declared.LineState.{LineState}
 use Rattle.read_declarations.specs.declared.LineRead.{LineRead}
 use Rattle.read_declarations.specs.declared.LineRead.the-variants.{Taken, Refused}
 use Rattle.refusals.specs.Causes.{causeOf}
@@ -34,7 +34,7 @@ abbrev pub hasClaim : Query → Bool
 hasClaim q = elim (claimOf q) [ some c ↦ true | none ↦ false ]
 
 -- the state after the lines of q: the codes of q are written over the start of the array, the numbers count what q declares
-pub record After (q : Query) (st : State) (before out : List ℕ) : Type 0 where
+pub record After (q : Query) (st : LineState) (before out : List ℕ) : Type 0 where
   pub used : st .used ≡ length (queryCodes q)
   pub written : out ≡ sets before 0 (queryCodes q)
   pub tests : st .tests ≡ length (tests q)
@@ -44,7 +44,7 @@ pub record After (q : Query) (st : State) (before out : List ℕ) : Type 0 where
   pub claimed : st .claimed ≡ hasClaim q
 
 -- no more is declared than may be
-pub record Small (st : State) : Type 0 where
+pub record Small (st : LineState) : Type 0 where
   pub tests : st .tests ≤ MOST-TESTS
   pub relations : st .relations ≤ MOST-RELATIONS
   pub lets : st .lets ≤ MOST-LETS
@@ -65,7 +65,7 @@ pub record Tabled (names : List ℕ) (n : ℕ) (q : Query) : Type 0 where
   pub found : (w : Name) → wordLike w ≡ true → every wordByte w ≡ true → findIn n names (keyOf w) ≡ codeOf q w
 
 -- the line is taken after those of q: the state, the table of names and the array are those after it
-pub record Took (q : Query) (raw : RawLine) (st next : State) (before names out : List ℕ) : Type 0 where
+pub record Took (q : Query) (raw : RawLine) (st next : LineState) (before names out : List ℕ) : Type 0 where
   pub line : Line
   pub fate : (n : ℕ) → lineFate q n raw ≡ ok line
   pub after : After (q ++ (line ∷ [])) next before out
@@ -74,7 +74,7 @@ pub record Took (q : Query) (raw : RawLine) (st next : State) (before names out 
   pub short : next .used ≤ st .used + length (raw .bytes)
 
 -- the line is taken, or refused for the reason given
-abbrev pub LineSays : Query → RawLine → State → List ℕ → List ℕ → List ℕ → LineRead → Type 0
+abbrev pub LineSays : Query → RawLine → LineState → List ℕ → List ℕ → List ℕ → LineRead → Type 0
 LineSays q raw st before names out (Taken next) = Took q raw st next before names out
 LineSays q raw st before names out (Refused c) = (n : ℕ) → lineFate q n raw ≡ refuse (causeOf c) n
 
@@ -89,7 +89,7 @@ LeavesNone (Taken next) out = Unit {0}
 LeavesNone (Refused c) out = out ≡ zeros 4096
 
 -- so it is after the lines of every query, where the state, the table and the array are those after them
-abbrev pub ReadsLine : RawLine → State → List ℕ → List ℕ → LineRead → List ℕ → List ℕ → Type 0
+abbrev pub ReadsLine : RawLine → LineState → List ℕ → List ℕ → LineRead → List ℕ → List ℕ → Type 0
 ReadsLine raw st names out r namesAfter outAfter =
     LeavesNone r outAfter
     × KeepsNames r names namesAfter

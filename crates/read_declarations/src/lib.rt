@@ -1,5 +1,6 @@
 // The state between two lines, the end of a line and its fate, and lines that declare a name. (Document 01, "The query".) A fault of the
 // notation anywhere in the line comes before a slip of a name, and that before one declaration too many.
+use read_names::Slip;
 use read_tests::Parsed;
 use read_tokens::Key;
 use read_tokens::Token;
@@ -16,10 +17,10 @@ ghost use Rattle.read_tokens.specs.Scan.{tokenAt};
 ghost use Rattle.read_bodies.specs.Bodies.{wordOf};
 ghost use Rattle.read_declarations.specs.State.{Small};
 ghost use Rattle.read_declarations.specs.inner.Declaring.{countOf, mostOf, oneIf, oneMore, declaredRead, declaredNames};
-ghost use Rattle.read_declarations.specs.inner.Kinds.{slipReason, checked, plainRead};
+ghost use Rattle.read_declarations.specs.inner.Kinds.{bySlip, checked, plainRead};
 
 // What the lines read so far declare, and how many codes they have.
-pub struct State {
+pub struct LineState {
     pub used: usize,
     pub names: usize,
     pub tests: usize,
@@ -30,12 +31,12 @@ pub struct State {
 
 // A line is taken, or refused.
 pub enum LineRead {
-    Taken(State),
+    Taken(LineState),
     Refused(Reason),
 }
 
 // A line that stands whole and has no slip, with the number of codes behind it; or why it is refused.
-pub enum Checked {
+pub enum LineCheck {
     Fine(usize),
     Faulty(Reason),
 }
@@ -51,44 +52,43 @@ fn ends(s: &[u8], at: usize, ended: bool) -> bool
     ended
 }
 
-// The reason that a slip is.
-fn slip_reason(slip: u64) -> Reason
-    ensures { λ r. ⌜ r ≡ slipReason slip ⌝ }
+// A line that stands whole, by the first slip of its names.
+fn by_slip(slip: Slip, used: usize) -> LineCheck
+    ensures { λ c. ⌜ c ≡ bySlip used slip ⌝ }
 {
     match slip {
-        1 => Reason::UnknownName,
-        2 => Reason::WrongKind,
-        3 => Reason::DeclaredTwice,
-        _ => Reason::ReservedName,
+        Slip::Clean => LineCheck::Fine(used),
+        Slip::Unknown => LineCheck::Faulty(Reason::UnknownName),
+        Slip::OtherKind => LineCheck::Faulty(Reason::WrongKind),
+        Slip::Twice => LineCheck::Faulty(Reason::DeclaredTwice),
+        Slip::Reserved => LineCheck::Faulty(Reason::ReservedName),
     }
 }
 
 // The whole line: its end, then its names.
-fn check(s: &[u8], r: Parsed, ended: bool) -> Checked
+fn check(s: &[u8], r: Parsed, ended: bool) -> LineCheck
     ensures { λ c. ⌜ c ≡ checked (now (s .entry)) ended r ⌝ }
 {
     match r {
         Parsed::Got(p) => {
             if !ends(s, p.at, ended) {
-                return Checked::Faulty(Reason::Notation);
+                return LineCheck::Faulty(Reason::Notation);
             }
-            if p.slip == 0 {
-                return Checked::Fine(p.used);
-            }
-            Checked::Faulty(slip_reason(p.slip))
+            let slip = p.slip;
+            by_slip(slip, p.used)
         }
-        Parsed::Wrong => Checked::Faulty(Reason::Notation),
-        Parsed::Deep => Checked::Faulty(Reason::TooDeep),
+        Parsed::Wrong => LineCheck::Faulty(Reason::Notation),
+        Parsed::Deep => LineCheck::Faulty(Reason::TooDeep),
     }
 }
 
 // A line that declares nothing, which may be the claim.
-pub fn plain(s: &[u8], r: Parsed, ended: bool, st: State, claim: bool) -> LineRead
+pub fn plain(s: &[u8], r: Parsed, ended: bool, st: LineState, claim: bool) -> LineRead
     ensures { λ l. ⌜ l ≡ plainRead st claim (checked (now (s .entry)) ended r) ⌝ }
 {
     let c = check(s, r, ended);
     match c {
-        Checked::Fine(used) => LineRead::Taken(State {
+        LineCheck::Fine(used) => LineRead::Taken(LineState {
             used,
             names: st.names,
             tests: st.tests,
@@ -96,7 +96,7 @@ pub fn plain(s: &[u8], r: Parsed, ended: bool, st: State, claim: bool) -> LineRe
             lets: st.lets,
             claimed: st.claimed | claim,
         }),
-        Checked::Faulty(why) => LineRead::Refused(why),
+        LineCheck::Faulty(why) => LineRead::Refused(why),
     }
 }
 
@@ -112,7 +112,7 @@ fn word_at(s: &[u8], at: usize) -> Key
 }
 
 // How many names of the kind `of` are declared. A kind is known by the code of its first name: A_TEST, A_RELATION or A_LET.
-fn count_of(st: State, of: u64) -> usize
+fn count_of(st: LineState, of: u64) -> usize
     ensures { λ r. ⌜ r ≡ countOf of st ⌝ }
 {
     match of {
@@ -144,11 +144,11 @@ fn one_if(a: u64, b: u64) -> usize
 }
 
 // The state with a name more of the kind.
-fn one_more(st: State, of: u64, used: usize) -> State
+fn one_more(st: LineState, of: u64, used: usize) -> LineState
     requires { ⌜ Small st ⌝ }
     ensures { λ r. ⌜ r ≡ oneMore of used st ⌝ }
 {
-    State {
+    LineState {
         used,
         names: st.names + 1,
         tests: st.tests + one_if(of, codes::A_TEST),
@@ -164,7 +164,7 @@ pub fn declare(
     at: usize,
     r: Parsed,
     ended: bool,
-    st: State,
+    st: LineState,
     of: u64,
     names: &mut [u64; 192],
 ) -> LineRead
@@ -173,7 +173,7 @@ pub fn declare(
 {
     let c = check(s, r, ended);
     match c {
-        Checked::Fine(used) => {
+        LineCheck::Fine(used) => {
             let n = count_of(st, of);
             if most_of(of) <= n {
                 return LineRead::Refused(Reason::TooMany);
@@ -181,6 +181,6 @@ pub fn declare(
             read_names::enter(names, st.names, word_at(s, at), of + (n as u64));
             LineRead::Taken(one_more(st, of, used))
         }
-        Checked::Faulty(why) => LineRead::Refused(why),
+        LineCheck::Faulty(why) => LineRead::Refused(why),
     }
 }

@@ -32,19 +32,20 @@ fn union(s: &[u8], names: &[u64], n: usize, depth: usize, p: Place, out: &mut [u
         let Parsed::Got(got) = r else {
             return r;
         };
+        let slip = got.slip;
         let used = read_next::write(out, got.used, more, codes::UNION);
         let next = read_next::mark_next(s, got.at, b'|');
         if next == 0 {
             return Parsed::Got(Place {
                 at: got.at,
                 used,
-                slip: got.slip,
+                slip,
             });
         }
         place = Place {
             at: next,
             used,
-            slip: got.slip,
+            slip,
         };
         more = 1;
     }
@@ -69,19 +70,20 @@ fn sequence(
         let Parsed::Got(got) = r else {
             return r;
         };
+        let slip = got.slip;
         let used = read_next::write(out, got.used, more, codes::SEQUENCE);
         let next = read_next::mark_next(s, got.at, b';');
         if next == 0 {
             return Parsed::Got(Place {
                 at: got.at,
                 used,
-                slip: got.slip,
+                slip,
             });
         }
         place = Place {
             at: next,
             used,
-            slip: got.slip,
+            slip,
         };
         more = 1;
     }
@@ -125,15 +127,17 @@ fn factor(
     if depth == 0 {
         return read_tests::deep(out);
     }
+    let slip = p.slip;
     let inner = Place {
         at: next,
         used: p.used,
-        slip: p.slip,
+        slip,
     };
     let r = union(s, names, n, depth - 1, inner, out);
     let Parsed::Got(got) = r else {
         return r;
     };
+    let found = got.slip;
     let end = read_next::mark_next(s, got.at, b')');
     if end == 0 {
         return read_tests::wrong(out);
@@ -141,7 +145,7 @@ fn factor(
     Parsed::Got(Place {
         at: end,
         used: got.used,
-        slip: got.slip,
+        slip: found,
     })
 }
 
@@ -155,15 +159,17 @@ fn leaf(s: &[u8], names: &[u64], n: usize, depth: usize, p: Place, out: &mut [u6
     if next == 0 {
         return named(s, names, n, p, out);
     }
+    let slip = p.slip;
     let inner = Place {
         at: next,
         used: p.used,
-        slip: p.slip,
+        slip,
     };
     let r = read_tests::union(s, names, n, depth, inner, out);
     let Parsed::Got(got) = r else {
         return r;
     };
+    let found = got.slip;
     let end = read_next::mark_next(s, got.at, b']');
     if end == 0 {
         return read_tests::wrong(out);
@@ -172,7 +178,7 @@ fn leaf(s: &[u8], names: &[u64], n: usize, depth: usize, p: Place, out: &mut [u6
     Parsed::Got(Place {
         at: end,
         used,
-        slip: got.slip,
+        slip: found,
     })
 }
 
@@ -182,6 +188,7 @@ fn named(s: &[u8], names: &[u64], n: usize, p: Place, out: &mut [u64; 4096]) -> 
     ensures { λ r. ⌜ TreeOutcome (Is (nameNext name)) (now (s .entry)) (now (names .entry)) n p (now (out .entry)) (now (out .exit)) r ⌝ }
 {
     let used = p.used;
+    let slip = p.slip;
     let t = read_tokens::token_at(s, p.at);
     let Token::Word(k, next) = t else {
         return read_tests::wrong(out);
@@ -195,7 +202,7 @@ fn named(s: &[u8], names: &[u64], n: usize, p: Place, out: &mut [u64; 4096]) -> 
         at: next,
         used: used + 1,
         slip: read_names::first_slip(
-            p.slip,
+            slip,
             read_names::slip_of(code, codes::A_RELATION, codes::LINE),
         ),
     })
@@ -239,11 +246,8 @@ fn postfixes(s: &[u8], p: Place, out: &mut [u64; 4096]) -> Place
     loop {
         let next = sign_next(s, at);
         if next.code == 0 {
-            return Place {
-                at,
-                used,
-                slip: p.slip,
-            };
+            let slip = p.slip;
+            return Place { at, used, slip };
         }
         out[used] = next.code;
         at = next.at;

@@ -26,10 +26,10 @@ use Rattle.read_tokens.specs.Scan.{keyOf, tokenAt, Spelled}
 use Rattle.read_names.specs.Keys.{sameKey, wordKey}
 use Rattle.read_names.proofs.Names.{same-key, reserved-name}
 use Rattle.read_tokens.proofs.Tokens.{Scanned, ScannedWord}
-use Rattle.words.specs.Memory.{zeros}
+use Rattle.memory.specs.Memory.{zeros}
 use Rattle.refusals.specs.declared.Reason.{Reason}
 use Rattle.refusals.specs.declared.Reason.the-variants.{Notation as BadNotation, AfterClaim}
-use Rattle.read_declarations.specs.declared.State.{State}
+use Rattle.read_declarations.specs.declared.LineState.{LineState}
 use Rattle.read_declarations.specs.declared.LineRead.{LineRead}
 use Rattle.read_declarations.specs.declared.LineRead.the-variants.{Taken, Refused}
 use Rattle.read_declarations.specs.State.{lineFate, hasClaim, After, KeepsNames, ReadsLine}
@@ -107,7 +107,7 @@ unfolding lineKinds kindPlace
 place-end k n h i = let e : n ≡ 8 = omega arith in rw e
 
 -- the same line under another reader
-via-kind : (D E : List Notation.Token → Found Line) (s : List ℕ) (at : ℕ) (ended : Bool) (st : State) (names out : List ℕ) (l : LineRead)
+via-kind : (D E : List Notation.Token → Found Line) (s : List ℕ) (at : ℕ) (ended : Bool) (st : LineState) (names out : List ℕ) (l : LineRead)
     (names′ out′ : List ℕ) → ((ts : List Notation.Token) → E ts ≡ D ts) → KindOutcome D s at ended st names out l names′ out′
     → KindOutcome E s at ended st names out l names′ out′
 via-kind D E s at ended st names out l names′ out′ e h q before a k =
@@ -115,7 +115,7 @@ via-kind D E s at ended st names out l names′ out′ e h q before a k =
     (sym (e (tokens (drop at s)))) (h q before a k)
 
 -- so for the reader that the word w chooses, where x is the place of its key
-pub kind-at : (k : Key) (x : ℕ) → x ≡ kindPlace lineKinds k → (w : Name) → Spelled w → k ≡ keyOf w → (s : List ℕ) (at : ℕ) (ended : Bool) (st : State)
+pub kind-at : (k : Key) (x : ℕ) → x ≡ kindPlace lineKinds k → (w : Name) → Spelled w → k ≡ keyOf w → (s : List ℕ) (at : ℕ) (ended : Bool) (st : LineState)
     (names out : List ℕ) (l : LineRead) (names′ out′ : List ℕ) → KindOutcome (readsAt lineKinds x) s at ended st names out l names′ out′
     → KindOutcome (After-word w) s at ended st names out l names′ out′
 kind-at k x place w sp key s at ended st names out l names′ out′ h =
@@ -147,7 +147,7 @@ line-whole : (raw : RawLine) → line raw ≡ wholeLine (raw .ended) (choose lin
 unfolding line lineBy wholeLine
 line-whole raw = refl
 
-module _ (s : List ℕ) (ended : Bool) (st : State) (names out : List ℕ) where
+module _ (s : List ℕ) (ended : Bool) (st : LineState) (names out : List ℕ) where
   abbrev raw : RawLine
   raw = record { bytes = s; ended = ended }
 
@@ -185,7 +185,7 @@ module _ (s : List ℕ) (ended : Bool) (st : State) (names out : List ℕ) where
           KindSays (λ n. readLine q n (wholeLine ended (After-word (f .spelling) (tokens (drop at s))))) q (st .used + (length s - at) + 1) before
           names′ out′
 
-      pub word-taken : (next : State) → l ≡ Taken next → ReadsLine raw st names out (Taken next) names′ out′
+      pub word-taken : (next : LineState) → l ≡ Taken next → ReadsLine raw st names out (Taken next) names′ out′
       word-taken next e = (
         tt,
         tt,

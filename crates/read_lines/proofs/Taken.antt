@@ -23,11 +23,11 @@ use Rattle.codes.specs.Codes.{letNames, lineCodes}
 use Rattle.read_tokens.specs.declared.Key.{Key}
 use Rattle.read_tokens.specs.Scan.{tokenAt}
 use Rattle.read_tests.specs.declared.Parsed.{Parsed}
-use Rattle.read_declarations.specs.declared.Checked.{Checked}
-use Rattle.read_declarations.specs.declared.Checked.the-variants.{Fine, Faulty}
+use Rattle.read_declarations.specs.declared.LineCheck.{LineCheck}
+use Rattle.read_declarations.specs.declared.LineCheck.the-variants.{Fine, Faulty}
 use Rattle.refusals.specs.declared.Reason.{Reason}
 use Rattle.refusals.specs.declared.Reason.the-variants.{TooMany}
-use Rattle.read_declarations.specs.declared.State.{State}
+use Rattle.read_declarations.specs.declared.LineState.{LineState}
 use Rattle.read_declarations.specs.declared.LineRead.{LineRead}
 use Rattle.read_declarations.specs.declared.LineRead.the-variants.{Taken, Refused}
 use Rattle.read_names.specs.Keys as Keys
@@ -42,7 +42,7 @@ use Rattle.read_declarations.proofs.Declared.{bare-plain, after-declared, after
 use Rattle.read_declarations.proofs.Fates.{Whole, fine-whole, faulty-fate, fate-crowded, fate-taken, clean-slips}
 
 -- the table of names, as the readers of T and E want it
-known : (q : Query) (st : State) (before out names : List ℕ) → After q st before out → Small st → Tabled names (st .names) q
+known : (q : Query) (st : LineState) (before out names : List ℕ) → After q st before out → Small st → Tabled names (st .names) q
     → Keys.Knows names (st .names) q
 unfolding letNames
 known q st before out names a m k =
@@ -54,7 +54,7 @@ known q st before out names a m k =
     }
 
 -- the state counts the names of a kind; where there may be more of them, one more is not too many
-counted : (of : ℕ) (q : Query) (st : State) (before out : List ℕ) → After q st before out → countOf of st ≡ numberOf of q
+counted : (of : ℕ) (q : Query) (st : LineState) (before out : List ℕ) → After q st before out → countOf of st ≡ numberOf of q
 unfolding countOf numberOf
 counted of q st before out a = go (eqb of 16) (eqb of 32)
   where
@@ -64,7 +64,7 @@ counted of q st before out a = go (eqb of 16) (eqb of 32)
     go false true = a .relations
     go false false = a .lets
 
-small-more : (of u : ℕ) (st : State) → Small st → st .names ≡ st .tests + st .relations + st .lets
+small-more : (of u : ℕ) (st : LineState) → Small st → st .names ≡ st .tests + st .relations + st .lets
     → oneIf of 16 + oneIf of 32 + oneIf of 64 ≡ 1 → countOf of st < mostOf of → Small (oneMore of u st)
 unfolding countOf mostOf oneMore
 small-more of u st m n = go (eqb of 16) (eqb of 32) (eqb of 64)
@@ -90,21 +90,21 @@ pub kept-plain : (l : LineRead) (names : List ℕ) → KeepsNames l names names
 kept-plain (Taken next) names = tt
 kept-plain (Refused c) names = refl
 
-pub kept-declared : (of : ℕ) (st : State) (k : Key) (x : Checked) (names : List ℕ) (l : LineRead) (names′ : List ℕ)
+pub kept-declared : (of : ℕ) (st : LineState) (k : Key) (x : LineCheck) (names : List ℕ) (l : LineRead) (names′ : List ℕ)
     → (l ≡ declaredRead of st x) × (names′ ≡ declaredNames k of st x names) → KeepsNames l names names′
 unfolding declaredRead declaredNames
 kept-declared of st k x names l names′ (e, f) =
     subst⁻¹ (λ y. KeepsNames y names names′) e (subst⁻¹ (KeepsNames (declaredRead of st x) names) f (go x))
   where
-    by : (b : Bool) (next : State) (more : List ℕ) → KeepsNames (cond b (Refused TooMany) (Taken next)) names (cond b names more)
+    by : (b : Bool) (next : LineState) (more : List ℕ) → KeepsNames (cond b (Refused TooMany) (Taken next)) names (cond b names more)
     by true next more = refl
     by false next more = tt
 
-    go : (x : Checked) → KeepsNames (declaredRead of st x) names (declaredNames k of st x names)
+    go : (x : LineCheck) → KeepsNames (declaredRead of st x) names (declaredNames k of st x names)
     go (Fine u) = by (leb (mostOf of) (countOf of st)) (oneMore of u st) (entered names (st .names) k (of + countOf of st))
     go (Faulty w) = refl
 
-module _ (D : List Notation.Token → Found Line) (K : Line → Type 0) (s : List ℕ) (at : ℕ) (ended : Bool) (st : State) (names out out′ : List ℕ)
+module _ (D : List Notation.Token → Found Line) (K : Line → Type 0) (s : List ℕ) (at : ℕ) (ended : Bool) (st : LineState) (names out out′ : List ℕ)
     (r : Parsed) (small : Small st) (body : BodyOutcome D K s names (st .names) at (st .used) out out′ r) where
   abbrev fate : Query → ℕ → Result Line
   fate q n = readLine q n (wholeLine ended (D (tokens (drop at s))))
@@ -150,7 +150,7 @@ module _ (D : List Notation.Token → Found Line) (K : Line → Type 0) (s : Lis
           fate-taken q ended n (D (tokens (drop at s))) (read .line) (tokens (drop (whole .place .at) s)) (read .read) (whole .ends) clean h
 
     -- a line that declares nothing, by its check
-    plain-says : (c : Bool) → ((l : Line) → K l → Bare c l) → (x : Checked) → checked s ended r ≡ x
+    plain-says : (c : Bool) → ((l : Line) → K l → Bare c l) → (x : LineCheck) → checked s ended r ≡ x
         → KindSays (fate q) q most before names out′ (plainRead st c x)
     unfolding plainRead
     plain-says c bare (Faulty w) e = refuses w e
@@ -192,7 +192,7 @@ module _ (D : List Notation.Token → Found Line) (K : Line → Type 0) (s : Lis
             short = short u e;
           }
 
-      declared-says : (x : Checked) → checked s ended r ≡ x
+      declared-says : (x : LineCheck) → checked s ended r ≡ x
           → KindSays (fate q) q most before (declaredNames (wordOf (tokenAt s at)) of st x names) out′ (declaredRead of st x)
       unfolding declaredNames declaredRead
       declared-says (Faulty w) e = refuses w e

@@ -1,7 +1,8 @@
 // The lines of a query, one at a time. (Document 01, "The query".) A line's codes are written before its end and its names are judged:
 // a fault of the notation anywhere in the line comes before a slip of a name, and that before one declaration too many.
 use read_declarations::LineRead;
-use read_declarations::State;
+use read_declarations::LineState;
+use read_names::Slip;
 use read_tests::Parsed;
 use read_tests::Place;
 use read_tokens::Key;
@@ -16,7 +17,7 @@ ghost use Rattle.claims.specs.Tree.{Name};
 ghost use Rattle.claims.specs.Lines.{choose, lineKinds};
 ghost use Rattle.read_tokens.specs.Scan.{keyOf, Spelled};
 ghost use Rattle.read_bodies.specs.Bodies.{BodyOutcome};
-ghost use Rattle.words.specs.Memory.{zeros};
+ghost use Rattle.memory.specs.Memory.{zeros};
 ghost use Rattle.read_declarations.specs.declared.LineRead.the-variants.{Refused};
 ghost use Rattle.read_declarations.specs.State.{Small, KeepsNames, ReadsLine};
 ghost use Rattle.read_declarations.specs.inner.Kinds.{KindOutcome, kindPlace, readsAt, SortOf};
@@ -53,22 +54,34 @@ fn body(
     ensures { λ r. ⌜ BodyOutcome (readsAt lineKinds place) (SortOf place (now (s .entry)) at) (now (s .entry)) (now (names .entry)) n at used (now (out .entry)) (now (out .exit)) r ⌝ }
 {
     match place {
-        read_names::TEST => {
+        read_names::TEST_WORD => {
             read_bodies::declaration(s, at, names, n, used, codes::TEST_LINE, out)
         }
-        read_names::REL => read_bodies::declaration(s, at, names, n, used, codes::REL_LINE, out),
-        read_names::LET => read_bodies::let_body(s, at, names, n, used, out),
-        read_names::NEVER => read_bodies::condition_then(
+        read_names::REL_WORD => read_bodies::declaration(
+            s,
+            at,
+            names,
+            n,
+            used,
+            codes::REL_LINE,
+            out,
+        ),
+        read_names::LET_WORD => read_bodies::let_body(s, at, names, n, used, out),
+        read_names::NEVER_WORD => read_bodies::condition_then(
             s,
             names,
             n,
-            Place { at, used, slip: 0 },
+            Place {
+                at,
+                used,
+                slip: Slip::Clean,
+            },
             codes::NEVER_LINE,
             out,
         ),
-        read_names::WITHIN => read_bodies::within_body(s, at, names, n, used, out),
-        read_names::CLOSED => read_bodies::closed_body(s, at, names, n, used, out),
-        read_names::ASSUME => read_bodies::one_side(
+        read_names::WITHIN_WORD => read_bodies::within_body(s, at, names, n, used, out),
+        read_names::CLOSED_WORD => read_bodies::closed_body(s, at, names, n, used, out),
+        read_names::ASSUME_WORD => read_bodies::one_side(
             s,
             at,
             names,
@@ -78,7 +91,7 @@ fn body(
             codes::ASSUME_IRREFLEXIVE,
             out,
         ),
-        read_names::CLAIM => read_bodies::claim_body(s, at, names, n, used, out),
+        read_names::CLAIM_WORD => read_bodies::claim_body(s, at, names, n, used, out),
         _ => read_tests::wrong(out),
     }
 }
@@ -89,7 +102,7 @@ fn kind_line(
     at: usize,
     k: Key,
     ended: bool,
-    st: State,
+    st: LineState,
     names: &mut [u64; 192],
     out: &mut [u64; 4096],
 ) -> LineRead
@@ -99,8 +112,16 @@ fn kind_line(
     let place = line_word(k);
     let r = body(s, at, place, names, st.names, st.used, out);
     match place {
-        read_names::TEST => read_declarations::declare(s, at, r, ended, st, codes::A_TEST, names),
-        read_names::REL => read_declarations::declare(
+        read_names::TEST_WORD => read_declarations::declare(
+            s,
+            at,
+            r,
+            ended,
+            st,
+            codes::A_TEST,
+            names,
+        ),
+        read_names::REL_WORD => read_declarations::declare(
             s,
             at,
             r,
@@ -109,8 +130,16 @@ fn kind_line(
             codes::A_RELATION,
             names,
         ),
-        read_names::LET => read_declarations::declare(s, at, r, ended, st, codes::A_LET, names),
-        _ => read_declarations::plain(s, r, ended, st, place == read_names::CLAIM),
+        read_names::LET_WORD => read_declarations::declare(
+            s,
+            at,
+            r,
+            ended,
+            st,
+            codes::A_LET,
+            names,
+        ),
+        _ => read_declarations::plain(s, r, ended, st, place == read_names::CLAIM_WORD),
     }
 }
 
@@ -127,7 +156,7 @@ fn refused(why: Reason, out: &mut [u64; 4096]) -> LineRead
 pub fn read_line(
     s: &[u8],
     ended: bool,
-    st: State,
+    st: LineState,
     names: &mut [u64; 192],
     out: &mut [u64; 4096],
 ) -> LineRead

@@ -3,5 +3,6 @@ pub mod Names
 pub mod Keys
 -- The table of names, entry by entry.
 pub mod Tables
--- The first slip of several.
+-- The first of two slips, and the first slip of several names.
+pub mod FirstSlips
 pub mod Slips

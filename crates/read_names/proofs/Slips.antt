@@ -1,6 +1,6 @@
--- The first slip of several names, as a number.
+-- The first slip of several names.
 -- Assumes nothing.
-use Prim.Native.Nat.{ℕ, zero, suc, _+_, _≤_, _<_}
+use Prim.Native.Nat.{ℕ, suc, _+_, _≤_, _<_}
 use native.Mathlib.Omega.{arith}
 use mathlib.Core.Path.{_≡_, refl, sym, ap, _∙_}
 use mathlib.Core.Bool.{Bool, true, false}
@@ -14,61 +14,52 @@ use Rattle.claims.specs.Refusals.{Cause}
 use Rattle.claims.specs.Names.{Kind, aTest, aRelation, aLet, Use, usesTest, usesEither, kindOf, testSlip, eitherSlip, slip, firstSlip}
 use Rattle.claims.specs.Query.{Query, indexOf, tests, relations}
 use Rattle.codes.specs.Codes.{letNames, kindCode, codeOf}
-use Rattle.read_names.specs.Slips.{slipNumber, firstOf, slipOfCode}
+use Rattle.read_names.specs.Slips.{slipBy, firstOf, slipOfCode}
+use Rattle.read_names.specs.declared.Slip.{Slip}
+use Rattle.read_names.specs.declared.Slip.the-variants.{Clean, Unknown, OtherKind}
 use Rattle.read_names.specs.Keys.{Knows}
-
-pub first-none : (a : ℕ) → a ≡ firstOf a 0
-first-none zero = refl
-first-none (suc a) = refl
-
-first-assoc : (a b c : ℕ) → firstOf (firstOf a b) c ≡ firstOf a (firstOf b c)
-first-assoc zero b c = refl
-first-assoc (suc a) b c = refl
+use Rattle.read_names.proofs.FirstSlips.{first-none, first-assoc, first-cause}
 
 slip-append : (q : Query) (us vs : List Use)
-    → slipNumber (firstSlip q (us ++ vs)) ≡ firstOf (slipNumber (firstSlip q us)) (slipNumber (firstSlip q vs))
+    → slipBy (firstSlip q (us ++ vs)) ≡ firstOf (slipBy (firstSlip q us)) (slipBy (firstSlip q vs))
 unfolding firstSlip
 slip-append q [] vs = refl
 slip-append q (u ∷ us) vs = go (slip q u) (slip-append q us vs)
   where
     go : (o : Option Cause)
-        → slipNumber (firstSlip q (us ++ vs)) ≡ firstOf (slipNumber (firstSlip q us)) (slipNumber (firstSlip q vs))
-        → slipNumber (elim o [ some c ↦ some c | none ↦ firstSlip q (us ++ vs) ])
-        ≡ firstOf (slipNumber (elim o [ some c ↦ some c | none ↦ firstSlip q us ])) (slipNumber (firstSlip q vs))
-    go (some c) h = refl
+        → slipBy (firstSlip q (us ++ vs)) ≡ firstOf (slipBy (firstSlip q us)) (slipBy (firstSlip q vs))
+        → slipBy (elim o [ some c ↦ some c | none ↦ firstSlip q (us ++ vs) ])
+        ≡ firstOf (slipBy (elim o [ some c ↦ some c | none ↦ firstSlip q us ])) (slipBy (firstSlip q vs))
+    go (some c) h = first-cause c (slipBy (firstSlip q vs))
     go none h = h
 
 -- the names us, and then vs
-pub slips-then : (q : Query) (us vs : List Use) (a b c : ℕ) → b ≡ firstOf a (slipNumber (firstSlip q us))
-    → c ≡ firstOf b (slipNumber (firstSlip q vs)) → c ≡ firstOf a (slipNumber (firstSlip q (us ++ vs)))
+pub slips-then : (q : Query) (us vs : List Use) (a b c : Slip) → b ≡ firstOf a (slipBy (firstSlip q us))
+    → c ≡ firstOf b (slipBy (firstSlip q vs)) → c ≡ firstOf a (slipBy (firstSlip q (us ++ vs)))
 slips-then q us vs a b c e f =
-    f ∙ ap (λ x. firstOf x (slipNumber (firstSlip q vs))) e
-    ∙ first-assoc a (slipNumber (firstSlip q us)) (slipNumber (firstSlip q vs))
+    f ∙ ap (λ x. firstOf x (slipBy (firstSlip q vs))) e
+    ∙ first-assoc a (slipBy (firstSlip q us)) (slipBy (firstSlip q vs))
     ∙ ap (firstOf a) (sym (slip-append q us vs))
 
-pub no-slip : (q : Query) (a : ℕ) → a ≡ firstOf a (slipNumber (firstSlip q []))
+pub no-slip : (q : Query) (a : Slip) → a ≡ firstOf a (slipBy (firstSlip q []))
 unfolding firstSlip
 no-slip q a = first-none a
 
-pub first-kept : (a b : ℕ) → (a ≡ 0 → ⊥) → a ≡ firstOf a b
-first-kept zero b h = absurd (h refl)
-first-kept (suc a) b h = refl
-
 -- the slip of a code
 module _ (low high c : ℕ) where
-  pub code-none : c ≡ 0 → 1 ≡ slipOfCode low high c
+  pub code-none : c ≡ 0 → Unknown ≡ slipOfCode low high c
   unfolding slipOfCode
   code-none e = rw (eq-eqb c 0 e)
 
-  pub code-below : (c ≡ 0 → ⊥) → c < low → 2 ≡ slipOfCode low high c
+  pub code-below : (c ≡ 0 → ⊥) → c < low → OtherKind ≡ slipOfCode low high c
   unfolding slipOfCode
   code-below f h = rw (ne-eqb c 0 f, lt-ltb c low h)
 
-  pub code-inside : (c ≡ 0 → ⊥) → low ≤ c → c < high → 0 ≡ slipOfCode low high c
+  pub code-inside : (c ≡ 0 → ⊥) → low ≤ c → c < high → Clean ≡ slipOfCode low high c
   unfolding slipOfCode
   code-inside f l h = rw (ne-eqb c 0 f, le-ltb c low l, lt-ltb c high h)
 
-  pub code-above : (c ≡ 0 → ⊥) → low ≤ c → high ≤ c → 2 ≡ slipOfCode low high c
+  pub code-above : (c ≡ 0 → ⊥) → low ≤ c → high ≤ c → OtherKind ≡ slipOfCode low high c
   unfolding slipOfCode
   code-above f l h = rw (ne-eqb c 0 f, le-ltb c low l, le-ltb c high h)
 
@@ -82,7 +73,7 @@ index-within n (m ∷ ms) = go (same n m) (index-within n ms)
 
 -- the slip of a name by its code
 module _ (names : List ℕ) (n : ℕ) (q : Query) (k : Knows names n q) (w : List ℕ) where
-  test-code : (o : Option Kind) → slipOfCode 16 32 (kindCode q w o) ≡ slipNumber (testSlip o)
+  test-code : (o : Option Kind) → slipOfCode 16 32 (kindCode q w o) ≡ slipBy (testSlip o)
   unfolding kindCode testSlip
   test-code none = sym (code-none 16 32 0 refl)
   test-code (some aTest) =
@@ -90,7 +81,7 @@ module _ (names : List ℕ) (n : ℕ) (q : Query) (k : Knows names n q) (w : Lis
   test-code (some aRelation) = sym (code-above 16 32 (32 + indexOf w (relations q)) (λ e. omega arith) (omega arith) (omega arith))
   test-code (some aLet) = sym (code-above 16 32 (64 + indexOf w (letNames q)) (λ e. omega arith) (omega arith) (omega arith))
 
-  either-code : (o : Option Kind) → slipOfCode 32 128 (kindCode q w o) ≡ slipNumber (eitherSlip o)
+  either-code : (o : Option Kind) → slipOfCode 32 128 (kindCode q w o) ≡ slipBy (eitherSlip o)
   unfolding kindCode eitherSlip
   either-code none = sym (code-none 32 128 0 refl)
   either-code (some aTest) =
@@ -102,18 +93,18 @@ module _ (names : List ℕ) (n : ℕ) (q : Query) (k : Knows names n q) (w : Lis
       sym (code-inside 32 128 (64 + indexOf w (letNames q)) (λ e. omega arith) (omega arith)
       (omega (arith, k .fewLets, index-within w (letNames q))))
 
-  one-slip : (u : Use) → slipNumber (firstSlip q (u ∷ [])) ≡ slipNumber (slip q u)
+  one-slip : (u : Use) → slipBy (firstSlip q (u ∷ [])) ≡ slipBy (slip q u)
   unfolding firstSlip
   one-slip u = go (slip q u)
     where
-      go : (o : Option Cause) → slipNumber (elim o [ some c ↦ some c | none ↦ none ]) ≡ slipNumber o
+      go : (o : Option Cause) → slipBy (elim o [ some c ↦ some c | none ↦ none ]) ≡ slipBy o
       go (some c) = refl
       go none = refl
 
-  pub test-slip : slipOfCode 16 32 (codeOf q w) ≡ slipNumber (firstSlip q (usesTest w ∷ []))
+  pub test-slip : slipOfCode 16 32 (codeOf q w) ≡ slipBy (firstSlip q (usesTest w ∷ []))
   unfolding codeOf slip
   test-slip = test-code (kindOf q w) ∙ sym (one-slip (usesTest w))
 
-  pub either-slip : slipOfCode 32 128 (codeOf q w) ≡ slipNumber (firstSlip q (usesEither w ∷ []))
+  pub either-slip : slipOfCode 32 128 (codeOf q w) ≡ slipBy (firstSlip q (usesEither w ∷ []))
   unfolding codeOf slip
   either-slip = either-code (kindOf q w) ∙ sym (one-slip (usesEither w))

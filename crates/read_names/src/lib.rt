@@ -12,92 +12,92 @@ pub fn same_key(a: Key, b: Key) -> bool
 }
 
 // The places of the words that are no names.
-pub const TEST: usize = 0;
+pub const TEST_WORD: usize = 0;
 
-pub const REL: usize = 1;
+pub const REL_WORD: usize = 1;
 
-pub const LET: usize = 2;
+pub const LET_WORD: usize = 2;
 
-pub const NEVER: usize = 3;
+pub const NEVER_WORD: usize = 3;
 
-pub const WITHIN: usize = 4;
+pub const WITHIN_WORD: usize = 4;
 
-pub const CLOSED: usize = 5;
+pub const CLOSED_WORD: usize = 5;
 
-pub const ASSUME: usize = 6;
+pub const ASSUME_WORD: usize = 6;
 
-pub const CLAIM: usize = 7;
+pub const CLAIM_WORD: usize = 7;
 
-pub const IN: usize = 8;
+pub const IN_WORD: usize = 8;
 
-pub const EMPTY: usize = 9;
+pub const EMPTY_WORD: usize = 9;
 
-pub const INCLUDE: usize = 10;
+pub const INCLUDE_WORD: usize = 10;
 
-pub const IRREFLEXIVE: usize = 11;
+pub const IRREFLEXIVE_WORD: usize = 11;
 
-pub const TRUE: usize = 12;
+pub const TRUE_WORD: usize = 12;
 
-pub const FALSE: usize = 13;
+pub const FALSE_WORD: usize = 13;
 
 // The nth word that is no name, as its key.
 pub fn word_key(n: usize) -> Key
     ensures { λ r. ⌜ r ≡ wordKey n ⌝ }
 {
     match n {
-        TEST => Key {
+        TEST_WORD => Key {
             high: 0x7465_7374_0000_0000,
             low: 0,
         },
-        REL => Key {
+        REL_WORD => Key {
             high: 0x7265_6c00_0000_0000,
             low: 0,
         },
-        LET => Key {
+        LET_WORD => Key {
             high: 0x6c65_7400_0000_0000,
             low: 0,
         },
-        NEVER => Key {
+        NEVER_WORD => Key {
             high: 0x6e65_7665_7200_0000,
             low: 0,
         },
-        WITHIN => Key {
+        WITHIN_WORD => Key {
             high: 0x7769_7468_696e_0000,
             low: 0,
         },
-        CLOSED => Key {
+        CLOSED_WORD => Key {
             high: 0x636c_6f73_6564_0000,
             low: 0,
         },
-        ASSUME => Key {
+        ASSUME_WORD => Key {
             high: 0x6173_7375_6d65_0000,
             low: 0,
         },
-        CLAIM => Key {
+        CLAIM_WORD => Key {
             high: 0x636c_6169_6d00_0000,
             low: 0,
         },
-        IN => Key {
+        IN_WORD => Key {
             high: 0x696e_0000_0000_0000,
             low: 0,
         },
-        EMPTY => Key {
+        EMPTY_WORD => Key {
             high: 0x656d_7074_7900_0000,
             low: 0,
         },
-        INCLUDE => Key {
+        INCLUDE_WORD => Key {
             high: 0x696e_636c_7564_6500,
             low: 0,
         },
-        IRREFLEXIVE => Key {
+        IRREFLEXIVE_WORD => Key {
             high: 0x6972_7265_666c_6578,
             low: 0x6976_6500_0000_0000,
         },
-        TRUE => Key {
+        TRUE_WORD => Key {
             high: 0x7472_7565_0000_0000,
             low: 0,
         },
-        FALSE => Key {
+        FALSE_WORD => Key {
             high: 0x6661_6c73_6500_0000,
             low: 0,
         },
@@ -154,40 +154,53 @@ pub fn enter(names: &mut [u64; 192], n: usize, k: Key, code: u64)
     names[n * 3 + 2] = code;
 }
 
+// What is wrong with a name: nothing; no line declares it; it is of another kind than the one that is wanted; it is declared for a second
+// time; it is a word that is no name.
+pub enum Slip {
+    Clean,
+    Unknown,
+    OtherKind,
+    Twice,
+    Reserved,
+}
+
 // The first of two slips.
-pub fn first_slip(old: u64, new: u64) -> u64
+pub fn first_slip(old: Slip, new: Slip) -> Slip
     ensures { λ r. ⌜ r ≡ firstOf old new ⌝ }
 {
-    if old == 0 { new } else { old }
+    match old {
+        Slip::Clean => new,
+        _ => old,
+    }
 }
 
 // The slip of a name, by its code, where only codes from `low` to below `high` are wanted.
-pub fn slip_of(code: u64, low: u64, high: u64) -> u64
+pub fn slip_of(code: u64, low: u64, high: u64) -> Slip
     ensures { λ r. ⌜ r ≡ slipOfCode low high code ⌝ }
 {
     if code == 0 {
-        return 1;
+        return Slip::Unknown;
     }
     if code < low {
-        return 2;
+        return Slip::OtherKind;
     }
     if code < high {
-        return 0;
+        return Slip::Clean;
     }
-    2
+    Slip::OtherKind
 }
 
 // The slip of a name that is declared: reserved, or declared before.
-pub fn declaration_slip(k: Key, names: &[u64], n: usize) -> u64
+pub fn declaration_slip(k: Key, names: &[u64], n: usize) -> Slip
     ensures { λ r. ⌜ r ≡ declaredSlip n (now (names .entry)) k ⌝ }
 {
     if reserved(k) {
-        return 4;
+        return Slip::Reserved;
     }
     if find(names, n, k) == 0 {
-        return 0;
+        return Slip::Clean;
     }
-    3
+    Slip::Twice
 }
 
 // The number of a relation, by its code.

@@ -3,7 +3,7 @@
 use read_tokens::Key;
 use read_tokens::Token;
 ghost use mathlib.Core.Path.{_≡_};
-ghost use Rattle.words.specs.Memory.{zeros};
+ghost use Rattle.memory.specs.Memory.{zeros};
 ghost use Rattle.read_next.specs.Next.{markNext, wordNext, MarksNext};
 ghost use Rattle.read_next.specs.Written.{usedAfter, writtenAfter};
 
@@ -76,5 +76,5 @@ pub fn write(out: &mut [u64; 4096], used: usize, count: usize, code: u64) -> usi
 pub fn clear_codes(out: &mut [u64; 4096])
     ensures { λ r. ⌜ now (out .exit) ≡ zeros 4096 ⌝ }
 {
-    words::clear(out);
+    memory::clear(out);
 }

@@ -10,7 +10,7 @@ use Rattle.claims.specs.Names.{Use, firstSlip}
 use Rattle.claims.specs.Query.{Query}
 use Rattle.read_tests.specs.declared.Place.{Place}
 use Rattle.read_tests.specs.Places.{Told}
-use Rattle.read_names.specs.Slips.{firstOf, slipNumber}
+use Rattle.read_names.specs.Slips.{firstOf, slipBy}
 use Rattle.read_next.proofs.Stores.{stores-then}
 use Rattle.read_names.proofs.Slips.{slips-then, no-slip}
 
@@ -43,7 +43,7 @@ module _ (q : Query) (p : Place) (before : List ℕ) where
         record {
           written = t .written ∙ ap (sets before (p .used)) c;
           used = omega (arith, t .used, ap length c);
-          slip = t .slip ∙ ap (λ ws. firstOf (p .slip) (slipNumber (firstSlip q ws))) u;
+          slip = t .slip ∙ ap (λ ws. firstOf (p .slip) (slipBy (firstSlip q ws))) u;
         }
 
 -- only what is used, and the slip, of the place before count

@@ -27,7 +27,8 @@ use Rattle.read_tests.specs.declared.Place.{Place}
 use Rattle.read_tests.specs.declared.Parsed.the-variants.{Got}
 use Rattle.read_tests.specs.Places.{Moved, Read, TestOutcome, TreeOutcome, Is}
 use Rattle.read_next.proofs.Next.{NoWord}
-use Rattle.read_names.specs.Slips.{slipNumber, firstOf, slipOfCode}
+use Rattle.read_names.specs.declared.Slip.{Slip}
+use Rattle.read_names.specs.Slips.{slipBy, firstOf, slipOfCode}
 use Rattle.read_names.proofs.Slips.{no-slip, test-slip, either-slip}
 
 -- what the token u that was found at a position says of the line
@@ -35,10 +36,10 @@ pub scanned : (s : List ℕ) (at : ℕ) {t u : Token} → t ≡ tokenAt s at →
 scanned s at e h = subst (Scanned s at) (sym e ∙ h) (tokens-scanned s at)
 
 -- the place behind a word that took one code
-abbrev pub stepped : Place → ℕ → ℕ → Place
+abbrev pub stepped : Place → ℕ → Slip → Place
 stepped p next slip = record { at = next; used = p .used + 1; slip = slip }
 
-word-moved : (s : List ℕ) (p : Place) (k : Key) (next slip : ℕ) → ScannedWord s (p .at) k next → Moved s p (stepped p next slip)
+word-moved : (s : List ℕ) (p : Place) (k : Key) (next : ℕ) (slip : Slip) → ScannedWord s (p .at) k next → Moved s p (stepped p next slip)
 word-moved s p k next slip w =
     record {
       onward = w .after;
@@ -49,9 +50,9 @@ word-moved s p k next slip w =
 
 module _ {A : Type 0} (Reads : List Notation.Token → Found A → Type 0) (codes : Query → A → List ℕ) (uses : A → List Use) (s names : List ℕ)
     (n : ℕ) (p : Place) (before : List ℕ) where
-  word-read : (t : A) (k : Key) (c next slip : ℕ) → ScannedWord s (p .at) k next → Reads (tokens (drop (p .at) s)) (got t (tokens (drop next s)))
+  word-read : (t : A) (k : Key) (c next : ℕ) (slip : Slip) → ScannedWord s (p .at) k next → Reads (tokens (drop (p .at) s)) (got t (tokens (drop next s)))
       → ((q : Query) → Knows names n q → codes q t ≡ c ∷ [])
-      → ((q : Query) → Knows names n q → slip ≡ firstOf (p .slip) (slipNumber (firstSlip q (uses t))))
+      → ((q : Query) → Knows names n q → slip ≡ firstOf (p .slip) (slipBy (firstSlip q (uses t))))
       → Read Reads codes uses s names n p before (set before (p .used) c) (stepped p next slip)
   word-read t k c next slip w r h e =
       record {
@@ -115,8 +116,8 @@ module _ (s names : List ℕ) (n : ℕ) (p : Place) (before : List ℕ) (k : Key
   name-taken : {A : Type 0} (Reads : List Notation.Token → Found A → Type 0) (codes : Query → A → List ℕ) (uses : A → List Use) (t : A)
       (low high : ℕ) → Reads (tokens (drop (p .at) s)) (got t (tokens (drop next s)))
       → ((q : Query) → codes q t ≡ codeOf q (f .spelling) ∷ [])
-      → ((q : Query) → Knows names n q → slipOfCode low high (codeOf q (f .spelling)) ≡ slipNumber (firstSlip q (uses t)))
-      → (c i slip : ℕ) → c ≡ findIn n names k → i ≡ slipOfCode low high c → slip ≡ firstOf (p .slip) i
+      → ((q : Query) → Knows names n q → slipOfCode low high (codeOf q (f .spelling)) ≡ slipBy (firstSlip q (uses t)))
+      → (c : ℕ) (i slip : Slip) → c ≡ findIn n names k → i ≡ slipOfCode low high c → slip ≡ firstOf (p .slip) i
       → Read Reads codes uses s names n p before (set before (p .used) c) (stepped p next slip)
   name-taken Reads codes uses t low high r is slips c i slip e g l =
       let known-as : (q : Query) → Knows names n q → c ≡ codeOf q (f .spelling) =
@@ -152,7 +153,7 @@ module _ (s names : List ℕ) (n : ℕ) (p : Place) (before : List ℕ) (k : Key
         word-reserved h =
             test-reserved (f .spelling) (tokens (drop (p .at) s)) (tokens (drop next s)) (f .read) not-true not-false (key-reserved d-is h)
 
-        pub word-named : (c i slip : ℕ) → d ≡ false → c ≡ findIn n names k → i ≡ slipOfCode A-TEST A-RELATION c → slip ≡ firstOf (p .slip) i
+        pub word-named : (c : ℕ) (i slip : Slip) → d ≡ false → c ≡ findIn n names k → i ≡ slipOfCode A-TEST A-RELATION c → slip ≡ firstOf (p .slip) i
             → TestOutcome (Is testWord) s names n p before (set before (p .used) c) (Got (stepped p next slip))
         unfolding testCodes testUses
         word-named c i slip h =
@@ -165,7 +166,7 @@ module _ (s names : List ℕ) (n : ℕ) (p : Place) (before : List ℕ) (k : Key
     pub named-reserved : d ≡ true → nameNext name (tokens (drop (p .at) s)) ≡ wrong
     named-reserved h = name-reserved (f .spelling) (tokens (drop (p .at) s)) (tokens (drop next s)) (f .read) (key-reserved d-is h)
 
-    pub named-taken : (c i slip : ℕ) → d ≡ false → c ≡ findIn n names k → i ≡ slipOfCode A-RELATION LINE c → slip ≡ firstOf (p .slip) i
+    pub named-taken : (c : ℕ) (i slip : Slip) → d ≡ false → c ≡ findIn n names k → i ≡ slipOfCode A-RELATION LINE c → slip ≡ firstOf (p .slip) i
         → TreeOutcome (Is (nameNext name)) s names n p before (set before (p .used) c) (Got (stepped p next slip))
     unfolding treeCodes treeUses
     named-taken c i slip h =

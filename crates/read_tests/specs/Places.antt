@@ -12,13 +12,13 @@ use Rattle.claims.specs.Grammar.{Found, got, wrong, deep}
 use Rattle.claims.specs.Tree.{TestTree, Tree}
 use Rattle.claims.specs.Names.{Use, testUses, treeUses, firstSlip}
 use Rattle.claims.specs.Query.{Query}
-use Rattle.words.specs.Memory.{zeros}
+use Rattle.memory.specs.Memory.{zeros}
 use Rattle.codes.specs.Codes.{testCodes, treeCodes}
 use Rattle.read_names.specs.Keys.{Knows}
 use Rattle.read_tests.specs.declared.Place.{Place}
 use Rattle.read_tests.specs.declared.Parsed.{Parsed}
 use Rattle.read_tests.specs.declared.Parsed.the-variants.{Got, Wrong, Deep}
-use Rattle.read_names.specs.Slips.{slipNumber, firstOf}
+use Rattle.read_names.specs.Slips.{slipBy, firstOf}
 
 -- the memory for codes has room for the rest of the line: each code takes a byte of the line at least
 abbrev pub Room : List ℕ → Place → Type 0
@@ -36,7 +36,7 @@ pub record Moved (s : List ℕ) (p r : Place) : Type 0 where
 pub record Told (q : Query) (p : Place) (before after : List ℕ) (r : Place) (cs : List ℕ) (us : List Use) : Type 0 where
   pub written : after ≡ sets before (p .used) cs
   pub used : r .used ≡ p .used + length cs
-  pub slip : r .slip ≡ firstOf (p .slip) (slipNumber (firstSlip q us))
+  pub slip : r .slip ≡ firstOf (p .slip) (slipBy (firstSlip q us))
 
 -- What a reader answers from the place p on. `Reads ts x` says that the grammar finds x in the tokens ts: a tree, a fault of the
 -- notation, or the 33rd open bracket. The codes are those of whichever lines q declare the names of the table. After a fault the

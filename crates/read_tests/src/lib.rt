@@ -3,11 +3,12 @@
 // one is only remembered, since a fault of the notation further on in the line comes first. Operators and prefix `!` are read by loops,
 // so that only brackets take the machine's stack. At each bracket two numbers fall: how many may still be opened, and the bytes left. The
 // place of a reader serves the readers of E too.
+use read_names::Slip;
 use read_tokens::Token;
 ghost use mathlib.Core.Path.{_≡_};
 ghost use Prim.Native.Nat.{_≤_};
 ghost use Rattle.claims.specs.Lines.{condition};
-ghost use Rattle.words.specs.Memory.{zeros};
+ghost use Rattle.memory.specs.Memory.{zeros};
 ghost use Rattle.read_tests.specs.declared.Parsed.the-variants.{Wrong, Deep};
 ghost use Rattle.read_tests.specs.Places.{Room, TestOutcome, Is, Finds, opened};
 ghost use Rattle.claims.specs.Grammar.{testUnion, testMeet, testNot, testBasic, testWord};
@@ -15,12 +16,11 @@ ghost use Rattle.claims.specs.Grammar.{testUnion, testMeet, testNot, testBasic,
 // How many round brackets may be open at once.
 pub const MOST_BRACKETS: usize = 32;
 
-// How far a reader has come: its position in the line, the codes written so far, and the first slip of a name: 0 none, 1 unknown, 2 of
-// the wrong kind.
+// How far a reader has come: its position in the line, the codes written so far, and the first slip of a name.
 pub struct Place {
     pub at: usize,
     pub used: usize,
-    pub slip: u64,
+    pub slip: Slip,
 }
 
 // What a reader finds: a tree, whose codes it has written; a token with which the notation does not go on; or a 33rd open bracket. After
@@ -66,19 +66,20 @@ pub fn union(
         let Parsed::Got(got) = r else {
             return r;
         };
+        let slip = got.slip;
         let used = read_next::write(out, got.used, more, codes::OR);
         let next = read_next::mark_next(s, got.at, b'|');
         if next == 0 {
             return Parsed::Got(Place {
                 at: got.at,
                 used,
-                slip: got.slip,
+                slip,
             });
         }
         place = Place {
             at: next,
             used,
-            slip: got.slip,
+            slip,
         };
         more = 1;
     }
@@ -96,19 +97,20 @@ fn meet(s: &[u8], names: &[u64], n: usize, depth: usize, p: Place, out: &mut [u6
         let Parsed::Got(got) = r else {
             return r;
         };
+        let slip = got.slip;
         let used = read_next::write(out, got.used, more, codes::AND);
         let next = read_next::mark_next(s, got.at, b'&');
         if next == 0 {
             return Parsed::Got(Place {
                 at: got.at,
                 used,
-                slip: got.slip,
+                slip,
             });
         }
         place = Place {
             at: next,
             used,
-            slip: got.slip,
+            slip,
         };
         more = 1;
     }
@@ -120,20 +122,22 @@ fn not(s: &[u8], names: &[u64], n: usize, depth: usize, p: Place, out: &mut [u64
     ensures { λ r. ⌜ TestOutcome (Finds testNot (opened depth) 2) (now (s .entry)) (now (names .entry)) n p (now (out .entry)) (now (out .exit)) r ⌝ }
 {
     let run = read_next::marks_next(s, p.at, b'!');
+    let slip = p.slip;
     let inner = Place {
         at: run.at,
         used: p.used,
-        slip: p.slip,
+        slip,
     };
     let r = basic(s, names, n, depth, inner, out);
     let Parsed::Got(got) = r else {
         return r;
     };
+    let found = got.slip;
     let used = read_next::write(out, got.used, run.count, codes::NOT);
     Parsed::Got(Place {
         at: got.at,
         used,
-        slip: got.slip,
+        slip: found,
     })
 }
 
@@ -149,15 +153,17 @@ fn basic(s: &[u8], names: &[u64], n: usize, depth: usize, p: Place, out: &mut [u
     if depth == 0 {
         return deep(out);
     }
+    let slip = p.slip;
     let inner = Place {
         at: next,
         used: p.used,
-        slip: p.slip,
+        slip,
     };
     let r = union(s, names, n, depth - 1, inner, out);
     let Parsed::Got(got) = r else {
         return r;
     };
+    let found = got.slip;
     let end = read_next::mark_next(s, got.at, b')');
     if end == 0 {
         return wrong(out);
@@ -165,7 +171,7 @@ fn basic(s: &[u8], names: &[u64], n: usize, depth: usize, p: Place, out: &mut [u
     Parsed::Got(Place {
         at: end,
         used: got.used,
-        slip: got.slip,
+        slip: found,
     })
 }
 
@@ -175,24 +181,25 @@ fn word(s: &[u8], names: &[u64], n: usize, p: Place, out: &mut [u64; 4096]) -> P
     ensures { λ r. ⌜ TestOutcome (Is testWord) (now (s .entry)) (now (names .entry)) n p (now (out .entry)) (now (out .exit)) r ⌝ }
 {
     let used = p.used;
+    let slip = p.slip;
     let t = read_tokens::token_at(s, p.at);
     let Token::Word(k, next) = t else {
         return wrong(out);
     };
-    if read_names::same_key(read_names::word_key(read_names::TRUE), k) {
+    if read_names::same_key(read_names::word_key(read_names::TRUE_WORD), k) {
         out[used] = codes::TRUE;
         return Parsed::Got(Place {
             at: next,
             used: used + 1,
-            slip: p.slip,
+            slip,
         });
     }
-    if read_names::same_key(read_names::word_key(read_names::FALSE), k) {
+    if read_names::same_key(read_names::word_key(read_names::FALSE_WORD), k) {
         out[used] = codes::FALSE;
         return Parsed::Got(Place {
             at: next,
             used: used + 1,
-            slip: p.slip,
+            slip,
         });
     }
     if read_names::reserved(k) {
@@ -204,7 +211,7 @@ fn word(s: &[u8], names: &[u64], n: usize, p: Place, out: &mut [u64; 4096]) -> P
         at: next,
         used: used + 1,
         slip: read_names::first_slip(
-            p.slip,
+            slip,
             read_names::slip_of(code, codes::A_TEST, codes::A_RELATION),
         ),
     })

@@ -17,18 +17,18 @@ use Rattle.claims.specs.Refusals.{tooLong, badByte, noClaim, Result, ok, refuse
 use Rattle.codes.specs.Codes.{queryCodes}
 use Rattle.read_text.specs.Reading.{claimed, inLines, readable, SaysSummary, leftCodes}
 use Rattle.read_text.specs.inner.Steps.{orZero, Written}
-use Rattle.words.specs.Memory.{zeros}
+use Rattle.memory.specs.Memory.{zeros}
 use Rattle.refusals.specs.Causes.{causeOf}
 use Rattle.refusals.specs.declared.Reason.{Reason}
 use Rattle.refusals.specs.declared.Reason.the-variants.{TooLong, BadByte}
-use Rattle.read_text.specs.declared.Reading.{Reading}
-use Rattle.read_text.specs.declared.Reading.the-variants.{Accepted, Refused}
+use Rattle.read_text.specs.declared.TextRead.{TextRead}
+use Rattle.read_text.specs.declared.TextRead.the-variants.{Accepted, Refused}
 use Rattle.read_text.proofs.TextLines.{bad-line-there, bad-line-none}
 use Rattle.refusals.proofs.Causes.{one-reason}
-use Rattle.words.proofs.Zeros.{drop-zeros}
+use Rattle.memory.proofs.Zeros.{drop-zeros}
 
 -- what was read has one answer
-pub one-answer : (r : Result Query) (x y : Reading) → SaysSummary r x → SaysSummary r y → x ≡ y
+pub one-answer : (r : Result Query) (x y : TextRead) → SaysSummary r x → SaysSummary r y → x ≡ y
 one-answer (ok q) (Accepted m) (Accepted n) a b = ap Accepted (a ∙ sym b)
 one-answer (ok q) (Accepted m) (Refused c p) a b = absurd b
 one-answer (ok q) (Refused c p) y a b = absurd a
@@ -62,7 +62,7 @@ left-refused (ok q) c p s = absurd s
 left-refused (refused r) c p s = refl
 
 -- the answer to a text with what is left in the array, by what the text is
-abbrev Answered : List ℕ → Reading → List ℕ → Type 0
+abbrev Answered : List ℕ → TextRead → List ℕ → Type 0
 Answered bs r out = SaysSummary (readable bs) r × (out ≡ leftCodes (readable bs))
 
 module _ (bs out : List ℕ) where
@@ -85,7 +85,7 @@ module _ (bs out : List ℕ) where
     read-by-lines : readable bs ≡ inLines bs
     read-by-lines = readable-lines bs h (bad-line-none bs b e none-bad)
 
-    pub answer-lines : (r : Reading) (n : ℕ) (before : List ℕ) → SaysSummary (inLines bs) r → Written (inLines bs) before out → n ≡ 4096
+    pub answer-lines : (r : TextRead) (n : ℕ) (before : List ℕ) → SaysSummary (inLines bs) r → Written (inLines bs) before out → n ≡ 4096
         → before ≡ zeros n → Answered bs r out
     answer-lines r n before s w m z = (
       subst⁻¹ (λ x. SaysSummary x r) read-by-lines s,

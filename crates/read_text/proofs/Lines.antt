@@ -25,13 +25,13 @@ use Rattle.read_names.specs.Keys.{findIn}
 use Rattle.read_text.specs.Reading.{claimed, inLines, summaryOf, SaysSummary}
 use Rattle.read_text.specs.inner.Steps.{inLine, known, Written}
 use Rattle.read_declarations.specs.State.{After, Small, Tabled, Took, LineSays, LeavesNone, ReadsLine, lineFate}
-use Rattle.words.specs.Memory.{zeros}
+use Rattle.memory.specs.Memory.{zeros}
 use Rattle.refusals.specs.Causes.{causeOf}
 use Rattle.refusals.specs.declared.Reason.{Reason}
 use Rattle.refusals.specs.declared.Reason.the-variants.{NoClaim}
 use Rattle.read_text.specs.declared.Summary.{Summary}
-use Rattle.read_text.specs.declared.Reading.the-variants.{Accepted, Refused}
-use Rattle.read_declarations.specs.declared.State.{State}
+use Rattle.read_text.specs.declared.TextRead.the-variants.{Accepted, Refused}
+use Rattle.read_declarations.specs.declared.LineState.{LineState}
 use Rattle.read_declarations.specs.declared.LineRead.{LineRead}
 use Rattle.read_declarations.specs.declared.LineRead.the-variants.{Taken, Refused as LineRefused}
 use Rattle.read_text.proofs.TextLines.{line-split}
@@ -50,7 +50,7 @@ lines-by-fate q n l ls = go (claimOf q)
     go none = refl
 
 -- what the loop keeps: q has been read, the rest is to be read from `at` on, in line n
-pub record Going (text before : List ℕ) (st : State) (names out : List ℕ) (n at : ℕ) : Type 0 where
+pub record Going (text before : List ℕ) (st : LineState) (names out : List ℕ) (n at : ℕ) : Type 0 where
   pub query : Query
   pub left : readLines query n (rawLines (drop at text)) ≡ readLines [] 1 (rawLines text)
   pub after : After query st before out
@@ -88,7 +88,7 @@ refused-answer r c p before out z e = subst⁻¹ (λ x. SaysSummary x (Refused c
 abbrev pub lineAt : List ℕ → ℕ → ℕ → RawLine
 lineAt text at e = record { bytes = take (e - at) (drop at text); ended = ltb e (length text) }
 
-module _ (text before : List ℕ) (st : State) (names out : List ℕ) (n at e : ℕ) (g : Going text before st names out n at) (h : at < length text)
+module _ (text before : List ℕ) (st : LineState) (names out : List ℕ) (n at e : ℕ) (g : Going text before st names out n at) (h : at < length text)
     (ends : e ≡ at + front inLine (drop at text)) (within : e ≤ length text) where
   -- there is room for the line's codes
   pub line-fits : length text ≤ 4096 → st .used + length (take (e - at) (drop at text)) ≤ 4096
@@ -98,7 +98,7 @@ module _ (text before : List ℕ) (st : State) (names out : List ℕ) (n at e : 
   next-line = ap (readLines (g .query) n) (sym (line-split text at e h ends)) ∙ g .left
 
   -- a line that is taken
-  pub going-on : (names′ out′ : List ℕ) (r : LineRead) (next : State) → ReadsLine (lineAt text at e) st names out r names′ out′ → r ≡ Taken next
+  pub going-on : (names′ out′ : List ℕ) (r : LineRead) (next : LineState) → ReadsLine (lineAt text at e) st names out r names′ out′ → r ≡ Taken next
       → Going text before next names′ out′ (n + 1) (e + 1)
   going-on names′ out′ r next says same =
       let t : Took (g .query) (lineAt text at e) st next before names′ out′ =
@@ -137,7 +137,7 @@ sets-from-start before codes h =
     sets-eq codes before 0 (omega arith) ∙ ap (λ n. codes ++ drop n before) (zero-add (length codes))
 
 -- all lines are read
-module _ (text before : List ℕ) (st : State) (names out : List ℕ) (n at : ℕ) (g : Going text before st names out n at) (h : length text ≤ at) where
+module _ (text before : List ℕ) (st : LineState) (names out : List ℕ) (n at : ℕ) (g : Going text before st names out n at) (h : length text ≤ at) where
   all-read : inLines text ≡ claimed (g .query)
   unfolding inLines readLines rawLines
   all-read =

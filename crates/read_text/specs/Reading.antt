@@ -15,9 +15,9 @@ use Rattle.claims.specs.Refusals.{tooLong, badByte, noClaim, Result, ok, refuse
 use Rattle.codes.specs.Codes.{queryCodes, claimKind}
 use Rattle.refusals.specs.Causes.{causeOf}
 use Rattle.read_text.specs.declared.Summary.{Summary}
-use Rattle.read_text.specs.declared.Reading.{Reading}
-use Rattle.read_text.specs.declared.Reading.the-variants.{Accepted, Refused}
-use Rattle.words.specs.Memory.{zeros}
+use Rattle.read_text.specs.declared.TextRead.{TextRead}
+use Rattle.read_text.specs.declared.TextRead.the-variants.{Accepted, Refused}
+use Rattle.memory.specs.Memory.{zeros}
 
 -- a query must have a claim
 unfoldable pub claimed : Query → Result Query
@@ -47,7 +47,7 @@ summaryOf q =
     }
 
 -- the answer says what was read: the summary of the query, or the cause and the place
-abbrev pub SaysSummary : Result Query → Reading → Type 0
+abbrev pub SaysSummary : Result Query → TextRead → Type 0
 SaysSummary (ok q) (Accepted s) = s ≡ summaryOf q
 SaysSummary (ok q) (Refused c p) = ⊥
 SaysSummary (refused r) (Accepted s) = ⊥

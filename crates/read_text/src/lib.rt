@@ -1,9 +1,9 @@
 // The reader of queries: every list of bytes gets an answer. (Document 01, "The query" and "Refusals with an example each".) It reads
 // line by line over a state that carries what the lines so far declare, and writes the query's syntax as codes, children before parents.
+use memory::clear;
 use read_declarations::LineRead;
-use read_declarations::State;
+use read_declarations::LineState;
 use refusals::Reason;
-use words::clear;
 ghost use mathlib.Core.Path.{_≡_};
 ghost use Prim.Native.Nat.{_+_, _≤_};
 ghost use lib.ListN.{length, take, drop};
@@ -23,7 +23,7 @@ pub struct Summary {
 }
 
 // The summary of an accepted query, or the reason and the place of a refusal.
-pub enum Reading {
+pub enum TextRead {
     Accepted(Summary),
     Refused(Reason, usize),
 }
@@ -67,7 +67,7 @@ fn line_end(text: &[u8], at: usize) -> usize
 }
 
 // What is known after so many lines, whose codes are the first of the array.
-fn known_of(out: &[u64], st: State, lines: usize) -> Summary
+fn known_of(out: &[u64], st: LineState, lines: usize) -> Summary
     requires { ⌜ st .used ≤ length (now out) ⌝ }
     ensures { λ r. ⌜ r ≡ known st lines (take (st .used) (now (out .entry))) ⌝ }
 {
@@ -83,11 +83,11 @@ fn known_of(out: &[u64], st: State, lines: usize) -> Summary
 }
 
 // The lines from the top. A line that is refused leaves no code.
-fn every_line(text: &[u8], names: &mut [u64; 192], out: &mut [u64; 4096]) -> Reading
+fn every_line(text: &[u8], names: &mut [u64; 192], out: &mut [u64; 4096]) -> TextRead
     requires { ⌜ (length (now text) ≤ 4096) × (length (now names) ≡ 192) × (length (now out) ≡ 4096) ⌝ }
     ensures { λ r. ⌜ SaysSummary (inLines (now (text .entry))) r × Written (inLines (now (text .entry))) (now (out .entry)) (now (out .exit)) ⌝ }
 {
-    let mut st = State {
+    let mut st = LineState {
         used: 0,
         names: 0,
         tests: 0,
@@ -102,7 +102,7 @@ fn every_line(text: &[u8], names: &mut [u64; 192], out: &mut [u64; 4096]) -> Rea
         let ended = e < text.len();
         match read_lines::read_line(&text[at..e], ended, st, names, out) {
             LineRead::Refused(r) => {
-                return Reading::Refused(r, number);
+                return TextRead::Refused(r, number);
             }
             LineRead::Taken(next) => {
                 st = next;
@@ -113,29 +113,29 @@ fn every_line(text: &[u8], names: &mut [u64; 192], out: &mut [u64; 4096]) -> Rea
     }
     if !st.claimed {
         clear(out);
-        return Reading::Refused(Reason::NoClaim, 0);
+        return TextRead::Refused(Reason::NoClaim, 0);
     }
-    Reading::Accepted(known_of(out, st, number - 1))
+    TextRead::Accepted(known_of(out, st, number - 1))
 }
 
 // Refusals 1 and 2, and then the lines. `names` is lent for the table of names.
-fn read_text(text: &[u8], names: &mut [u64; 192], out: &mut [u64; 4096]) -> Reading
+fn read_text(text: &[u8], names: &mut [u64; 192], out: &mut [u64; 4096]) -> TextRead
     requires { ⌜ length (now names) ≡ 192 ⌝ }
     ensures { λ r. ⌜ SaysSummary (readable (now (text .entry))) r × (now (out .exit) ≡ leftCodes (readable (now (text .entry)))) ⌝ }
 {
     clear(out);
     if 4096 < text.len() {
-        return Reading::Refused(Reason::TooLong, 0);
+        return TextRead::Refused(Reason::TooLong, 0);
     }
     let bad = bad_line(text);
     if 0 < bad {
-        return Reading::Refused(Reason::BadByte, bad);
+        return TextRead::Refused(Reason::BadByte, bad);
     }
     every_line(text, names, out)
 }
 
 // The query that the text is, as codes in `out`, or the first refusal of 1 to 7.
-pub fn read(text: &[u8], out: &mut [u64; 4096]) -> Reading
+pub fn read(text: &[u8], out: &mut [u64; 4096]) -> TextRead
     ensures { λ r. ⌜ SaysSummary (readable (now (text .entry))) r × (now (out .exit) ≡ leftCodes (readable (now (text .entry)))) ⌝ }
 {
     let mut names = [0u64; 192];

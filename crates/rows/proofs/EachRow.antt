@@ -10,8 +10,8 @@ use lib.Bits.{bitOr, or-zero-l}
 use lib.Dec.{ltb}
 use lib.ListN.{length, getD, set, length-set}
 use Rattle.claims.specs.Query.{bit}
-use Rattle.words.specs.Memory.{words, changed}
-use Rattle.words.proofs.Words.{changed-all, changed-more, changed-end}
+use Rattle.memory.specs.Memory.{words, changed}
+use Rattle.memory.proofs.Words.{changed-all, changed-more, changed-end}
 use Rattle.bits.specs.Sets.{including, unionRows}
 use Rattle.bits.proofs.Rows.{including-in}
 use Rattle.rows.specs.Rows.{joined, composed, reflexive, diagonal}

@@ -12,7 +12,7 @@ use lib.ListN.{getD}
 use borrow.Author.Tests.{lt-ltb, le-ltb}
 use Rattle.kat.proofs.Bools.{lt-or-le}
 use Rattle.claims.specs.Query.{bit}
-use Rattle.words.proofs.Words.{same-or-not}
+use Rattle.memory.proofs.Words.{same-or-not}
 use Rattle.bits.specs.Sets.{including}
 use Rattle.bits.proofs.Puts.{bit-put, bit-kept}
 use Rattle.bits.proofs.Rows.{including-below}

@@ -13,8 +13,8 @@ use lib.Pow.{pow-pos}
 use Rattle.kat.specs.Closure.{table, entry, through, closure}
 use Rattle.kat.proofs.Closure.{entry-table}
 use Rattle.claims.specs.Query.{bit}
-use Rattle.words.specs.Memory.{between, changed}
-use Rattle.words.proofs.Words.{changed-length, changed-in, changed-at, changed-end, changed-more}
+use Rattle.memory.specs.Memory.{between, changed}
+use Rattle.memory.proofs.Words.{changed-length, changed-in, changed-at, changed-end, changed-more}
 use Rattle.bits.proofs.Bit.{bit-none, bit-or}
 use Rattle.rows.specs.Rows.{joinedWhere, round, rounds}
 

@@ -16,9 +16,9 @@ use Rattle.kat.specs.Closure.{entry, closure}
 use Rattle.kat.proofs.Bools.{or-cases, and-left, and-right, and-both, bool-ext, true-not-false, lt-or-le}
 use Rattle.kat.proofs.Sets.{some-in, in-some, in-upto, upto-in}
 use Rattle.claims.specs.Query.{bit}
-use Rattle.words.specs.Memory.{words, between, changed}
-use Rattle.words.proofs.Words.{words-length, words-at, inside-out, changed-length, changed-at}
-use Rattle.words.proofs.Zeros.{zeros-words}
+use Rattle.memory.specs.Memory.{words, between, changed}
+use Rattle.memory.proofs.Words.{words-length, words-at, inside-out, changed-length, changed-at}
+use Rattle.memory.proofs.Zeros.{zeros-words}
 use Rattle.bits.specs.Sets.{including, unionRows}
 use Rattle.bits.proofs.Bit.{bit-none, bit-above, bit-or, bit-pow}
 use Rattle.bits.proofs.Lists.{some-filled}

@@ -11,7 +11,7 @@ use lib.ListN.{getD}
 use Rattle.kat.specs.Lists.{upto, filter}
 use Rattle.claims.specs.Query.{bit}
 use Rattle.claims.specs.Fields.{setNumber}
-use Rattle.words.specs.Memory.{words, changed, zeros}
+use Rattle.memory.specs.Memory.{words, changed, zeros}
 use Rattle.bits.specs.Sets.{including, members, unionRows}
 
 -- no pair

@@ -3,7 +3,7 @@
 // that has k is joined with row k, which itself does not change. A row past a table is empty.
 use bits::marked;
 use bits::member;
-use words::word as row;
+use memory::word as row;
 ghost use mathlib.Core.Path.{_≡_};
 ghost use mathlib.Core.Bool.{cond};
 ghost use lib.Bits.{bitOr};
@@ -88,7 +88,7 @@ fn merged(w: u64, c: u64, k: usize) -> u64
 fn join_where(t: &mut [u64], c: u64, k: usize, n: usize)
     ensures { λ r. ⌜ now (t .exit) ≡ joinedWhere (now (t .entry)) c k n ⌝ }
 {
-    let m = words::least(n, t.len());
+    let m = memory::least(n, t.len());
     let mut x = 0;
     while x < m {
         t[x] = merged(t[x], c, k);
@@ -97,7 +97,7 @@ fn join_where(t: &mut [u64], c: u64, k: usize, n: usize)
 }
 
 // The rows below n, closed.
-pub fn close(t: &mut [u64], n: usize)
+fn close(t: &mut [u64], n: usize)
     ensures { λ r. ⌜ now (t .exit) ≡ rounds (now (t .entry)) n n ⌝ }
 {
     let mut k = 0;
@@ -141,11 +141,11 @@ pub fn tested(s: u64) -> [u64; 64]
 pub fn events_in(atoms: &[u64], n: usize, s: u64) -> u64
     ensures { λ r. ⌜ r ≡ eventsIn (now (atoms .entry)) n s ⌝ }
 {
-    let m = words::least(n, 64);
+    let m = memory::least(n, 64);
     let mut all: u64 = 0;
     let mut x = 0;
     while x < m {
-        all = marked(all, x, member(s, words::word(atoms, x) as usize));
+        all = marked(all, x, member(s, memory::word(atoms, x) as usize));
         x += 1;
     }
     all
@@ -156,7 +156,7 @@ fn lowest_from(t: &[u64], u: &[u64], n: usize) -> usize
     requires { ⌜ (length (now t) ≡ 64) × (length (now u) ≡ 64) ⌝ }
     ensures { λ r. ⌜ r ≡ lowestPair (now (t .entry)) (now (u .entry)) n ⌝ }
 {
-    let m = words::least(n, 64);
+    let m = memory::least(n, 64);
     let mut x = 0;
     while x < m {
         let left = t[x] & (bits::ALL - u[x]);
@@ -181,7 +181,7 @@ fn lowest_of(t: &[u64], n: usize) -> usize
     requires { ⌜ length (now t) ≡ 64 ⌝ }
     ensures { λ r. ⌜ r ≡ lowestLoop (now (t .entry)) n ⌝ }
 {
-    let m = words::least(n, 64);
+    let m = memory::least(n, 64);
     let mut x = 0;
     while x < m {
         if member(t[x], x) {

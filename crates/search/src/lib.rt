@@ -4,16 +4,17 @@
 use query::Answer;
 use search_outcomes::Outcome;
 use search_records::Record;
+use side_tables::TABLE;
 ghost use mathlib.Core.List.{List};
 ghost use lib.ListN.{replicate};
-ghost use Rattle.claims.specs.Calls.{search-call};
 ghost use Rattle.search_records.specs.declared.Record.{Record};
 ghost use Rattle.search_records.specs.Records.{blank};
-ghost use Rattle.search_outcomes.specs.Outcomes.{lentOf, Gives};
+ghost use Rattle.search_outcomes.specs.Outcomes.{lentOf, SearchGives};
 ghost use Rattle.search_outcomes.specs.ByWords.{SearchedByWords};
+ghost use Rattle.layout.specs.Layout.{MOST-STANDINGS};
 
 // Searches for the verdict of the query that the text is, within an allowance of standings. A path claim needs a record for each standing
-// of the allowance, a ring claim 40 words; the other kind of memory is not looked at. After an answer the sheet stands at the start of the
+// of the allowance, a ring claim RING_WORDS words; the other kind of memory is not looked at. After an answer the sheet stands at the start of the
 // buffer. The outcome is the one that the words of the claim fix.
 pub fn search(
     text: &[u8],
@@ -23,15 +24,15 @@ pub fn search(
     buffer: &mut [u8],
 ) -> Outcome
     ensures gives { λ r.
-        ⌜ Gives (search-call (now (text .entry)) allowance (lentOf (now (records .entry)) (now (words .entry)) (now (buffer .entry)))) r
+        ⌜ SearchGives (now (text .entry)) allowance (lentOf (now (records .entry)) (now (words .entry)) (now (buffer .entry))) r
         (lentOf (now (records .exit)) (now (words .exit)) (now (buffer .exit))) ⌝ }
     ensures by_words { λ r.
         ⌜ SearchedByWords (now (text .entry)) allowance (lentOf (now (records .entry)) (now (words .entry)) (now (buffer .entry)))
         (lentOf (now (records .exit)) (now (words .exit)) (now (buffer .exit))) r ⌝ }
 {
     let mut codes = [0u64; 4096];
-    let mut left = [0u64; 4241];
-    let mut right = [0u64; 4241];
+    let mut left = [0u64; TABLE];
+    let mut right = [0u64; TABLE];
     let answer = query::read(text, &mut codes, &mut left, &mut right);
     match answer {
         Answer::Refused(why, place) => Outcome::Refused(why, place),
@@ -51,11 +52,11 @@ pub fn search(
 // records.
 pub fn search_alone(text: &[u8], allowance: usize, words: &mut [u64], buffer: &mut [u8]) -> Outcome
     ensures { λ r.
-        ⌜ ((after : List Record) × Gives (search-call (now (text .entry)) allowance (lentOf (replicate 4096 blank) (now (words .entry)) (now (buffer .entry)))) r
+        ⌜ ((after : List Record) × SearchGives (now (text .entry)) allowance (lentOf (replicate MOST-STANDINGS blank) (now (words .entry)) (now (buffer .entry))) r
         (lentOf after (now (words .exit)) (now (buffer .exit)))) ⌝ }
 {
-    let mut left = [0u64; 4241];
-    let mut right = [0u64; 4241];
+    let mut left = [0u64; TABLE];
+    let mut right = [0u64; TABLE];
     let answer = query::read_sides(text, &mut left, &mut right);
     match answer {
         Answer::Refused(why, line) => Outcome::Refused(why, line),

@@ -1,0 +1,2 @@
+-- Which atoms are alike, by the tables, and the masks of those to try.
+pub mod Masks

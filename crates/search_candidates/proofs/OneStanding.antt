@@ -8,16 +8,16 @@ use mathlib.Core.List.{List}
 use mathlib.Core.Option.{some, none}
 use lib.ListN.{drop}
 use Rattle.claims.specs.Search.{completed}
-use Rattle.search_words.specs.declared.Shape.{Shape}
-use Rattle.search_words.specs.Systems.{finalsWords, wordSystem}
-use Rattle.search_words.specs.First.{firstOr}
-use Rattle.search_places.specs.Store.{standingAt}
+use Rattle.search_standings.specs.declared.Shape.{Shape}
+use Rattle.search_standings.specs.Systems.{finalsWords, wordSystem}
+use Rattle.search_standings.specs.First.{firstOr}
+use Rattle.search_store.specs.Store.{standingAt}
 use Rattle.search_grow.specs.Kept.{State, state, Seen, Keeps, NotedBehind, NotedFrom}
 use Rattle.search_grow.proofs.Letters.{letters-start, weight-small}
 use Rattle.search_grow.proofs.Turns.{places-turn}
 use Rattle.search_course.specs.declared.Course.{Course}
 use Rattle.search_course.specs.Answers.{wordAt}
-use Rattle.search_course.specs.Turns.{answerOf, turnWeight, firstOnes, laterOnes, RunsOn, At, Completing}
+use Rattle.search_course.specs.Turns.{findingOf, turnWeight, firstOnes, laterOnes, RunsOn, At, Completing}
 use Rattle.search_course.proofs.Completed.{hit-here, hit-later, hit-none}
 use Rattle.search_course.proofs.Advance.{running-refuted, running-more}
 use Rattle.search_course.proofs.Phases.{at-completes, at-grows, at-answered, weight-completes, weight-grows, weight-ends}
@@ -43,11 +43,6 @@ module _ (k : Shape) (left right first later : List ℕ) (cap : ℕ) (t : Course
         rest = t .rest;
         relation = t .relation;
         count = t .count;
-        put = t .put;
-        seek = t .seek;
-        p = t .p;
-        s = t .s;
-        letter = t .letter;
         last = f;
       }
 
@@ -59,7 +54,7 @@ module _ (k : Shape) (left right first later : List ℕ) (cap : ℕ) (t : Course
       ∙ ap (λ p. some (wordAt k left right seen p f)) (sym (b .place))
 
   pub completes-word : f < 64 → At k left right first later cap refutedBy r w × (turnWeight refutedBy < turnWeight t)
-  unfolding answerOf
+  unfolding findingOf
   completes-word h = (
     at-answered k left right first later cap refutedBy r w (a .ready) (omega arith)
         (running-refuted k left right (firstOnes k left right first later cap) (laterOnes k left right first later cap) (suc (suc cap)) cap s (t .lo)
@@ -86,11 +81,6 @@ module _ (k : Shape) (left right first later : List ℕ) (cap : ℕ) (t : Course
           rest = k .live;
           relation = 0;
           count = t .count;
-          put = t .put;
-          seek = t .seek;
-          p = t .p;
-          s = t .s;
-          letter = t .letter;
           last = t .last;
         }
 
@@ -135,11 +125,6 @@ module _ (k : Shape) (left right first later : List ℕ) (cap : ℕ) (t : Course
           rest = t .rest;
           relation = t .relation;
           count = t .count;
-          put = t .put;
-          seek = t .seek;
-          p = t .p;
-          s = t .s;
-          letter = t .letter;
           last = t .last;
         }
 

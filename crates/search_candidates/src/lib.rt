@@ -1,38 +1,43 @@
 // One standing of a level, and one letter behind a place: whether the standing completes a refuting word, and the candidate that the letter
 // leads to. (Document 01, "Standings".) A candidate of a ring claim is noted, one of a path claim is offered.
+use layout::RING_WORDS;
 use search_course::Course;
 use search_course::GROWS;
+use search_course::Move;
 use search_course::REFUTED;
+use search_course::quiet;
 use search_records::Record;
-use search_words::Shape;
+use search_standings::Shape;
+use side_tables::Table;
 ghost use Prim.Native.Nat.{ℕ, _+_, _*_, _-_, _≤_, _<_};
 ghost use mathlib.Core.Path.{_≡_};
 ghost use mathlib.Core.Bool.{true};
 ghost use mathlib.Core.List.{List};
 ghost use lib.ListN.{length};
-ghost use Rattle.search_words.specs.declared.Shape.{Shape};
+ghost use Rattle.search_standings.specs.declared.Shape.{Shape};
 ghost use Rattle.search_records.specs.Rows.{recordAt};
 ghost use Rattle.search_course.specs.Turns.{turnWeight, Tries, Tryable, masksNow, At, Stepped};
+ghost use Rattle.layout.specs.Layout.{RING-WORDS};
 
 // One standing of the level: where it completes a refuting word, that is the answer; else on to the next one, or to the letters behind the
 // standings of the level.
 pub fn complete(
     k: Shape,
-    left: &[u64; 4241],
-    right: &[u64; 4241],
+    left: &Table,
+    right: &Table,
     from: Record,
     words: &[u64],
     t: Course,
 ) -> Course
-    requires { ⌜ (k .ring ≡ true → 40 * (t .at + 1) ≤ length (now words)) × (t .at ≤ 4097) × (t .place ≤ 4097) × (t .lo ≤ 4097) ⌝ }
-    ensures quiet { λ u. ⌜ (u .put ≡ t .put) × (u .seek ≡ t .seek) × (u .count ≡ t .count) ⌝ }
+    requires { ⌜ (k .ring ≡ true → RING-WORDS * (t .at + 1) ≤ length (now words)) × (t .at ≤ 4097) × (t .place ≤ 4097) × (t .lo ≤ 4097) ⌝ }
+    ensures quiet { λ u. ⌜ u .count ≡ t .count ⌝ }
     ensures on { λ u.
         ⌜ ((first later : List ℕ) (cap : ℕ) (r : List (List ℕ)) → from ≡ recordAt r (t .at) → t .phase ≡ 1
         → At k (now (left .entry)) (now (right .entry)) first later cap t r (now (words .entry))
         → At k (now (left .entry)) (now (right .entry)) first later cap u r (now (words .entry)) × (turnWeight u < turnWeight t)) ⌝ }
 {
-    let mut s = [0u64; 40];
-    search_places::stand(k.ring, from, words, t.at, &mut s);
+    let mut s = [0u64; RING_WORDS];
+    search_store::stand(k.ring, from, words, t.at, &mut s);
     let a = search_kinds::first_final(k, left, right, &s);
     let mut u = t;
     if a < 64 {
@@ -58,28 +63,28 @@ pub fn complete(
 pub fn try_letter(
     k: Shape,
     cap: usize,
-    left: &[u64; 4241],
-    right: &[u64; 4241],
+    left: &Table,
+    right: &Table,
     masks: &[u64; 16],
     from: Record,
     words: &mut [u64],
     t: Course,
-) -> Course
+) -> Move
     requires { ⌜ Tryable (k .ring) (k .relations) cap (length (now words)) t ⌝ }
-    ensures { λ c.
+    ensures { λ m.
         ⌜ ((first later : List ℕ) (r : List (List ℕ)) → now (masks .entry) ≡ masksNow first later t → from ≡ recordAt r (t .place - 1) → Tries t
         → At k (now (left .entry)) (now (right .entry)) first later cap t r (now (words .entry))
-        → Stepped k (now (left .entry)) (now (right .entry)) first later cap t c r (now (words .entry)) (now (words .exit))
-        × (turnWeight c < turnWeight t)) ⌝ }
+        → Stepped k (now (left .entry)) (now (right .entry)) first later cap t m r (now (words .entry)) (now (words .exit))
+        × (turnWeight (m .course) < turnWeight t)) ⌝ }
 {
     let spot = search_grow::seek(masks, k.relations, t.rest, t.relation);
     if spot.rest == 0 {
-        return search_course::next_place(k.live, cap, t);
+        return quiet(search_course::next_place(k.live, cap, t));
     }
     let a = u64::trailing_zeros(spot.rest) as usize;
     let r = spot.relation;
     let place = t.place;
-    let mut s = [0u64; 40];
+    let mut s = [0u64; RING_WORDS];
     search_grow::behind(k, left, right, from, words, place, a, r, &mut s);
     let letter = (16 * a + r) as u64;
     let mut c = t;
@@ -87,18 +92,13 @@ pub fn try_letter(
     c.relation = r + 1;
     if k.ring {
         c.count = search_grow::note(cap, words, t.count, &s, place as u64, letter);
-        return c;
+        return quiet(c);
     }
     if s[0] == 0 {
-        return c;
+        return quiet(c);
     }
     if cap < t.count {
-        return c;
+        return quiet(c);
     }
-    c.put = true;
-    c.seek = t.count;
-    c.p = s[0];
-    c.s = s[1];
-    c.letter = letter;
-    c
+    search_course::offering(c, s[0], s[1], letter)
 }

@@ -3,8 +3,18 @@
 // bytes of the sheet in hex instead, or the refusal.
 use case_lines::Case;
 use case_lines::Cases;
+use layout::MOST_STANDINGS;
+use layout::RING_FIELD;
+use layout::RING_WORDS;
+use layout::VERDICT;
 use libc::STDOUT_FILENO;
 use search_outcomes::Outcome;
+
+// The words of the working memory at the largest allowance.
+const WORDS: usize = RING_WORDS * MOST_STANDINGS;
+
+// The bytes of the longest sheet.
+const BYTES: usize = VERDICT + RING_FIELD * MOST_STANDINGS;
 
 // Whether the line is the one behind which sheets are asked for.
 fn asks_sheets(text: &[u8], n: usize) -> bool {
@@ -25,31 +35,14 @@ fn write_line(r: Outcome, buffer: &[u8], out: &mut [u8]) {
     }
 }
 
-// Writes the first n bytes of the buffer in hex.
-fn write_hex(buffer: &[u8], n: usize) {
+// Writes bytes in hex, and the end of the line.
+fn write_hex(bytes: &[u8]) {
     let mut i = 0;
-    while i < n {
-        if buffer.len() <= i {
-            return;
-        }
-        io::print_hex(STDOUT_FILENO, wide(buffer[i]), 2);
+    while i < bytes.len() {
+        io::print_hex(STDOUT_FILENO, wide(bytes[i]), 2);
         i += 1;
     }
     io::write_all(STDOUT_FILENO, b"\n");
-}
-
-// How many bytes the sheet of a proof with n standings has: a field says its length, 16 bytes for a path and 266 for a ring.
-fn proved_length(buffer: &[u8], n: usize) -> usize {
-    if buffer.len() < 7 {
-        return 4;
-    }
-    if 4096 < n {
-        return 4;
-    }
-    if buffer[5] == 1 {
-        return 4 + 269 * n;
-    }
-    4 + 19 * n
 }
 
 // A byte as a number.
@@ -59,15 +52,11 @@ fn wide(b: u8) -> u64 {
 
 // Writes the sheet of an answer, or the line of a refusal.
 fn write_sheet(r: Outcome, buffer: &[u8], out: &mut [u8]) {
-    match r {
-        Outcome::Proved(n) => write_hex(buffer, proved_length(buffer, n)),
-        Outcome::Refuted(n) => {
-            if n <= 4096 {
-                write_hex(buffer, 8 + 2 * n);
-            }
-        }
-        Outcome::Refused(why, place) => write_line(Outcome::Refused(why, place), buffer, out),
+    if let Outcome::Refused(_, _) = r {
+        write_line(r, buffer, out);
+        return;
     }
+    write_hex(outcome_lines::sheet_of(r, buffer));
 }
 
 // Searches the query that stands behind the allowance in the first n bytes of the text, and writes its line or its sheet.
@@ -130,8 +119,8 @@ fn run(part: &mut [u8], text: &mut [u8], words: &mut [u64], buffer: &mut [u8], o
 fn main() {
     let mut part = [0u8; 65536];
     let mut text = [0u8; 4120];
-    let mut words = [0u64; 163840];
-    let mut buffer = [0u8; 1101828];
+    let mut words = [0u64; WORDS];
+    let mut buffer = [0u8; BYTES];
     let mut out = [0u8; 32768];
     run(&mut part, &mut text, &mut words, &mut buffer, &mut out);
 }

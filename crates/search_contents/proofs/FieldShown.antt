@@ -19,10 +19,10 @@ use Rattle.claims.specs.Width.{width, rowLength}
 use Rattle.claims.specs.SheetBytes.{setBytes, rowBytes, tableBytes, pathBytes, ringBytes}
 use Rattle.bits.proofs.Bit.{bit-ext}
 use Rattle.side_atoms.proofs.Atoms.{number-small, bit-of}
-use Rattle.search_words.specs.RingWords.{inM}
+use Rattle.search_standings.specs.RingWords.{inM}
 use Rattle.standings.proofs.OccurrenceWords.{occurrencesOf, word-bytes}
-use Rattle.search_words.proofs.RingShown.{ringShown, GoodRing}
-use Rattle.search_words.proofs.RingRows.{M-row-bit, M-row-small, N-row-zero, N-row-number}
+use Rattle.search_standings.proofs.RingShown.{ringShown, GoodRing}
+use Rattle.search_standings.proofs.RingRows.{M-row-bit, M-row-small, N-row-zero, N-row-number}
 use Rattle.search_contents.specs.FieldWords.{numberM, numberN, rowNumber, rowsFrom, rowsBytes, contentsWords, fieldWords}
 
 -- two words, of l left and r right occurrences ("Sheet and graph bytes")

@@ -12,8 +12,8 @@ use Rattle.kat.specs.Lists.{counted, upto}
 use Rattle.kat.proofs.Sets.{filter-same, upto-in}
 use Rattle.claims.specs.Query.{bit}
 use Rattle.claims.specs.Fields.{bigEndian, setNumber, field}
-use Rattle.search_words.specs.Systems.{width}
-use Rattle.search_words.specs.RingWords.{inM}
+use Rattle.search_standings.specs.Systems.{width}
+use Rattle.search_standings.specs.RingWords.{inM}
 use Rattle.search_contents.specs.FieldWords.{numberM, numberN, rowNumber, rowsFrom, rowsBytes, contentsWords, fieldWords}
 
 module _ (s : List ℕ) where

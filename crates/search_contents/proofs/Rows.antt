@@ -9,13 +9,13 @@ use mathlib.Core.List.{List}
 use lib.ListN.{getD}
 use borrow.Author.Tests.{eq-eqb, ne-eqb}
 use Rattle.claims.specs.Query.{bit}
-use Rattle.words.proofs.Words.{same-or-not}
+use Rattle.memory.proofs.Words.{same-or-not}
 use Rattle.bits.specs.Sets.{including}
 use Rattle.bits.proofs.Bit.{bit-none, bit-above}
 use Rattle.bits.proofs.Puts.{bit-put, bit-kept, put-small}
 use Rattle.side_atoms.proofs.Atoms.{number-ext}
-use Rattle.search_words.specs.RingWords.{inM}
-use Rattle.search_words.proofs.RingRows.{inM-none}
+use Rattle.search_standings.specs.RingWords.{inM}
+use Rattle.search_standings.proofs.RingRows.{inM-none}
 use Rattle.search_contents.specs.FieldWords.{numberM, numberN, rowNumber}
 
 -- the row has the bits of row p of M below q, and no other

@@ -18,16 +18,16 @@ use Rattle.kat.specs.Word.{end}
 use Rattle.kat.specs.Ring.{nothing}
 use Rattle.claims.specs.Standings.{Letter}
 use Rattle.claims.specs.Search.{Entry, Verdict, proved, refuted, spent, firstLevel, fresh, completed}
-use Rattle.search_words.specs.declared.Shape.{Shape}
+use Rattle.search_standings.specs.declared.Shape.{Shape}
 use Rattle.standings.specs.Steps.{aloneWords}
-use Rattle.search_words.specs.Systems.{wordSystem}
-use Rattle.search_words.specs.Over.{nextLevelOver, levelsOver, verdictOver}
-use Rattle.search_words.specs.First.{firstAlone}
-use Rattle.search_words.proofs.Over.{over-spent, over-refuted, over-proved, over-more}
-use Rattle.search_words.proofs.First.{first-some, first-none, picked-below, first-alone}
-use Rattle.search_places.specs.Store.{prefixAt}
+use Rattle.search_standings.specs.Systems.{wordSystem}
+use Rattle.search_standings.specs.Over.{nextLevelOver, levelsOver, verdictOver}
+use Rattle.search_standings.specs.First.{firstAlone}
+use Rattle.search_standings.proofs.Over.{over-spent, over-refuted, over-proved, over-more}
+use Rattle.search_standings.proofs.First.{first-some, first-none, picked-below, first-alone}
+use Rattle.search_store.specs.Store.{prefixAt}
 use Rattle.search_store.proofs.Held.{holds-none}
-use Rattle.search_course.specs.declared.Answer.the-variants.{Proved, Refuted}
+use Rattle.search_course.specs.declared.Finding.the-variants.{Proved, Refuted}
 use Rattle.search_grow.specs.Kept.{State, state, Seen, standings, Keeps, Kept, grow, candidatesOf, NotedBehind, NotedFrom}
 use Rattle.search_course.specs.Answers.{wordAt, Running, Answered}
 use Rattle.search_grow.proofs.Candidates.{first-candidates, next-candidates}

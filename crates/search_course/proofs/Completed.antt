@@ -17,14 +17,14 @@ use Rattle.kat.proofs.Bools.{true-not-false, and-left, lt-or-le}
 use Rattle.claims.specs.Search.{Entry, completed}
 use Rattle.claims.specs.Query.{bit}
 use Rattle.bits.proofs.Bit.{bit-above}
-use Rattle.search_words.specs.declared.Shape.{Shape}
-use Rattle.search_words.specs.Systems.{finalsWords, wordSystem}
-use Rattle.search_words.specs.PathWords.{pathFinals, pathEnds}
-use Rattle.search_words.specs.RingWords.{ringFinals, ringCovered}
+use Rattle.search_standings.specs.declared.Shape.{Shape}
+use Rattle.search_standings.specs.Systems.{finalsWords, wordSystem}
+use Rattle.search_standings.specs.PathWords.{pathFinals, pathEnds}
+use Rattle.search_standings.specs.RingWords.{ringFinals, ringCovered}
 use Rattle.standings.specs.Steps.{endsSet}
-use Rattle.search_words.specs.First.{firstOr}
-use Rattle.search_words.proofs.First.{first-some, first-none, picked-below}
-use Rattle.search_places.specs.Store.{standingAt, prefixAt}
+use Rattle.search_standings.specs.First.{firstOr}
+use Rattle.search_standings.proofs.First.{first-some, first-none, picked-below}
+use Rattle.search_store.specs.Store.{standingAt, prefixAt}
 use Rattle.search_grow.specs.Kept.{State, Seen, prefixes, Keeps}
 use Rattle.search_course.specs.Answers.{wordAt}
 

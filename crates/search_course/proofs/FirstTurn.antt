@@ -1,17 +1,16 @@
 -- The first turn: a single atom refutes, or the letters behind the empty prefix come.
 -- Assumes nothing.
-use Prim.Native.Nat.{ℕ, suc, _+_, _≤_, _<_, _^_}
+use Prim.Native.Nat.{ℕ, suc, _≤_, _<_, _^_}
 use native.Mathlib.Omega.{arith}
 use mathlib.Core.Path.{_≡_, refl, sym, _∙_, ap, subst}
-use mathlib.Core.Bool.{false}
 use mathlib.Core.List.{List}
-use Rattle.search_words.specs.declared.Shape.{Shape}
-use Rattle.search_words.specs.First.{firstAlone}
+use Rattle.search_standings.specs.declared.Shape.{Shape}
+use Rattle.search_standings.specs.First.{firstAlone}
 use Rattle.search_grow.specs.Masks.{lettersIn}
 use Rattle.search_grow.specs.Kept.{state, Ready, NotedBehind}
 use Rattle.search_grow.proofs.Letters.{letters-start}
 use Rattle.search_course.specs.declared.Course.{Course}
-use Rattle.search_course.specs.Turns.{answerOf, firstOnes, laterOnes, At}
+use Rattle.search_course.specs.Turns.{findingOf, firstOnes, laterOnes, At}
 use Rattle.search_course.proofs.Advance.{alone-refuted, first-running}
 use Rattle.search_course.proofs.Phases.{at-begins, at-answered}
 
@@ -27,11 +26,6 @@ firstTurn phase live a =
       rest = live;
       relation = 0;
       count = 0;
-      put = false;
-      seek = 0;
-      p = 0;
-      s = 0;
-      letter = 0;
       last = a;
     }
 
@@ -41,7 +35,7 @@ module _ (k : Shape) (left right first later : List ℕ) (cap : ℕ) (r : List (
   lowest = e ∙ ap (firstAlone left right) same
 
   pub atom-refutes : a < 64 → At k left right first later cap (firstTurn 4 live a) r w
-  unfolding answerOf
+  unfolding findingOf
   atom-refutes h =
       at-answered k left right first later cap (firstTurn 4 live a) r w ready (omega arith)
       (alone-refuted k left right (firstOnes k left right first later cap) (laterOnes k left right first later cap) (suc (suc cap)) cap r w a lowest h)

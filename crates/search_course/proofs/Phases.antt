@@ -1,22 +1,20 @@
 -- From turn to turn between the phases: what holds before each turn, by its phase; the level that begins where the last one ends; the next
 -- standing of a level; and the number that falls.
 -- Assumes nothing.
-use Prim.Native.Nat.{ℕ, zero, suc, _+_, _*_, _-_, _≤_, _<_, _^_}
+use Prim.Native.Nat.{ℕ, suc, _+_, _*_, _-_, _≤_, _<_, _^_}
 use native.Mathlib.Omega.{arith}
 use mathlib.Core.Path.{_≡_, refl, sym, _∙_, ap, subst}
 use mathlib.Core.Logic.{⊎-elim}
-use mathlib.Core.Bool.{true, false, cond}
 use mathlib.Core.List.{List, []}
-use lib.Dec.{eqb}
 use borrow.Author.Tests.{ne-eqb}
-use Rattle.search_words.specs.declared.Shape.{Shape}
+use Rattle.search_standings.specs.declared.Shape.{Shape}
 use Rattle.search_grow.specs.Masks.{lettersLeft, letterWeight}
-use Rattle.search_grow.specs.Kept.{State, state, Ready, NotedBehind, NotedFrom}
+use Rattle.search_grow.specs.Kept.{State, state, Ready, NotedBehind}
 use Rattle.search_grow.proofs.Letters.{letters-start, weight-small}
 use Rattle.search_grow.proofs.Turns.{behind-end, places-turn, places-end}
 use Rattle.search_course.specs.declared.Course.{Course}
 use Rattle.search_course.specs.Answers.{Answered}
-use Rattle.search_course.specs.Turns.{answerOf, turnWeight, levelWeight, Tries, masksNow, firstOnes, laterOnes, RunsOn, Beginning, Completing, Growing, At}
+use Rattle.search_course.specs.Turns.{findingOf, turnWeight, levelWeight, Tries, masksNow, firstOnes, laterOnes, RunsOn, Beginning, Completing, Growing, At}
 use Rattle.search_course.proofs.Advance.{running-spent, running-proved}
 
 -- the number that falls, by the phase
@@ -105,7 +103,7 @@ module _ (k : Shape) (left right first later : List ℕ) (cap : ℕ) where
         }
 
     pub at-answered : 3 ≤ t .phase
-        → Answered k left right (firstOnes k left right first later cap) (laterOnes k left right first later cap) (suc (suc cap)) cap r w (answerOf t)
+        → Answered k left right (firstOnes k left right first later cap) (laterOnes k left right first later cap) (suc (suc cap)) cap r w (findingOf t)
         → At k left right first later cap t r w
     at-answered e b =
         record {
@@ -140,14 +138,9 @@ module _ (k : Shape) (left right first later : List ℕ) (cap : ℕ) where
             rest = t .rest;
             relation = t .relation;
             count = t .count;
-            put = t .put;
-            seek = t .seek;
-            p = t .p;
-            s = t .s;
-            letter = t .letter;
             last = t .last;
           }) r w
-      unfolding answerOf
+      unfolding findingOf
       level-spent h =
           at-answered _ r w ready (omega arith)
           (running-spent k left right (firstOnes k left right first later cap) (laterOnes k left right first later cap) (suc (suc cap)) cap s (t .hi) on low h
@@ -164,14 +157,9 @@ module _ (k : Shape) (left right first later : List ℕ) (cap : ℕ) where
             rest = t .rest;
             relation = t .relation;
             count = t .count;
-            put = t .put;
-            seek = t .seek;
-            p = t .p;
-            s = t .s;
-            letter = t .letter;
             last = t .last;
           }) r w
-      unfolding answerOf
+      unfolding findingOf
       level-proved h e =
           at-answered _ r w ready (omega arith)
           (running-proved k left right (firstOnes k left right first later cap) (laterOnes k left right first later cap) (suc (suc cap)) cap s (t .hi) on low h e)
@@ -187,11 +175,6 @@ module _ (k : Shape) (left right first later : List ℕ) (cap : ℕ) where
             rest = t .rest;
             relation = t .relation;
             count = t .count;
-            put = t .put;
-            seek = t .seek;
-            p = t .p;
-            s = t .s;
-            letter = t .letter;
             last = t .last;
           }) r w
       level-completes h z =
@@ -218,11 +201,6 @@ module _ (k : Shape) (left right first later : List ℕ) (cap : ℕ) where
           rest = atoms;
           relation = 0;
           count = t .count;
-          put = t .put;
-          seek = t .seek;
-          p = t .p;
-          s = t .s;
-          letter = t .letter;
           last = t .last;
         }
 

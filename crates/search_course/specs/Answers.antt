@@ -8,12 +8,12 @@ use Rattle.kat.specs.Word.{Word, end}
 use Rattle.kat.specs.Ring.{onto}
 use Rattle.claims.specs.Standings.{Letter}
 use Rattle.claims.specs.Search.{proved, refuted, spent}
-use Rattle.search_words.specs.declared.Shape.{Shape}
-use Rattle.search_words.specs.Systems.{wordSystem}
-use Rattle.search_words.specs.Over.{levelsOver, verdictOver}
-use Rattle.search_places.specs.Store.{prefixAt}
-use Rattle.search_course.specs.declared.Answer.{Answer}
-use Rattle.search_course.specs.declared.Answer.the-variants.{Proved, Refuted, Spent}
+use Rattle.search_standings.specs.declared.Shape.{Shape}
+use Rattle.search_standings.specs.Systems.{wordSystem}
+use Rattle.search_standings.specs.Over.{levelsOver, verdictOver}
+use Rattle.search_store.specs.Store.{prefixAt}
+use Rattle.search_course.specs.declared.Finding.{Finding}
+use Rattle.search_course.specs.declared.Finding.the-variants.{Proved, Refuted, Spent}
 use Rattle.search_grow.specs.Kept.{State, state, Seen, standings, prefixes, Keeps, Kept}
 
 module _ (k : Shape) (left right : List ℕ) where
@@ -31,7 +31,7 @@ module _ (k : Shape) (left right : List ℕ) where
         levelsOver (wordSystem k left right) ms left-over cap seen (drop lo seen) ≡ verdictOver (wordSystem k left right) ls ms fuel cap
 
   -- the answer is the verdict over the letters ls and ms; where it names standings, the memory keeps them ("Standings")
-  abbrev pub Answered : List Letter → List Letter → ℕ → ℕ → List (List ℕ) → List ℕ → Answer → Type 0
+  abbrev pub Answered : List Letter → List Letter → ℕ → ℕ → List (List ℕ) → List ℕ → Finding → Type 0
   Answered ls ms fuel cap r w (Proved n) =
       (seen : Seen k left right) × (verdictOver (wordSystem k left right) ls ms fuel cap ≡ proved (standings k left right seen))
       × Keeps k left right (state r w n) seen × (n ≤ cap)

@@ -9,8 +9,8 @@ use lib.ListN.{getD, take}
 use lib.Seq.{getD-take}
 use Rattle.claims.specs.Query.{bit}
 use Rattle.standings.specs.Steps.{endsSet}
-use Rattle.search_words.specs.First.{firstOr}
-use Rattle.search_words.specs.RingWords.{ringCovered, ringFinals}
+use Rattle.search_standings.specs.First.{firstOr}
+use Rattle.search_standings.specs.RingWords.{ringCovered, ringFinals}
 
 first-of : (b : Bool) (a : ℕ) → firstOr 64 (cond b (a ∷ []) []) ≡ cond b a 64
 first-of true a = refl

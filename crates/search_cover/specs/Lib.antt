@@ -1,0 +1,2 @@
+-- Promises between the functions of this crate.
+pub mod inner

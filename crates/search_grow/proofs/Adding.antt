@@ -10,9 +10,9 @@ use mathlib.Core.Bool.{Bool}
 use mathlib.Core.List.{List, [], _++_, append-assoc}
 use lib.ListN.{length, length-append}
 use Rattle.claims.specs.Search.{fresh}
-use Rattle.search_words.specs.declared.Shape.{Shape}
-use Rattle.search_words.specs.Systems.{wordSystem}
-use Rattle.search_places.specs.Store.{Room}
+use Rattle.search_standings.specs.declared.Shape.{Shape}
+use Rattle.search_standings.specs.Systems.{wordSystem}
+use Rattle.search_store.specs.Store.{Room}
 use Rattle.search_grow.specs.Kept.{State, state, Inside, Ready, Seen, Keeps, Kept, grow, Adds}
 use Rattle.search_grow.proofs.Grow.{grow-none, grow-append}
 

@@ -17,10 +17,10 @@ use Rattle.claims.specs.Search.{Entry, firstLevel, lengthened}
 use Rattle.bits.specs.Sets.{members}
 use Rattle.bits.proofs.Members.{number-none}
 use Rattle.bits.proofs.Lowest.{Lowest}
-use Rattle.search_words.specs.declared.Shape.{Shape}
-use Rattle.search_words.specs.Systems.{onwardWords, wordSystem}
-use Rattle.search_words.specs.Over.{nextLevelOver}
-use Rattle.search_places.specs.Store.{prefixAt}
+use Rattle.search_standings.specs.declared.Shape.{Shape}
+use Rattle.search_standings.specs.Systems.{onwardWords, wordSystem}
+use Rattle.search_standings.specs.Over.{nextLevelOver}
+use Rattle.search_store.specs.Store.{prefixAt}
 use Rattle.search_grow.specs.Masks.{tried}
 use Rattle.search_grow.specs.Kept.{Seen, standings, prefixes, wordsBehind, candidate, candidates, candidatesOf}
 

@@ -1,17 +1,16 @@
 -- The letters that are left to try, from a letter on: one that is not tried is passed over, one that is tried stands first, and where an atom has
 -- no relation left, the next atom comes.
 -- Assumes nothing.
-use Prim.Native.Nat.{ℕ, zero, suc, _+_, _*_, _-_, _≤_, _<_, _^_}
+use Prim.Native.Nat.{ℕ, zero, suc, _+_, _-_, _≤_, _<_, _^_}
 use native.Mathlib.Omega.{arith}
 use mathlib.Core.Path.{_≡_, refl, sym, _∙_, ap}
-use mathlib.Core.Bool.{true, false, cond}
+use mathlib.Core.Bool.{false, cond}
 use mathlib.Core.List.{List, [], _∷_, _++_}
 use lib.Bits.{bitAnd}
 use lib.Count.{ones, trailingZeros, ones-le}
 use borrow.Author.Tests.{eq-eqb, ne-eqb}
 use Rattle.kat.specs.Lists.{upto, filter}
-use Rattle.claims.specs.Standings.{Letter, lettersAt, lettersOf}
-use Rattle.bits.specs.Sets.{members}
+use Rattle.claims.specs.Standings.{lettersAt}
 use Rattle.bits.proofs.Lowest.{Lowest, lowest}
 use Rattle.search_grow.specs.Masks.{tried, lettersIn, TriedAt, relationsLeft, lettersLeft, letterWeight}
 use Rattle.search_grow.proofs.Candidates.{letterOf, is-tried, not-tried, rest-more, rest-none, atoms-more, atoms-none}

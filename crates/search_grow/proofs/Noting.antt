@@ -17,10 +17,10 @@ use Rattle.kat.proofs.Bools.{and-both, true-not-false}
 use Rattle.claims.specs.Bytes.{same}
 use Rattle.claims.specs.Search.{Entry, seenIn, fresh}
 use Rattle.bits.proofs.Lists.{some-map}
-use Rattle.search_words.specs.declared.Shape.{Shape}
-use Rattle.words.specs.Memory.{words}
-use Rattle.search_words.specs.Systems.{width, wordSystem}
-use Rattle.search_places.specs.Store.{fieldAt, standingAt, standingIn, Room, Place, recordsAfter, wordsAfter, prefixAt, Holds}
+use Rattle.search_standings.specs.declared.Shape.{Shape}
+use Rattle.memory.specs.Memory.{words}
+use Rattle.search_standings.specs.Systems.{width, wordSystem}
+use Rattle.search_store.specs.Store.{fieldAt, standingAt, standingIn, Room, Place, recordsAfter, wordsAfter, prefixAt, Holds}
 use Rattle.search_store.proofs.Appended.{records-length, words-length, records-past, words-past, other-records, other-words}
 use Rattle.search_store.proofs.Held.{holds-more, prefix-stays, found-kept, none-kept}
 use Rattle.search_grow.specs.Kept.{State, state, Inside, Seen, standings, prefixes, Keeps, Kept, grow, entryOf, Adds}

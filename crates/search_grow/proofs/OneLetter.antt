@@ -9,11 +9,11 @@ use lib.ListN.{length, getD, take, length-take, length-append, length-map, List�
 use Rattle.kat.specs.Ring.{Prefix, then}
 use Rattle.claims.specs.Standings.{Letter}
 use Rattle.claims.specs.Search.{Entry}
-use Rattle.search_words.specs.declared.Shape.{Shape}
-use Rattle.search_words.specs.Systems.{width, beginWords, onwardWords, wordSystem}
+use Rattle.search_standings.specs.declared.Shape.{Shape}
+use Rattle.search_standings.specs.Systems.{width, beginWords, onwardWords, wordSystem}
 use Rattle.search_kinds.proofs.ByKind.{begin-length, onward-length}
-use Rattle.search_places.specs.Store.{standingAt, standingIn, prefixAt}
-use Rattle.search_places.proofs.Standing.{first-words}
+use Rattle.search_store.specs.Store.{standingAt, standingIn, prefixAt}
+use Rattle.search_store.proofs.Standing.{first-words}
 use Rattle.search_grow.specs.Kept.{State, Inside, Seen, standings, prefixes, Keeps, Kept, grow, entryOf, wordsBehind, wordsAt, candidate, Adds}
 use Rattle.search_grow.proofs.Adding.{adds-from}
 

@@ -7,7 +7,7 @@ use mathlib.Core.Path.{_≡_, sym, _∙_, ap, subst}
 use mathlib.Core.List.{List, [], _++_, map-append}
 use Rattle.kat.specs.Lists.{upto}
 use Rattle.claims.specs.Standings.{Letter}
-use Rattle.search_words.specs.declared.Shape.{Shape}
+use Rattle.search_standings.specs.declared.Shape.{Shape}
 use Rattle.search_grow.specs.Kept.{State, candidate, candidates, candidatesOf, Adds, NotedBehind, NotedFrom}
 use Rattle.search_grow.proofs.Adding.{adds-none, adds-join}
 use Rattle.search_grow.proofs.Candidates.{places-more, places-none}

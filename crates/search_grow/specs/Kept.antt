@@ -12,9 +12,10 @@ use Rattle.kat.specs.Lists.{upto}
 use Rattle.kat.specs.Ring.{Prefix, then}
 use Rattle.claims.specs.Standings.{Letter}
 use Rattle.claims.specs.Search.{Entry, fresh}
-use Rattle.search_words.specs.declared.Shape.{Shape}
-use Rattle.search_words.specs.Systems.{beginWords, onwardWords, wordSystem}
-use Rattle.search_places.specs.Store.{standingAt, Room, prefixAt, Holds}
+use Rattle.search_standings.specs.declared.Shape.{Shape}
+use Rattle.search_standings.specs.Systems.{beginWords, onwardWords, wordSystem}
+use Rattle.search_store.specs.Store.{standingAt, Room, prefixAt, Holds}
+use Rattle.layout.specs.Layout.{RING-WORDS, MOST-STANDINGS}
 
 -- the two memories, and how many standings were counted
 pub record State : Type 0 where
@@ -32,7 +33,7 @@ pub record Inside (ring : Bool) (cap : ℕ) (s t : State) : Type 0 where
   pub records-length : length (t .records) ≡ length (s .records)
   pub words-length : length (t .words) ≡ length (s .words)
   pub records-past : drop cap (t .records) ≡ drop cap (s .records)
-  pub words-past : drop (40 * cap) (t .words) ≡ drop (40 * cap) (s .words)
+  pub words-past : drop (RING-WORDS * cap) (t .words) ≡ drop (RING-WORDS * cap) (s .words)
   pub other-records : ring ≡ true → t .records ≡ s .records
   pub other-words : ring ≡ false → t .words ≡ s .words
   pub low : s .count ≤ t .count
@@ -40,7 +41,7 @@ pub record Inside (ring : Bool) (cap : ℕ) (s t : State) : Type 0 where
 
 -- there is room for the allowance, and the count is at most one more
 pub record Ready (ring : Bool) (cap : ℕ) (s : State) : Type 0 where
-  pub allowance : cap ≤ 4096
+  pub allowance : cap ≤ MOST-STANDINGS
   pub room : Room ring (s .records) (s .words) cap
   pub counted : s .count ≤ cap + 1
 

@@ -1,18 +1,22 @@
 // The letters that are tried behind a place, one behind the other, and their candidates. (Document 01, "Standings".) Fresh standings are kept in
 // the order of their least prefix. Place 0 is the empty prefix, place i + 1 is standing i. The standing past the allowance is counted and
 // not kept. What is required of the room is what the search call has tested (refusal 9), and of the relations what the reader lets through.
+use layout::RING_WORDS;
 use search_records::Record;
-use search_words::Shape;
+use search_standings::Shape;
+use search_standings::Standing;
+use side_tables::Table;
 ghost use Prim.Native.Nat.{ℕ, _+_, _*_, _-_, _≤_, _<_};
 ghost use mathlib.Core.Path.{_≡_};
 ghost use mathlib.Core.Bool.{true};
 ghost use mathlib.Core.List.{List};
 ghost use lib.ListN.{length, take};
 ghost use lib.Count.{trailingZeros};
-ghost use Rattle.search_words.specs.declared.Shape.{Shape};
-ghost use Rattle.search_words.specs.Systems.{width};
+ghost use Rattle.search_standings.specs.declared.Shape.{Shape};
+ghost use Rattle.search_standings.specs.Systems.{width};
 ghost use Rattle.search_records.specs.Rows.{recordAt};
-ghost use Rattle.search_places.specs.Store.{standingIn};
+ghost use Rattle.search_store.specs.Store.{standingIn};
+ghost use Rattle.layout.specs.Layout.{RING-WORDS, MOST-STANDINGS};
 ghost use Rattle.search_grow.specs.Masks.{lettersLeft, relationsLeft, TriedAt, letterWeight};
 ghost use Rattle.search_grow.specs.Kept.{state, Inside, wordsAt, Noted};
 
@@ -71,16 +75,16 @@ pub fn seek(masks: &[u64; 16], relations: usize, rest: u64, relation: usize) -> 
 // The words of the standing one letter behind a place, of which a path claim has the record.
 pub fn behind(
     k: Shape,
-    left: &[u64; 4241],
-    right: &[u64; 4241],
+    left: &Table,
+    right: &Table,
     from: Record,
     words: &[u64],
     place: usize,
     a: usize,
     r: usize,
-    to: &mut [u64; 40],
+    to: &mut Standing,
 )
-    requires { ⌜ (k .ring ≡ true → 40 * place ≤ length (now words)) ⌝ }
+    requires { ⌜ (k .ring ≡ true → RING-WORDS * place ≤ length (now words)) ⌝ }
     ensures { λ x.
         ⌜ ((rows : List (List ℕ)) → from ≡ recordAt rows (place - 1)
         → take (width (k .ring)) (now (to .exit))
@@ -90,8 +94,8 @@ pub fn behind(
         search_kinds::begin(k, left, right, a, r, to);
         return;
     }
-    let mut s = [0u64; 40];
-    search_places::stand(k.ring, from, words, place - 1, &mut s);
+    let mut s = [0u64; RING_WORDS];
+    search_store::stand(k.ring, from, words, place - 1, &mut s);
     search_kinds::onward(k, left, right, &s, a, r, to);
 }
 
@@ -101,11 +105,11 @@ pub fn note(
     cap: usize,
     words: &mut [u64],
     n: usize,
-    s: &[u64; 40],
+    s: &Standing,
     parent: u64,
     letter: u64,
 ) -> usize
-    requires { ⌜ (cap ≤ 4096) × (40 * cap ≤ length (now words)) × (n ≤ cap + 1) ⌝ }
+    requires { ⌜ (cap ≤ MOST-STANDINGS) × (RING-WORDS * cap ≤ length (now words)) × (n ≤ cap + 1) ⌝ }
     ensures inside { λ m.
         ⌜ ((rows : List (List ℕ)) → Inside true cap (state rows (now (words .entry)) n) (state rows (now (words .exit)) m)) ⌝ }
     ensures noted { λ m.

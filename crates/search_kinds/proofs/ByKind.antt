@@ -6,12 +6,12 @@ use mathlib.Core.Bool.{Bool, true, false}
 use mathlib.Core.List.{List}
 use lib.ListN.{length, take}
 use Rattle.claims.specs.Standings.{Letter}
-use Rattle.search_words.specs.declared.Shape.{Shape}
-use Rattle.search_words.specs.Systems.{width, beginWords, onwardWords, finalsWords}
-use Rattle.search_words.specs.PathWords.{pathBegin, pathOnward, pathFinals}
-use Rattle.search_words.specs.RingWords.{ringBegin, ringOnward, ringFinals}
-use Rattle.search_words.specs.First.{firstOr}
-use Rattle.search_words.proofs.RingLayout.{ring-length}
+use Rattle.search_standings.specs.declared.Shape.{Shape}
+use Rattle.search_standings.specs.Systems.{width, beginWords, onwardWords, finalsWords}
+use Rattle.search_standings.specs.PathWords.{pathBegin, pathOnward, pathFinals}
+use Rattle.search_standings.specs.RingWords.{ringBegin, ringOnward, ringFinals}
+use Rattle.search_standings.specs.First.{firstOr}
+use Rattle.search_standings.proofs.RingLayout.{ring-length}
 
 module _ (k : Shape) (left right : List ℕ) where
   pub begin-path : k .ring ≡ false → (to : List ℕ) (l : Letter) → take 2 to ≡ pathBegin left right l

@@ -1,20 +1,15 @@
-// Standings by the kind of the claim, path or ring. (Document 01, "Standings".) Of the 40 words of a standing on its way the first 2, or
-// 34, count.
-use search_words::Shape;
+// Standings by the kind of the claim, path or ring. (Document 01, "Standings".) Of the words of a standing on its way those count that tell it
+// from another: the first two of a path claim, and the first TOLD of a ring claim.
+use search_standings::Shape;
+use search_standings::Standing;
+use side_tables::Table;
 ghost use mathlib.Core.Path.{_≡_};
 ghost use lib.ListN.{take};
-ghost use Rattle.search_words.specs.Systems.{width, beginWords, onwardWords, finalsWords};
-ghost use Rattle.search_words.specs.First.{firstOr};
+ghost use Rattle.search_standings.specs.Systems.{width, beginWords, onwardWords, finalsWords};
+ghost use Rattle.search_standings.specs.First.{firstOr};
 
 // The standing of a prefix of one relation.
-pub fn begin(
-    k: Shape,
-    left: &[u64; 4241],
-    right: &[u64; 4241],
-    a: usize,
-    r: usize,
-    to: &mut [u64; 40],
-)
+pub fn begin(k: Shape, left: &Table, right: &Table, a: usize, r: usize, to: &mut Standing)
     ensures { λ x.
         ⌜ take (width (k .ring)) (now (to .exit)) ≡ beginWords k (now (left .entry)) (now (right .entry)) (record { atom = a; relation = r }) ⌝ }
 {
@@ -29,12 +24,12 @@ pub fn begin(
 // The standing of a prefix one relation longer.
 pub fn onward(
     k: Shape,
-    left: &[u64; 4241],
-    right: &[u64; 4241],
-    from: &[u64; 40],
+    left: &Table,
+    right: &Table,
+    from: &Standing,
     a: usize,
     r: usize,
-    to: &mut [u64; 40],
+    to: &mut Standing,
 )
     ensures { λ x.
         ⌜ take (width (k .ring)) (now (to .exit))
@@ -48,7 +43,7 @@ pub fn onward(
 }
 
 // The lowest atom with which the standing completes a refuting word, or 64.
-pub fn first_final(k: Shape, left: &[u64; 4241], right: &[u64; 4241], s: &[u64; 40]) -> usize
+pub fn first_final(k: Shape, left: &Table, right: &Table, s: &Standing) -> usize
     ensures { λ a. ⌜ a ≡ firstOr 64 (finalsWords k (now (left .entry)) (now (right .entry)) (take (width (k .ring)) (now (s .entry)))) ⌝ }
 {
     let n = k.right;

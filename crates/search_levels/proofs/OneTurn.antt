@@ -1,41 +1,32 @@
 -- One turn whole: a step, and what becomes of the candidate that it offers. A record that is found is kept already; a new one is put behind the last,
--- or counted where the allowance is full. And the first turn.
+-- or counted where the allowance is full.
 -- Assumes nothing.
 use Prim.Native.Nat.{ℕ, _+_, _-_, _≤_, _<_}
 use native.Mathlib.Omega.{arith}
-use mathlib.Core.Path.{_≡_, refl, sym, _∙_, ap, subst}
+use mathlib.Core.Path.{_≡_, refl, sym, _∙_, ap, subst, subst⁻¹}
 use mathlib.Core.Logic.{⊎-elim}
-use mathlib.Core.Logic._⊎_.{inl, inr}
 use mathlib.Core.Bool.{Bool, true, false, cond}
 use mathlib.Core.List.{List, [], _∷_}
-use lib.Dec.{ltb}
 use lib.ListN.{length, getD, set, take}
 use borrow.Author.Tests.{lt-ltb, le-ltb}
-use Rattle.kat.proofs.Bools.{true-not-false, lt-or-le}
+use Rattle.kat.proofs.Bools.{lt-or-le}
 use Rattle.claims.specs.Standings.{Letter}
-use Rattle.search_words.specs.declared.Shape.{Shape}
-use Rattle.search_words.specs.Systems.{width}
+use Rattle.search_standings.specs.declared.Shape.{Shape}
+use Rattle.search_standings.specs.Systems.{width}
 use Rattle.search_records.specs.Rows.{rowOf, recordAt, FoundIn}
-use Rattle.search_places.specs.Store.{standingAt, standingIn, Place, recordsAfter, wordsAfter}
-use Rattle.search_places.proofs.Standing.{path-equal, path-first, path-second, records-path, words-path}
-use Rattle.search_grow.specs.Kept.{State, state, Inside, Ready, wordsAt, Noted, NotedBehind}
+use Rattle.search_store.specs.Store.{standingAt, standingIn, Place, recordsAfter, wordsAfter}
+use Rattle.search_store.proofs.Standing.{path-equal, path-first, path-second, records-path, words-path}
+use Rattle.search_grow.specs.Kept.{State, state, Inside, wordsAt, Noted}
 use Rattle.search_grow.proofs.Adding.{inside-none, inside-count, still-ready, room-less}
 use Rattle.search_grow.proofs.Noting.{inside-appended, note-found, note-over, note-kept}
 use Rattle.search_course.specs.declared.Course.{Course}
-use Rattle.search_course.specs.Turns.{answerOf, turnWeight, advanced, masksNow, Tries, Tryable, Small, Settles, recordOf, Beginning, Completing, Growing, At, Offers, Stepped}
+use Rattle.search_course.specs.declared.Move.{Move}
+use Rattle.search_course.specs.Turns.{turnWeight, advanced, offers, Tries, Tryable, Small, Puts, Settles, recordOf, At, Offers, Stepped}
 use Rattle.search_candidates.proofs.OneCandidate.{letter-noted, noted-letter, two-words-in}
-
--- nothing is offered
-abbrev pub quieted : Course → Course
-quieted t = advanced t (t .rest) (t .relation) (t .count) false 0 (t .p) (t .s) (t .letter)
-
-pub weight-quieted : (t : Course) → turnWeight (quieted t) ≡ turnWeight t
-unfolding turnWeight
-weight-quieted t = refl
 
 -- a letter may be tried
 pub small-tryable : (ring : Bool) (relations cap words : ℕ) (t : Course) → Small ring relations cap words t → Tries t
-    → Tryable ring relations cap words (quieted t)
+    → Tryable ring relations cap words t
 small-tryable ring relations cap words t s tries =
     ⊎-elim
     (λ e.
@@ -49,7 +40,6 @@ small-tryable ring relations cap words t s tries =
       place = omega (arith, b .0);
       at = omega (arith, b .1);
       hi = omega (arith, b .2);
-      quiet = (refl, refl);
     })
     (λ e.
     let b = s .grows e in
@@ -62,7 +52,6 @@ small-tryable ring relations cap words t s tries =
       place = omega (arith, b .0, b .1, b .2);
       at = omega (arith, s .allowance, b .1, b .2);
       hi = omega (arith, s .allowance, b .2);
-      quiet = (refl, refl);
     }) tries
 
 -- the standing looked at stands before its place
@@ -105,82 +94,20 @@ module _ (k : Shape) (left right first later : List ℕ) (cap : ℕ) (t : Course
         grows = λ e. let b = a .grows e in (b .place, b .inside, b .within, b .relation);
       }
 
-  pub at-quieted : At k left right first later cap (quieted t) r w
-  unfolding answerOf
-  at-quieted =
-      record {
-        ready = a .ready;
-        begins =
-            λ e.
-            let b = a .begins e in record { place = b .place; at = b .at; hi = b .hi; relation = b .relation; on = b .on };
-        completes =
-            λ e.
-            let b = a .completes e in
-            record {
-              place = b .place;
-              low = b .low;
-              inside = b .inside;
-              ends = b .ends;
-              within = b .within;
-              running = b .running;
-              passed = b .passed;
-            };
-        grows =
-            λ e.
-            let b = a .grows e in
-            record {
-              place = b .place;
-              low = b .low;
-              inside = b .inside;
-              within = b .within;
-              below = b .below;
-              relation = b .relation;
-              on = b .on;
-            };
-        answered = a .answered;
-      }
-
-  pub stepped-quieted : (c : Course) (w′ : List ℕ) → Stepped k left right first later cap (quieted t) c r w w′
-      → Stepped k left right first later cap t c r w w′
-  unfolding masksNow
-  stepped-quieted c w′ f =
-      ⊎-elim (λ x. inl x)
-      (λ x.
-      let (l, o) = x .2 in
-      inr (
-        x .0,
-        x .1,
-        (
-          l,
-          record {
-            path = o .path;
-            tries = o .tries;
-            same = o .same;
-            within = o .within;
-            possible = o .possible;
-            relation-small = o .relation-small;
-            letter = o .letter;
-            words = o .words;
-            relation = o .relation;
-            rest = o .rest;
-          },
-        ),
-      )) f
-
   -- the candidate is looked up among records that are there, and the count stays small
-  pub seek-inside : (c : Course) (w′ : List ℕ) → Stepped k left right first later cap t c r w w′ → c .seek ≤ length r
-  seek-inside c w′ f =
+  pub seek-inside : (m : Move) (w′ : List ℕ) → Stepped k left right first later cap t m r w w′ → m .offer .seek ≤ length r
+  seek-inside m w′ f =
       ⊎-elim (λ x. omega (arith, x .1))
       (λ x.
       let (l, o) = x .2 in
-      omega (arith, ap (λ z. z .seek) (o .same), o .within, a .ready .room .path (o .path))) f
+      omega (arith, ap (λ z. z .offer .seek) (o .same), o .within, a .ready .room .path (o .path))) f
 
-  pub count-small : (c : Course) (w′ : List ℕ) → Stepped k left right first later cap t c r w w′ → c .count ≤ 4097
-  count-small c w′ f =
+  pub count-small : (m : Move) (w′ : List ℕ) → Stepped k left right first later cap t m r w w′ → m .course .count ≤ 4097
+  count-small m w′ f =
       ⊎-elim (λ x. omega (arith, x .2 .high, a .ready .allowance))
       (λ x.
       let (l, o) = x .2 in
-      omega (arith, ap (λ z. z .count) (o .same), o .within, a .ready .allowance)) f
+      omega (arith, ap (λ z. z .course .count) (o .same), o .within, a .ready .allowance)) f
 
   -- what a turn leaves
   abbrev Turned : Course → List (List ℕ) → List ℕ → Type 0
@@ -188,10 +115,10 @@ module _ (k : Shape) (left right first later : List ℕ) (cap : ℕ) (t : Course
 
   -- a candidate that is offered
   module _ (rest relation p v letter : ℕ) (l : Letter)
-      (o : Offers k left right first later cap t (advanced t rest relation (t .count) true (t .count) p v letter) r w l) (found : ℕ)
+      (o : Offers k left right first later cap t (offers (advanced t rest relation (t .count)) (t .count) p v letter) r w l) (found : ℕ)
       (f : FoundIn r (t .count) p v found) where
-    abbrev c : Course
-    c = advanced t rest relation (t .count) true (t .count) p v letter
+    abbrev c : Move
+    c = offers (advanced t rest relation (t .count)) (t .count) p v letter
 
     place : Place (standingAt (k .ring) r w) (t .count) (standingIn (k .ring) (p ∷ v ∷ [])) found
     place = found-place (k .ring) (o .path) r w (t .count) p v found f
@@ -200,12 +127,12 @@ module _ (k : Shape) (left right first later : List ℕ) (cap : ℕ) (t : Course
     in-words = two-taken (k .ring) p v (o .path) ∙ o .words
 
     -- noted so, it leads on
-    leads-on : (n : ℕ) (put : Bool) (r′ : List (List ℕ)) → Inside (k .ring) cap s (state r′ w n)
+    leads-on : (n : ℕ) (r′ : List (List ℕ)) → Inside (k .ring) cap s (state r′ w n)
         → Noted k left right cap s (state r′ w n) (standingIn (k .ring) (p ∷ v ∷ [])) (t .place) letter
-        → Turned (advanced t rest relation n put (t .count) p v letter) r′ w
-    leads-on n put r′ inside noted = (
+        → Turned (advanced t rest relation n) r′ w
+    leads-on n r′ inside noted = (
       inside,
-      letter-noted k left right first later cap t r w a (o .tries) l rest relation n put (t .count) p v letter r′ w (o .relation) (o .rest)
+      letter-noted k left right first later cap t r w a (o .tries) l rest relation n r′ w (o .relation) (o .rest)
           (still-ready (k .ring) cap s (state r′ w n) inside (a .ready)) (inside .low)
           (noted-letter k left right first later cap t r w a (o .tries) (l .atom) (l .relation) (o .relation-small) (p ∷ v ∷ []) in-words
           (state r′ w n) inside
@@ -215,22 +142,22 @@ module _ (k : Shape) (left right first later : List ℕ) (cap : ℕ) (t : Course
     possible : getD (standingIn (k .ring) (p ∷ v ∷ [])) 0 0 ≡ 0 → ⊥
     possible e = o .possible (ap (λ x. getD x 0 0) (two-words-in (p ∷ v ∷ []) (k .ring) (o .path)) ∙ e)
 
-    seen-on : found < t .count → Turned (advanced t rest relation (t .count) false (t .count) p v letter) r w
+    seen-on : found < t .count → Turned (advanced t rest relation (t .count)) r w
     seen-on h =
-        leads-on (t .count) false r (inside-none (k .ring) cap s (a .ready .counted))
+        leads-on (t .count) r (inside-none (k .ring) cap s (a .ready .counted))
         (λ old low.
         note-found k left right cap s old (t .place) letter (standingIn (k .ring) (p ∷ v ∷ [])) found place h (o .within))
 
-    full-on : t .count ≤ found → (put : Bool) → t .count ≡ cap → Turned (advanced t rest relation (t .count + 1) put (t .count) p v letter) r w
-    full-on h put e =
-        leads-on (t .count + 1) put r
+    full-on : t .count ≤ found → t .count ≡ cap → Turned (advanced t rest relation (t .count + 1)) r w
+    full-on h e =
+        leads-on (t .count + 1) r
         (inside-count (k .ring) cap s (state r w (t .count + 1)) refl refl (omega arith) (omega arith))
         (λ old low. note-over k left right cap s old (t .place) letter (p ∷ v ∷ []) found possible place h e)
 
-    new-on : t .count ≤ found → (put : Bool) → t .count < cap
-        → Turned (advanced t rest relation (t .count + 1) put (t .count) p v letter) (set r (t .count) (p ∷ v ∷ t .place ∷ letter ∷ [])) w
-    new-on h put less =
-        leads-on (t .count + 1) put (set r (t .count) (p ∷ v ∷ t .place ∷ letter ∷ []))
+    new-on : t .count ≤ found → t .count < cap
+        → Turned (advanced t rest relation (t .count + 1)) (set r (t .count) (p ∷ v ∷ t .place ∷ letter ∷ [])) w
+    new-on h less =
+        leads-on (t .count + 1) (set r (t .count) (p ∷ v ∷ t .place ∷ letter ∷ []))
         (inside-appended (k .ring) cap r w (t .count) (p ∷ v ∷ []) (t .place) letter (set r (t .count) (p ∷ v ∷ t .place ∷ letter ∷ [])) w records-so
         words-so less)
         (λ old low.
@@ -244,54 +171,59 @@ module _ (k : Shape) (left right first later : List ℕ) (cap : ℕ) (t : Course
         words-so : w ≡ wordsAfter (k .ring) w (t .count) (p ∷ v ∷ []) (t .place) letter
         words-so = words-path (k .ring) w (t .count) (p ∷ v ∷ []) (t .place) letter (o .path)
 
-    pub offered-on : (d : Course) → Settles cap found c d → (r′ : List (List ℕ)) → r′ ≡ cond (d .put) (set r (d .seek) (rowOf (recordOf d))) r
-        → Turned d r′ w × (turnWeight d ≡ turnWeight c)
+    -- the records once it is put or not
+    abbrev recordsWith : Bool → List (List ℕ)
+    recordsWith put = cond put (set r (t .count) (p ∷ v ∷ t .place ∷ letter ∷ [])) r
+
+    pub offered-on : (d : Course) → Settles found c d → (put : Bool) → Puts cap found c put → (r′ : List (List ℕ)) → r′ ≡ recordsWith put
+        → Turned d r′ w × (turnWeight d ≡ turnWeight (c .course))
     unfolding turnWeight
-    offered-on d g r′ e = ⊎-elim seen new (lt-or-le found (t .count))
+    offered-on d g put h r′ e = ⊎-elim seen new (lt-or-le found (t .count))
       where
-        at : (d′ : Course) → d ≡ d′ → Turned d′ (cond (d′ .put) (set r (d′ .seek) (rowOf (recordOf d′))) r) w → turnWeight d′ ≡ turnWeight c
-            → Turned d r′ w × (turnWeight d ≡ turnWeight c)
-        at d′ same x y =
-            subst (λ z. Turned z r′ w × (turnWeight z ≡ turnWeight c)) (sym same)
-            (subst (λ z. Turned d′ z w) (sym (e ∙ ap (λ z. cond (z .put) (set r (z .seek) (rowOf (recordOf z))) r) same)) x, y)
+        at : (d′ : Course) → d ≡ d′ → (put′ : Bool) → put ≡ put′ → Turned d′ (recordsWith put′) w → turnWeight d′ ≡ turnWeight (c .course)
+            → Turned d r′ w × (turnWeight d ≡ turnWeight (c .course))
+        at d′ same put′ as-put x y =
+            subst⁻¹ (λ z. Turned z r′ w × (turnWeight z ≡ turnWeight (c .course))) same
+            (subst⁻¹ (λ z. Turned d′ z w) (e ∙ ap recordsWith as-put) x, y)
 
-        seen : found < t .count → Turned d r′ w × (turnWeight d ≡ turnWeight c)
-        seen h = at (advanced t rest relation (t .count) false (t .count) p v letter) (g .seen refl h) (seen-on h) refl
+        seen : found < t .count → Turned d r′ w × (turnWeight d ≡ turnWeight (c .course))
+        seen l = at (advanced t rest relation (t .count)) (g .seen refl l) false (h .seen refl l) (seen-on l) refl
 
-        new : t .count ≤ found → Turned d r′ w × (turnWeight d ≡ turnWeight c)
-        new h =
-            at (advanced t rest relation (t .count + 1) (ltb (t .count) cap) (t .count) p v letter) (g .new refl h)
-            (⊎-elim
+        new : t .count ≤ found → Turned d r′ w × (turnWeight d ≡ turnWeight (c .course))
+        new l =
+            ⊎-elim
             (λ less.
-            subst (λ b. Turned (advanced t rest relation (t .count + 1) b (t .count) p v letter) (cond b (set r (t .count) (p ∷ v ∷ t .place ∷ letter ∷ [])) r) w)
-            (sym (lt-ltb (t .count) cap less)) (new-on h true less))
+            at (advanced t rest relation (t .count + 1)) (g .new refl l) true (h .new refl l ∙ lt-ltb (t .count) cap less) (new-on l less) refl)
             (λ more.
-            subst (λ b. Turned (advanced t rest relation (t .count + 1) b (t .count) p v letter) (cond b (set r (t .count) (p ∷ v ∷ t .place ∷ letter ∷ [])) r) w)
-            (sym (le-ltb (t .count) cap more)) (full-on h false (omega (arith, o .within)))) (lt-or-le (t .count) cap)) refl
+            at (advanced t rest relation (t .count + 1)) (g .new refl l) false (h .new refl l ∙ le-ltb (t .count) cap more)
+            (full-on l (omega (arith, o .within))) refl) (lt-or-le (t .count) cap)
 
   -- a turn: what holds before it holds behind it, and the number falls
-  pub turn-on : (c : Course) (w′ : List ℕ) → Stepped k left right first later cap t c r w w′ → turnWeight c < turnWeight t
-      → (found : ℕ) → FoundIn r (c .seek) (c .p) (c .s) found → (d : Course) → Settles cap found c d
-      → (r′ : List (List ℕ)) → r′ ≡ cond (d .put) (set r (d .seek) (rowOf (recordOf d))) r
+  pub turn-on : (m : Move) (w′ : List ℕ) → Stepped k left right first later cap t m r w w′ → turnWeight (m .course) < turnWeight t
+      → (found : ℕ) → FoundIn r (m .offer .seek) (m .offer .p) (m .offer .s) found → (d : Course) → Settles found m d
+      → (put : Bool) → Puts cap found m put → (r′ : List (List ℕ)) → r′ ≡ cond put (set r (m .offer .seek) (rowOf (recordOf m))) r
       → Inside (k .ring) cap s (state r′ w′ (d .count)) × At k left right first later cap d r′ w′ × (turnWeight d < turnWeight t)
-  turn-on c w′ st less found f d g r′ e = ⊎-elim quiet offers st
+  turn-on m w′ st less found f d g put h r′ e = ⊎-elim quiet offered st
     where
       Result : List (List ℕ) → List ℕ → Course → Type 0
       Result x y z = Inside (k .ring) cap s (state x y (z .count)) × At k left right first later cap z x y × (turnWeight z < turnWeight t)
 
-      quiet : (c .put ≡ false) × (c .seek ≡ 0) × Inside (k .ring) cap s (state r w′ (c .count)) × At k left right first later cap c r w′ → Result r′ w′ d
+      quiet : (m .offer .put ≡ false) × (m .offer .seek ≡ 0) × Inside (k .ring) cap s (state r w′ (m .course .count))
+          × At k left right first later cap (m .course) r w′ → Result r′ w′ d
       quiet q =
-          subst (Result r′ w′) (sym (g .nothing (q .0)))
-          (subst (λ x. Result x w′ c)
-          (sym (e ∙ ap (λ z. cond (z .put) (set r (z .seek) (rowOf (recordOf z))) r) (g .nothing (q .0))
-          ∙ ap (λ b. cond b (set r (c .seek) (rowOf (recordOf c))) r) (q .0))) (q .2, q .3, less))
+          subst⁻¹ (Result r′ w′) (g .nothing (q .0))
+          (subst⁻¹ (λ x. Result x w′ (m .course))
+          (e ∙ ap (λ b. cond b (set r (m .offer .seek) (rowOf (recordOf m))) r) (h .nothing (q .0))) (q .2, q .3, less))
 
-      offers : (c .put ≡ true) × (w′ ≡ w) × ((l : Letter) × Offers k left right first later cap t c r w l) → Result r′ w′ d
-      offers q =
+      offered : (m .offer .put ≡ true) × (w′ ≡ w) × ((l : Letter) × Offers k left right first later cap t m r w l) → Result r′ w′ d
+      offered q =
           let (l, o) = q .2 in
           let same = o .same in
           let (turned, weight) =
-          offered-on (c .rest) (c .relation) (c .p) (c .s) (c .letter) l (subst (λ z. Offers k left right first later cap t z r w l) same o) found
-          (subst (λ n. FoundIn r n (c .p) (c .s) found) (ap (λ z. z .seek) same) f) d (subst (λ z. Settles cap found z d) same g) r′ e in
-          subst (λ y. Result r′ y d) (sym (q .1))
-          (turned .0, turned .1, omega (arith, less, weight, ap turnWeight same))
+          offered-on (m .course .rest) (m .course .relation) (m .offer .p) (m .offer .s) (m .offer .letter) l
+          (subst (λ z. Offers k left right first later cap t z r w l) same o) found
+          (subst (λ n. FoundIn r n (m .offer .p) (m .offer .s) found) (ap (λ z. z .offer .seek) same) f) d (subst (λ z. Settles found z d) same g) put
+          (subst (λ z. Puts cap found z put) same h) r′
+          (e ∙ ap (λ z. cond put (set r (z .offer .seek) (rowOf (recordOf z))) r) same) in
+          subst⁻¹ (λ y. Result r′ y d) (q .1)
+          (turned .0, turned .1, omega (arith, less, weight, ap (λ z. turnWeight (z .course)) same))

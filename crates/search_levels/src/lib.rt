@@ -3,19 +3,20 @@
 // empty prefix, place i + 1 is standing i. The standing past the allowance is counted and not kept. A turn loads a record, steps, looks a
 // candidate up, decides, and keeps a record; only `turn` and `levels` know the records, and they know nothing else. What is required
 // of the room is what the search call has tested (refusal 9), and of the relations what the reader lets through.
-use search_course::Answer;
 use search_course::BEGINS;
 use search_course::COMPLETES;
 use search_course::Course;
+use search_course::Finding;
+use search_course::Move;
 use search_course::PROVED;
 use search_records::Record;
-use search_words::Shape;
+use search_standings::Shape;
+use side_tables::Table;
 ghost use Prim.Native.Nat.{ℕ, suc, _-_, _≤_, _<_};
 ghost use mathlib.Core.Path.{_≡_};
-ghost use mathlib.Core.Bool.{false};
 ghost use mathlib.Core.List.{List};
 ghost use lib.ListN.{length};
-ghost use Rattle.search_words.specs.declared.Shape.{Shape};
+ghost use Rattle.search_standings.specs.declared.Shape.{Shape};
 ghost use Rattle.search_records.specs.Rows.{rows, recordAt};
 ghost use Rattle.search_grow.specs.Masks.{lettersIn};
 ghost use Rattle.search_grow.specs.Kept.{state, Inside, Ready};
@@ -26,39 +27,36 @@ ghost use Rattle.search_course.specs.Turns.{turnWeight, Small, At, Stepped};
 fn step(
     k: Shape,
     cap: usize,
-    left: &[u64; 4241],
-    right: &[u64; 4241],
+    left: &Table,
+    right: &Table,
     first: &[u64; 16],
     later: &[u64; 16],
     from: Record,
     words: &mut [u64],
     t: Course,
-) -> Course
+) -> Move
     requires { ⌜ Small (k .ring) (k .relations) cap (length (now words)) t × (t .phase < 3) ⌝ }
-    ensures { λ c.
+    ensures { λ m.
         ⌜ ((r : List (List ℕ)) → from ≡ recordAt r (t .at)
         → At k (now (left .entry)) (now (right .entry)) (now (first .entry)) (now (later .entry)) cap t r (now (words .entry))
-        → Stepped k (now (left .entry)) (now (right .entry)) (now (first .entry)) (now (later .entry)) cap t c r (now (words .entry))
-        (now (words .exit)) × (turnWeight c < turnWeight t)) ⌝ }
+        → Stepped k (now (left .entry)) (now (right .entry)) (now (first .entry)) (now (later .entry)) cap t m r (now (words .entry))
+        (now (words .exit)) × (turnWeight (m .course) < turnWeight t)) ⌝ }
 {
-    let mut q = t;
-    q.put = false;
-    q.seek = 0;
     if t.phase == COMPLETES {
-        return search_candidates::complete(k, left, right, from, words, q);
+        return search_course::quiet(search_candidates::complete(k, left, right, from, words, t));
     }
     if t.phase == BEGINS {
-        return search_candidates::try_letter(k, cap, left, right, first, from, words, q);
+        return search_candidates::try_letter(k, cap, left, right, first, from, words, t);
     }
-    search_candidates::try_letter(k, cap, left, right, later, from, words, q)
+    search_candidates::try_letter(k, cap, left, right, later, from, words, t)
 }
 
 // One turn: a record is loaded, a step made, a candidate looked up, what becomes of it decided, and a record kept.
 fn turn(
     k: Shape,
     cap: usize,
-    left: &[u64; 4241],
-    right: &[u64; 4241],
+    left: &Table,
+    right: &Table,
     first: &[u64; 16],
     later: &[u64; 16],
     records: &mut [Record],
@@ -73,25 +71,26 @@ fn turn(
         × (turnWeight d < turnWeight t) ⌝ }
 {
     let from = search_records::load(records, t.at);
-    let c = step(k, cap, left, right, first, later, from, words, t);
-    let found = search_records::find(records, c.seek, c.p, c.s);
-    let d = search_course::settle(cap, c, found);
-    let made = search_course::record_of(d);
-    search_records::keep(records, d.put, d.seek, made);
-    d
+    let m = step(k, cap, left, right, first, later, from, words, t);
+    let o = search_course::offer_of(m);
+    let found = search_records::find(records, o.seek, o.p, o.s);
+    let put = search_course::puts(cap, m, found);
+    let made = search_course::record_of(m);
+    search_records::keep(records, put, o.seek, made);
+    search_course::settle(m, found)
 }
 
 // Level by level from level 0 on, turn by turn. Level 1 tries the letters of one array of masks, later levels those of another.
 pub fn levels(
     k: Shape,
     cap: usize,
-    left: &[u64; 4241],
-    right: &[u64; 4241],
+    left: &Table,
+    right: &Table,
     first: &[u64; 16],
     later: &[u64; 16],
     records: &mut [Record],
     words: &mut [u64],
-) -> Answer
+) -> Finding
     requires { ⌜ Ready (k .ring) cap (state (rows (now records)) (now words) 0) × (k .relations ≤ 16) ⌝ }
     ensures { λ x.
         ⌜ Inside (k .ring) cap (state (rows (now (records .entry))) (now (words .entry)) 0) (state (rows (now (records .exit))) (now (words .exit)) 0)
@@ -102,5 +101,5 @@ pub fn levels(
     while t.phase < PROVED {
         t = turn(k, cap, left, right, first, later, records, words, t);
     }
-    search_course::answer_of(t)
+    search_course::finding_of(t)
 }

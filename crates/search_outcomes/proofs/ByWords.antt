@@ -4,7 +4,7 @@
 -- Assumes nothing.
 use Prim.Native.Nat.{ℕ, _≤_, _<_}
 use native.Mathlib.Omega.{arith}
-use mathlib.Core.Path.{_≡_, refl, sym, _∙_, ap, subst}
+use mathlib.Core.Path.{_≡_, refl, sym, _∙_, ap, ap₂, subst}
 use mathlib.Core.Logic.{_⊎_}
 use mathlib.Core.Logic._⊎_.{inl, inr}
 use mathlib.Core.List.{List, _++_}
@@ -18,7 +18,7 @@ use Rattle.claims.specs.Standings.{System, claimSystem}
 use Rattle.claims.specs.Search.{Verdict, proved, refuted, spent, verdict}
 use Rattle.claims.specs.SheetBytes.{standingBytes, sheetBytes}
 use Rattle.claims.specs.SheetWriting.{refutedSheet}
-use Rattle.claims.specs.Refusals.{badAllowance, shortMemory, spentAllowance, shortBuffer, Result, ok, refused, refuse}
+use Rattle.claims.specs.Refusals.{badAllowance, shortMemory, spentAllowance, shortBuffer, Result, ok, refused, refuse, afterwards}
 use Rattle.claims.specs.RefusalOrder.{Accepted}
 use Rattle.claims.specs.Calls.{Answer, provedWith, refutedBy, Given, answerOf, searched, Lent, Done, neededRecords, neededWords, search-call}
 use Rattle.claims.specs.CallOrder.{askedAs, sought, Ready, Short}
@@ -37,16 +37,10 @@ use Rattle.refusals.specs.declared.Reason.the-variants.{BadAllowance, ShortMemo
 use Rattle.refusals.proofs.Causes.{one-reason}
 use Rattle.search_outcomes.specs.declared.Outcome.{Outcome}
 use Rattle.search_outcomes.specs.declared.Outcome.the-variants.{Proved, Refuted, Refused}
-use Rattle.search_outcomes.specs.Outcomes.{Says, Gives}
+use Rattle.search_outcomes.specs.Outcomes.{Says, Sized, givenBy, SearchGives}
 use Rattle.search_outcomes.specs.ByWords.{Fits, ByWords, SearchedByWords}
 
--- the outcome that says a result
-says-proved : (r : Outcome) (n : ℕ) → Says (ok (provedWith n)) r → r ≡ Proved n
-says-proved (Proved m) n e = ap Proved e
-
-says-refuted : (r : Outcome) (w : Word) → Says (ok (refutedBy w)) r → r ≡ Refuted (size w)
-says-refuted (Refuted m) w e = ap Refuted e
-
+-- the outcome that says a refusal
 says-refused : (r : Outcome) (why : Reason) → Says (refuse (causeOf why) 0) r → r ≡ Refused why 0
 says-refused (Refused v p) why (e, f) = let h : v ≡ why = one-reason v why e in (λ i. Refused (h i) (f i))
 
@@ -134,25 +128,25 @@ module _ (D : Decision) (allowance : ℕ) (m : Lent) where
   if-unwritten (answered r (provedWith c) p h) s = absurd s
   if-unwritten (answered r (refutedBy v) p h) s = absurd s
 
-  if-proved : (w : Way) (n : ℕ) → Says (told w) (Proved n)
+  if-proved : (w : Way) (n bytes : ℕ) → Says (told w) (Proved n bytes)
       → Ready D allowance m × MeansProved D (claimSystem D) allowance n × Fits D m (provedWith n)
-  if-proved (out h) n s = absurd s
-  if-proved (short h k t) n s = absurd s
-  if-proved (exhausted r k p) n s = absurd s
-  if-proved (unwritten r x p h) n s = absurd s
-  if-proved (answered r (provedWith c) p h) n s =
+  if-proved (out h) n bytes s = absurd s
+  if-proved (short h k t) n bytes s = absurd s
+  if-proved (exhausted r k p) n bytes s = absurd s
+  if-proved (unwritten r x p h) n bytes s = absurd s
+  if-proved (answered r (provedWith c) p h) n bytes s =
       (r, subst (λ k. MeansProved D (claimSystem D) allowance k) (sym s) p, subst (λ k. Fits D m (provedWith k)) (sym s) h)
-  if-proved (answered r (refutedBy v) p h) n s = absurd s
+  if-proved (answered r (refutedBy v) p h) n bytes s = absurd s
 
-  if-refuted : (w : Way) (n : ℕ) → Says (told w) (Refuted n)
+  if-refuted : (w : Way) (n bytes : ℕ) → Says (told w) (Refuted n bytes)
       → Ready D allowance m
       × ((v : Word) × (size v ≡ n) × MeansRefuted D (claimSystem D) allowance v × Fits D m (refutedBy v))
-  if-refuted (out h) n s = absurd s
-  if-refuted (short h k t) n s = absurd s
-  if-refuted (exhausted r k p) n s = absurd s
-  if-refuted (unwritten r x p h) n s = absurd s
-  if-refuted (answered r (provedWith c) p h) n s = absurd s
-  if-refuted (answered r (refutedBy v) p h) n s = (r, (v, sym s, p, h))
+  if-refuted (out h) n bytes s = absurd s
+  if-refuted (short h k t) n bytes s = absurd s
+  if-refuted (exhausted r k p) n bytes s = absurd s
+  if-refuted (unwritten r x p h) n bytes s = absurd s
+  if-refuted (answered r (provedWith c) p h) n bytes s = absurd s
+  if-refuted (answered r (refutedBy v) p h) n bytes s = (r, (v, sym s, p, h))
 
   -- and which way a meaning leaves
   then-out : (w : Way) → (allowance < 1) ⊎ (4096 < allowance) → told w ≡ refuse badAllowance 0
@@ -260,6 +254,43 @@ module _ (text : List ℕ) (q : Query) (a : Accepted text q) (allowance : ℕ) (
           holds h k (le-or-lt (neededRecords (sought a) allowance) (length (m .records)))
           (le-or-lt (neededWords (sought a) allowance) (length (m .words)))
 
+  -- the sheet that is given has the length of the answer's
+  given-is : givenBy text allowance ≡ searched (sought a) allowance
+  unfolding givenBy
+  given-is = ap (λ x. afterwards x (λ y. searched (y .decided) allowance)) (asked-accepted text q a)
+
+  answer-length : (x : Answer) → AnswerMeans (sought a) (claimSystem (sought a)) allowance x → (g : Given) → searched (sought a) allowance ≡ ok g
+      → length (g .sheet) ≡ sheetLength x (sought a .ring)
+  answer-length x p g e =
+      searched-sheet-length (sought a) allowance g e
+      ∙ ap (λ y. sheetLength y (sought a .ring))
+      (same-value (g .answer) x (sym (ap answerAlone e) ∙ is-answer (sought a) allowance m _ fixed x p))
+
+  proved-length : (n bytes : ℕ) → Sized (Proved n bytes) (searched (sought a) allowance) → MeansProved (sought a) (claimSystem (sought a)) allowance n
+      → bytes ≡ sheetLength (provedWith n) (sought a .ring)
+  proved-length n bytes z p = go (searched (sought a) allowance) refl z
+    where
+      go : (s : Result Given) → searched (sought a) allowance ≡ s → Sized (Proved n bytes) s → bytes ≡ sheetLength (provedWith n) (sought a .ring)
+      go (ok g) e h = h ∙ answer-length (provedWith n) p g e
+      go (refused s) e h = absurd h
+
+  refuted-length : (w : Word) (n bytes : ℕ) → Sized (Refuted n bytes) (searched (sought a) allowance)
+      → MeansRefuted (sought a) (claimSystem (sought a)) allowance w → bytes ≡ sheetLength (refutedBy w) (sought a .ring)
+  refuted-length w n bytes z p = go (searched (sought a) allowance) refl z
+    where
+      go : (s : Result Given) → searched (sought a) allowance ≡ s → Sized (Refuted n bytes) s → bytes ≡ sheetLength (refutedBy w) (sought a .ring)
+      go (ok g) e h = h ∙ answer-length (refutedBy w) p g e
+      go (refused s) e h = absurd h
+
+  -- the outcome that says an answer, with that length
+  says-proved : (r : Outcome) (n : ℕ) → Says (ok (provedWith n)) r → Sized r (searched (sought a) allowance)
+      → MeansProved (sought a) (claimSystem (sought a)) allowance n → r ≡ Proved n (sheetLength (provedWith n) (sought a .ring))
+  says-proved (Proved k bytes) n e z p = ap₂ Proved e (proved-length k bytes z (subst (λ j. MeansProved (sought a) (claimSystem (sought a)) allowance j) (sym e) p) ∙ ap (λ j. sheetLength (provedWith j) (sought a .ring)) e)
+
+  says-refuted : (r : Outcome) (w : Word) → Says (ok (refutedBy w)) r → Sized r (searched (sought a) allowance)
+      → MeansRefuted (sought a) (claimSystem (sought a)) allowance w → r ≡ Refuted (size w) (sheetLength (refutedBy w) (sought a .ring))
+  says-refuted (Refuted k bytes) w e z p = ap₂ Refuted e (refuted-length w k bytes z p)
+
   -- the refuted sheet of an answer is left at the start of the buffer
   left : (v : Word) → search-call text allowance m .result ≡ ok (refutedBy v)
       → search-call text allowance m .lent .buffer ≡ refutedSheet v ++ drop (length (refutedSheet v)) (m .buffer)
@@ -273,7 +304,7 @@ module _ (text : List ℕ) (q : Query) (a : Accepted text q) (allowance : ℕ) (
       (sheet-of-word (claimSystem E) (standingBytes (E .ring) E) (verdict (claimSystem E) allowance) v (L .sheet)
       (sym (searched-by-kind E allowance) ∙ L .own))
 
-  by-words : (after : Lent) (r : Outcome) → Gives (search-call text allowance m) r after → ByWords (sought a) allowance m after r
+  by-words : (after : Lent) (r : Outcome) → SearchGives text allowance m r after → ByWords (sought a) allowance m after r
   unfolding causeOf
   by-words after r gives = go (goes .0) (goes .1)
     where
@@ -281,6 +312,7 @@ module _ (text : List ℕ) (q : Query) (a : Accepted text q) (allowance : ℕ) (
           → ByWords (sought a) allowance m after r
       go w e =
           let said : Says (told (sought a) allowance m w) r = subst (λ s. Says s r) e (gives .says) in
+          let sized : Sized r (searched (sought a) allowance) = subst (λ s. Sized r s) given-is (gives .sized) in
           record {
             exactly-one = fixed .exactly-one;
             allowance-out = (
@@ -291,14 +323,21 @@ module _ (text : List ℕ) (q : Query) (a : Accepted text q) (allowance : ℕ) (
               (λ h. if-short (sought a) allowance m w (subst (λ o. Says (told (sought a) allowance m w) o) h said)),
               (λ (i, j, t). says-refused r ShortMemory (subst (λ s. Says s r) (then-short (sought a) allowance m w i j t) said)),
             );
-            proved = λ n. (
-              (λ h. if-proved (sought a) allowance m w n (subst (λ o. Says (told (sought a) allowance m w) o) h said)),
-              (λ (ready, p, f). says-proved r n (subst (λ s. Says s r) (then-answered (sought a) allowance m _ fixed w ready (provedWith n) p f) said)),
+            proved = λ n bytes. (
+              (λ h.
+                  let (ready, p, f) = if-proved (sought a) allowance m w n bytes (subst (λ o. Says (told (sought a) allowance m w) o) h said) in
+                  (ready, p, f, proved-length n bytes (subst (λ o. Sized o (searched (sought a) allowance)) h sized) p)),
+              (λ (ready, p, f, l).
+                  says-proved r n (subst (λ s. Says s r) (then-answered (sought a) allowance m _ fixed w ready (provedWith n) p f) said) sized p
+                  ∙ ap (Proved n) (sym l)),
             );
-            refuted = λ n. (
-              (λ h. if-refuted (sought a) allowance m w n (subst (λ o. Says (told (sought a) allowance m w) o) h said)),
-              (λ (ready, (v, k, p, f)).
-                  says-refuted r v (subst (λ s. Says s r) (then-answered (sought a) allowance m _ fixed w ready (refutedBy v) p f) said) ∙ ap Refuted k),
+            refuted = λ n bytes. (
+              (λ h.
+                  let (ready, (v, k, p, f)) = if-refuted (sought a) allowance m w n bytes (subst (λ o. Says (told (sought a) allowance m w) o) h said) in
+                  (ready, (v, k, p, f, refuted-length v n bytes (subst (λ o. Sized o (searched (sought a) allowance)) h sized) p))),
+              (λ (ready, (v, k, p, f, l)).
+                  says-refuted r v (subst (λ s. Says s r) (then-answered (sought a) allowance m _ fixed w ready (refutedBy v) p f) said) sized p
+                  ∙ ap₂ Refuted k (sym l)),
             );
             spent = (
               (λ h. if-spent (sought a) allowance m w (subst (λ o. Says (told (sought a) allowance m w) o) h said)),
@@ -309,14 +348,14 @@ module _ (text : List ℕ) (q : Query) (a : Accepted text q) (allowance : ℕ) (
               (λ (ready, (x, p, l)). says-refused r ShortBuffer (subst (λ s. Says s r) (then-unwritten (sought a) allowance m _ fixed w ready x p l) said)),
             );
             word = λ v p h.
-                let (ready, (u, k, pu, f)) = if-refuted (sought a) allowance m w (size v) (subst (λ o. Says (told (sought a) allowance m w) o) h said) in
+                let (ready, (u, k, pu, f)) = if-refuted (sought a) allowance m w (size v) _ (subst (λ o. Says (told (sought a) allowance m w) o) h said) in
                 let same : refutedBy u ≡ refutedBy v = one-answer (sought a) allowance m _ fixed (refutedBy u) (refutedBy v) pu p in
                 ap (λ (l : Lent). l .buffer) (gives .leaves)
                 ∙ left v (e ∙ then-answered (sought a) allowance m _ fixed w ready (refutedBy v) p (subst (λ z. Fits (sought a) m z) same f));
           }
 
 -- whatever the allowance and the lent memory, the outcome of the search of an accepted query is the one that the words fix
-pub search-by-words : (text : List ℕ) (allowance : ℕ) (before after : Lent) (r : Outcome) → Gives (search-call text allowance before) r after
+pub search-by-words : (text : List ℕ) (allowance : ℕ) (before after : Lent) (r : Outcome) → SearchGives text allowance before r after
     → SearchedByWords text allowance before after r
 search-by-words text allowance before after r gives q c e f =
     let a : Accepted text q = read-accepts text q .0 e in

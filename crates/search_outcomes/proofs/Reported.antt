@@ -18,11 +18,11 @@ use Rattle.search_contents.specs.Written.{written}
 use Rattle.search_sheet.specs.SheetWords.{prefixIn, provedSheet, refutedSheet}
 use Rattle.search_writing.specs.declared.Writing.{Writing}
 use Rattle.search_writing.specs.Left.{Ended, ProofStage, ProofStands, WordStage, WordStands}
-use Rattle.search_course.specs.declared.Answer.{Answer as Found}
-use Rattle.search_course.specs.declared.Answer.the-variants.{Proved as FoundProof, Refuted as FoundWord, Spent}
+use Rattle.search_course.specs.declared.Finding.{Finding as Found}
+use Rattle.search_course.specs.declared.Finding.the-variants.{Proved as FoundProof, Refuted as FoundWord, Spent}
 use Rattle.search_outcomes.specs.declared.Outcome.{Outcome}
 use Rattle.search_outcomes.specs.declared.Outcome.the-variants.{Proved, Refuted, Refused}
-use Rattle.search_outcomes.specs.Outcomes.{Says}
+use Rattle.search_outcomes.specs.Outcomes.{Says, Sized}
 use Rattle.search_outcomes.specs.inner.Found.{provedIn, refutedIn, foundIn, told, put, Reports}
 use Rattle.search_outcomes.specs.inner.Stands.{Stands}
 
@@ -32,28 +32,29 @@ unfolding told put causeOf
 short g b h =
     subst⁻¹
     (λ x. Says (elim x [ false ↦ refuse shortBuffer 0 | true ↦ ok (g .answer) ]) (Refused ShortBuffer 0)
-    × (b ≡ elim x [ false ↦ b | true ↦ g .sheet ++ drop (length (g .sheet)) b ]))
-    (lt-leb (length (g .sheet)) (length b) h) ((refl, refl), refl)
+    × (b ≡ elim x [ false ↦ b | true ↦ g .sheet ++ drop (length (g .sheet)) b ]) × Unit {0})
+    (lt-leb (length (g .sheet)) (length b) h) ((refl, refl), refl, tt)
 
 -- the answer, with its sheet at the start of the buffer
-full : (g : Given) (b : List ℕ) (o : Outcome) → length (g .sheet) ≤ length b → Says (ok (g .answer)) o → Reports (ok g) b o (written (g .sheet) b)
+full : (g : Given) (b : List ℕ) (o : Outcome) → length (g .sheet) ≤ length b → Says (ok (g .answer)) o → Sized o (ok g)
+    → Reports (ok g) b o (written (g .sheet) b)
 unfolding told put written
-full g b o h s =
+full g b o h s z =
     subst⁻¹
     (λ x. Says (elim x [ false ↦ refuse shortBuffer 0 | true ↦ ok (g .answer) ]) o
-    × (g .sheet ++ drop (length (g .sheet)) b ≡ elim x [ false ↦ b | true ↦ g .sheet ++ drop (length (g .sheet)) b ]))
-    (le-leb (length (g .sheet)) (length b) h) (s, refl)
+    × (g .sheet ++ drop (length (g .sheet)) b ≡ elim x [ false ↦ b | true ↦ g .sheet ++ drop (length (g .sheet)) b ]) × Sized o (ok g))
+    (le-leb (length (g .sheet)) (length b) h) (s, refl, z)
 
 -- at the end, by what was found
 module _ (ring : Bool) (r : List (List ℕ)) (w b₀ word b : List ℕ) (x : Writing) (ended : x .going ≡ false) where
-  proof-ended : (n : ℕ) (s : Bool) → x .short ≡ s → ProofStands ring r w b₀ n x b → Ended (provedSheet ring r w n) b₀ s b
+  proof-ended : (n : ℕ) (s : Bool) → x .short ≡ s → ProofStands ring r w b₀ n x b → Ended (provedSheet ring r w n) b₀ s (x .to) b
   proof-ended n s e h =
-      subst (λ q. Ended (provedSheet ring r w n) b₀ q b) e (subst (λ g. ProofStage ring r w b₀ n g x b) ended h)
+      subst (λ q. Ended (provedSheet ring r w n) b₀ q (x .to) b) e (subst (λ g. ProofStage ring r w b₀ n g x b) ended h)
 
   word-ended : (place a : ℕ) (s : Bool) → x .short ≡ s → WordStands ring r w b₀ place a x word b
-      → (x .count ≡ relationsIn (prefixIn ring r w place)) × Ended (refutedSheet ring r w place a) b₀ s b
+      → (x .count ≡ relationsIn (prefixIn ring r w place)) × Ended (refutedSheet ring r w place a) b₀ s (x .to) b
   word-ended place a s e h =
-      subst (λ q. (x .count ≡ relationsIn (prefixIn ring r w place)) × Ended (refutedSheet ring r w place a) b₀ q b) e
+      subst (λ q. (x .count ≡ relationsIn (prefixIn ring r w place)) × Ended (refutedSheet ring r w place a) b₀ q (x .to) b) e
       (subst (λ g. WordStage ring r w b₀ place a g x word b) ended h)
 
   pub tell-short : x .short ≡ true → (y : Found) → Stands ring r w b₀ y x word b → Reports (foundIn ring r w y) b₀ (Refused ShortBuffer 0) b
@@ -70,24 +71,24 @@ module _ (ring : Bool) (r : List (List ℕ)) (w b₀ word b : List ℕ) (x : Wri
       absurd (omega arith)
 
   pub tell-proved : x .short ≡ false → (y : Found) (n : ℕ) → y ≡ FoundProof n → Stands ring r w b₀ y x word b
-      → Reports (foundIn ring r w y) b₀ (Proved n) b
+      → Reports (foundIn ring r w y) b₀ (Proved n (x .to)) b
   unfolding foundIn provedIn
   tell-proved s y n e h =
-      let (l, f) = proof-ended n false s (subst (λ q. Stands ring r w b₀ q x word b) e h) in
-      subst⁻¹ (λ q. Reports (foundIn ring r w q) b₀ (Proved n) b) e
-      (subst⁻¹ (Reports (provedIn ring r w n) b₀ (Proved n)) f (full _ b₀ (Proved n) l refl))
+      let (l, f, z) = proof-ended n false s (subst (λ q. Stands ring r w b₀ q x word b) e h) in
+      subst⁻¹ (λ q. Reports (foundIn ring r w q) b₀ (Proved n (x .to)) b) e
+      (subst⁻¹ (Reports (provedIn ring r w n) b₀ (Proved n (x .to))) f (full _ b₀ (Proved n (x .to)) l refl z))
 
   pub tell-refuted : x .short ≡ false → (y : Found) (place a : ℕ) → y ≡ FoundWord place a → Stands ring r w b₀ y x word b
-      → Reports (foundIn ring r w y) b₀ (Refuted (x .count)) b
+      → Reports (foundIn ring r w y) b₀ (Refuted (x .count) (x .to)) b
   unfolding foundIn refutedIn
   tell-refuted s y place a e h =
-      let (c, (l, f)) = word-ended place a false s (subst (λ q. Stands ring r w b₀ q x word b) e h) in
-      subst⁻¹ (λ q. Reports (foundIn ring r w q) b₀ (Refuted (x .count)) b) e
-      (subst⁻¹ (Reports (refutedIn ring r w place a) b₀ (Refuted (x .count))) f
-      (full _ b₀ (Refuted (x .count)) l (c ∙ omega (arith, size-onto (prefixIn ring r w place) (end a)))))
+      let (c, (l, f, z)) = word-ended place a false s (subst (λ q. Stands ring r w b₀ q x word b) e h) in
+      subst⁻¹ (λ q. Reports (foundIn ring r w q) b₀ (Refuted (x .count) (x .to)) b) e
+      (subst⁻¹ (Reports (refutedIn ring r w place a) b₀ (Refuted (x .count) (x .to))) f
+      (full _ b₀ (Refuted (x .count) (x .to)) l (c ∙ omega (arith, size-onto (prefixIn ring r w place) (end a))) z))
 
   pub tell-spent : (y : Found) → y ≡ Spent → Stands ring r w b₀ y x word b → Reports (foundIn ring r w y) b₀ (Refused SpentAllowance 0) b
   unfolding foundIn told put causeOf
   tell-spent y e h =
       let (f, g) = subst (λ q. Stands ring r w b₀ q x word b) e h in
-      subst⁻¹ (λ q. Reports (foundIn ring r w q) b₀ (Refused SpentAllowance 0) b) e ((refl, refl), g)
+      subst⁻¹ (λ q. Reports (foundIn ring r w q) b₀ (Refused SpentAllowance 0) b) e ((refl, refl), g, tt)

@@ -23,6 +23,7 @@ use Rattle.claims.specs.Demands.{MeansProved, MeansRefuted, MeansSpent, AnswerM
 use Rattle.claims.specs.SheetWriting.{refutedSheet}
 use Rattle.claims.specs.Sheets.{sheetLength}
 use Rattle.refusals.specs.declared.Reason.the-variants.{BadAllowance, ShortMemory, SpentAllowance, ShortBuffer}
+use Rattle.layout.specs.Layout.{MOST-STANDINGS}
 use Rattle.search_outcomes.specs.declared.Outcome.{Outcome}
 use Rattle.search_outcomes.specs.declared.Outcome.the-variants.{Proved, Refuted, Refused}
 
@@ -36,21 +37,25 @@ pub record ByWords (D : Decision) (allowance : ℕ) (before after : Lent) (r : O
   -- of the three statements one holds, and no two
   pub exactly-one : OneMeaning D (claimSystem D) allowance
   -- 9 exactly where the allowance is outside 1 to 4,096, or memory is short of it
-  pub allowance-out : (r ≡ Refused BadAllowance 0) ↔ ((allowance < 1) ⊎ (4096 < allowance))
-  pub memory-short : (r ≡ Refused ShortMemory 0) ↔ ((1 ≤ allowance) × (allowance ≤ 4096) × Short D allowance before)
-  -- else the statement that holds: an answer, or 10
-  pub proved : (n : ℕ)
-      → (r ≡ Proved n) ↔ (Ready D allowance before × MeansProved D (claimSystem D) allowance n × Fits D before (provedWith n))
-  pub refuted : (n : ℕ)
-      → (r ≡ Refuted n)
-      ↔ (Ready D allowance before × ((w : Word) × (size w ≡ n) × MeansRefuted D (claimSystem D) allowance w × Fits D before (refutedBy w)))
+  pub allowance-out : (r ≡ Refused BadAllowance 0) ↔ ((allowance < 1) ⊎ (MOST-STANDINGS < allowance))
+  pub memory-short : (r ≡ Refused ShortMemory 0) ↔ ((1 ≤ allowance) × (allowance ≤ MOST-STANDINGS) × Short D allowance before)
+  -- else the statement that holds: an answer, with the length of its sheet, or 10
+  pub proved : (n bytes : ℕ)
+      → (r ≡ Proved n bytes)
+      ↔ (Ready D allowance before × MeansProved D (claimSystem D) allowance n × Fits D before (provedWith n)
+      × (bytes ≡ sheetLength (provedWith n) (D .ring)))
+  pub refuted : (n bytes : ℕ)
+      → (r ≡ Refuted n bytes)
+      ↔ (Ready D allowance before
+      × ((w : Word) × (size w ≡ n) × MeansRefuted D (claimSystem D) allowance w × Fits D before (refutedBy w)
+      × (bytes ≡ sheetLength (refutedBy w) (D .ring))))
   pub spent : (r ≡ Refused SpentAllowance 0) ↔ (Ready D allowance before × ((n : ℕ) × MeansSpent D (claimSystem D) allowance n))
   -- 11 exactly where there is an answer whose sheet is longer than the buffer
   pub buffer-short : (r ≡ Refused ShortBuffer 0)
       ↔ (Ready D allowance before
       × ((x : Answer) × AnswerMeans D (claimSystem D) allowance x × (length (before .buffer) < sheetLength x (D .ring))))
   -- the refuting word stands in the sheet at the start of the buffer
-  pub word : (w : Word) → MeansRefuted D (claimSystem D) allowance w → r ≡ Refuted (size w)
+  pub word : (w : Word) → MeansRefuted D (claimSystem D) allowance w → r ≡ Refuted (size w) (sheetLength (refutedBy w) (D .ring))
       → after .buffer ≡ refutedSheet w ++ drop (length (refutedSheet w)) (before .buffer)
 
 -- the same of a text that is an accepted query with a claim ("Standings" and "Refusals with an example each")

@@ -14,15 +14,16 @@ use Rattle.kat.specs.Lists.{filter}
 use Rattle.kat.proofs.Sets.{filter-same}
 use Rattle.claims.specs.Query.{bit}
 use Rattle.claims.specs.Fields.{numberSet}
-use Rattle.words.proofs.Words.{same-or-not}
+use Rattle.memory.proofs.Words.{same-or-not}
 use Rattle.bits.specs.Sets.{members}
 use Rattle.bits.proofs.Bit.{bit-and}
 use Rattle.bits.proofs.Members.{number-in, number-and, number-none}
 use Rattle.bits.proofs.Lowest.{Lowest, lowest}
 use Rattle.side_atoms.proofs.Atoms.{bit-not}
 use Rattle.standings.specs.Steps.{nullAt, endsSet}
-use Rattle.search_words.specs.PathWords.{pathEnds, pathFinals}
-use Rattle.search_words.specs.First.{firstOr, aloneAt, firstAlone}
+use Rattle.search_standings.specs.PathWords.{pathEnds, pathFinals}
+use Rattle.search_standings.specs.First.{firstOr, aloneAt, firstAlone}
+use Rattle.side_tables.specs.Layout.{NULL}
 use Rattle.search_path.proofs.Two.{first-read, second-read}
 
 module _ (f : ℕ → Bool) (w d : ℕ) where
@@ -51,7 +52,7 @@ lowest-first s h =
 
 module _ (left right : List ℕ) where
   -- the live atoms that are left words and no right words
-  pub alone-set : (live on off : ℕ) → on ≡ getD left 4240 0 → off ≡ getD right 4240 0 → off < 2 ^ 64
+  pub alone-set : (live on off : ℕ) → on ≡ getD left NULL 0 → off ≡ getD right NULL 0 → off < 2 ^ 64
       → members (bitAnd live (bitAnd on (2 ^ 64 - 1 - off))) ≡ filter (aloneAt left right) (members live)
   unfolding aloneAt nullAt
   alone-set live on off p q h =
@@ -62,7 +63,7 @@ module _ (left right : List ℕ) where
       ap (λ j. bit j (bitAnd on (2 ^ 64 - 1 - off))) z ∙ bit-and a on (2 ^ 64 - 1 - off)
       ∙ ap₂ _&&_ (ap (bit a) p) (bit-not 64 a off h v ∙ ap (λ j. not (bit a j)) q))
 
-  pub alone-first : (live on off : ℕ) → on ≡ getD left 4240 0 → off ≡ getD right 4240 0 → off < 2 ^ 64
+  pub alone-first : (live on off : ℕ) → on ≡ getD left NULL 0 → off ≡ getD right NULL 0 → off < 2 ^ 64
       → bitAnd live (bitAnd on (2 ^ 64 - 1 - off)) < 2 ^ 64
       → trailingZeros 64 (bitAnd live (bitAnd on (2 ^ 64 - 1 - off))) ≡ firstAlone left right live
   unfolding firstAlone

@@ -1,14 +1,14 @@
 -- Lent records as rows: a record at a place, one that is put, what a lookup has found, and the first of them zero.
 -- Assumes nothing.
-use Prim.Native.Nat.{ℕ, zero, suc, _≤_, _<_}
+use Prim.Native.Nat.{ℕ, zero, suc, _≤_}
 use native.Mathlib.Omega.{arith}
-use mathlib.Core.Path.{_≡_, refl, sym, _∙_, ap, subst}
+use mathlib.Core.Path.{_≡_, refl, sym, _∙_, ap}
 use mathlib.Core.Bool.{Bool, true, false, cond}
 use mathlib.Core.List.{List, [], _∷_, map}
 use lib.ListN.{length, getD, set, length-map}
 use Rattle.claims.specs.Calls.{cleared}
 use Rattle.search_records.specs.declared.Record.{Record}
-use Rattle.search_records.specs.Records.{blank, HasBoth, Found}
+use Rattle.search_records.specs.Records.{blank, Found}
 use Rattle.search_records.specs.Rows.{rowOf, rows, recordAt, FoundIn}
 use Rattle.search_records.proofs.Cleared.{map-cleared}
 

@@ -11,12 +11,12 @@ use lib.Dec.{eqb}
 use lib.ListN.{length, getD, take, drop}
 use Rattle.kat.specs.Lists.{upto}
 use Rattle.claims.specs.Standings.{Letter}
-use Rattle.words.specs.Memory.{zeros}
+use Rattle.memory.specs.Memory.{zeros}
 use Rattle.standings.specs.Steps.{stepFrom, stepSet, nullAt}
 use Rattle.standings.specs.Steps.{leads}
-use Rattle.search_words.specs.RingWords.{ringWords, beginColumn, opened, onwardColumn, flag, ringBegin, ringOnward}
-use Rattle.search_columns.specs.inner.Columns.{pushed, spreadOver, laidOut}
-use Rattle.search_columns.proofs.Columns.{wiped-length, wiped-column, wiped-behind, pushed-length, pushed-column, pushed-behind, spread-length, spread-column, spread-behind, laid-words, laid-behind}
+use Rattle.search_standings.specs.RingWords.{ringWords, beginColumn, opened, onwardColumn, flag, ringBegin, ringOnward}
+use Rattle.search_ring.specs.inner.Columns.{pushed, spreadOver, laidOut}
+use Rattle.search_ring.proofs.Columns.{wiped-length, wiped-column, wiped-behind, pushed-length, pushed-column, pushed-behind, spread-length, spread-column, spread-behind, laid-words, laid-behind}
 
 module _ (left right : List ℕ) (l : Letter) (to : List ℕ) (full : length to ≡ 40) where
   abbrev clean : List ℕ

@@ -24,14 +24,14 @@ use Rattle.claims.proofs.Verdict.{refuted-is-least}
 use Rattle.side_tables.specs.SideTable.{sideTable}
 use Rattle.query.specs.declared.Facts.{Facts}
 use Rattle.query.specs.Answer.{factsOf}
-use Rattle.search_words.specs.Systems.{wordSystem}
-use Rattle.search_words.specs.Over.{shown}
-use Rattle.search_words.proofs.PathShown.{pathOf}
-use Rattle.search_words.proofs.RingShown.{ringShown}
+use Rattle.search_standings.specs.Systems.{wordSystem}
+use Rattle.search_standings.specs.Over.{shown}
+use Rattle.search_standings.proofs.PathShown.{pathOf}
+use Rattle.search_standings.proofs.RingShown.{ringShown}
 use Rattle.search_contents.specs.FieldWords.{contentsWords}
 use Rattle.search_sheet.proofs.SheetShown.{path-sheet, ring-sheet}
 use Rattle.query.specs.Decided.{Decided}
-use Rattle.search_tried.specs.inner.Tried.{shapeOf, wordsVerdict}
+use Rattle.search_shape.specs.inner.Tried.{shapeOf, wordsVerdict}
 use Rattle.search_run.proofs.ByWords.{within-below, within-wider, within-rising, path-by-words, path-words-good, ring-by-words, ring-words-good}
 
 -- where the sheets are the same, the answers are

@@ -18,21 +18,21 @@ use Rattle.claims.proofs.Letters.{letters-in}
 use Rattle.side_tables.specs.SideTable.{sideTable}
 use Rattle.query.specs.declared.Facts.{Facts}
 use Rattle.query.specs.Answer.{factsOf}
-use Rattle.search_words.specs.declared.Shape.{Shape}
-use Rattle.search_words.specs.Systems.{wordSystem}
-use Rattle.search_words.specs.Over.{verdictOver, shown}
+use Rattle.search_standings.specs.declared.Shape.{Shape}
+use Rattle.search_standings.specs.Systems.{wordSystem}
+use Rattle.search_standings.specs.Over.{verdictOver, shown}
 use Rattle.standings.proofs.Shows.{Shows, AllFit}
-use Rattle.search_words.proofs.VerdictShown.{verdict-over-shown}
-use Rattle.search_words.proofs.GoodStandings.{AllListedGood, verdict-over-good}
+use Rattle.search_standings.proofs.VerdictShown.{verdict-over-shown}
+use Rattle.search_standings.proofs.GoodStandings.{AllListedGood, verdict-over-good}
 use Rattle.standings.proofs.LettersOf.{LettersOf}
-use Rattle.search_words.proofs.PathShown.{TwoWords, pathOf, path-shows}
-use Rattle.search_words.proofs.RingShown.{ringShown, GoodRing}
-use Rattle.search_words.proofs.RingVerdict.{ring-shows}
+use Rattle.search_standings.proofs.PathShown.{TwoWords, pathOf, path-shows}
+use Rattle.search_standings.proofs.RingShown.{ringShown, GoodRing}
+use Rattle.search_standings.proofs.RingVerdict.{ring-shows}
 use Rattle.search_grow.specs.Masks.{tried, lettersIn}
-use Rattle.search_atoms.proofs.Letters.{letters-by-live, letters-by-path-masks, letters-by-ring-masks}
-use Rattle.search_atoms.proofs.Verdicts.{path-verdict-over-kept, ring-verdict-over-kept}
-use Rattle.search_tried.specs.inner.Tried.{shapeOf, firstLetters, laterLetters, wordsVerdict}
-use Rattle.search_tried.proofs.Tried.{path-first, ring-first}
+use Rattle.search_alike.proofs.Letters.{letters-by-live, letters-by-path-masks, letters-by-ring-masks}
+use Rattle.search_alike.proofs.Verdicts.{path-verdict-over-kept, ring-verdict-over-kept}
+use Rattle.search_shape.specs.inner.Tried.{shapeOf, firstLetters, laterLetters, wordsVerdict}
+use Rattle.search_shape.proofs.Tried.{path-first, ring-first}
 
 -- lists that rise within a range
 within-above : (lo hi : ℕ) (l : List ℕ) → RisingWithin lo hi l → (b : ℕ) → In b l → lo ≤ b

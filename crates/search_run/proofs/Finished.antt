@@ -17,21 +17,21 @@ use Rattle.claims.specs.Calls.{Given, provedWith, refutedBy, answerOf, searched
 use Rattle.claims.specs.CallOrder.{zeroSlot}
 use Rattle.query.specs.declared.Facts.{Facts}
 use Rattle.query.specs.Answer.{factsOf}
-use Rattle.search_words.specs.Systems.{wordSystem}
+use Rattle.search_standings.specs.Systems.{wordSystem}
 use Rattle.search_contents.specs.FieldWords.{contentsWords}
-use Rattle.search_places.specs.Store.{Room}
+use Rattle.search_store.specs.Store.{Room}
 use Rattle.search_sheet.proofs.Steps.{room-below}
 use Rattle.search_sheet.proofs.PrefixIn.{holds-falls, prefix-kept}
 use Rattle.search_sheet.proofs.SheetKept.{proved-sheet, refuted-sheet}
 use Rattle.search_grow.specs.Kept.{state, Inside, Ready, standings, prefixes}
-use Rattle.search_course.specs.declared.Answer.{Answer as Found}
-use Rattle.search_course.specs.declared.Answer.the-variants.{Proved as FoundProof, Refuted as FoundWord, Spent}
+use Rattle.search_course.specs.declared.Finding.{Finding as Found}
+use Rattle.search_course.specs.declared.Finding.the-variants.{Proved as FoundProof, Refuted as FoundWord, Spent}
 use Rattle.search_course.specs.Answers.{Answered}
 use Rattle.search_outcomes.specs.declared.Outcome.{Outcome}
 use Rattle.search_outcomes.specs.Outcomes.{Gives}
-use Rattle.search_memory.specs.inner.Memory.{rowSlot, lentRows}
+use Rattle.search_shape.specs.inner.Memory.{rowSlot, lentRows}
 use Rattle.query.specs.Decided.{Decided}
-use Rattle.search_tried.specs.inner.Tried.{shapeOf, firstLetters, laterLetters, wordsVerdict}
+use Rattle.search_shape.specs.inner.Tried.{shapeOf, firstLetters, laterLetters, wordsVerdict}
 use Rattle.search_outcomes.specs.inner.Found.{Reportable, provedIn, refutedIn, foundIn, told, put, Reports}
 use Rattle.search_run.proofs.Answers.{OnWords, decided-on-words}
 use Rattle.search_records.proofs.Cleared.{cleared-same, map-cleared}
@@ -149,14 +149,14 @@ module _ (f : Facts) (left right : List ℕ) (cap : ℕ) (r₀ r₁ : List (List
   -- the outcome, and all that is lent afterwards
   pub run-gives : (r₂ : List (List ℕ)) (w₂ b₀ b₁ : List ℕ) (o : Outcome) → Reports (foundIn (f .ring) r₁ w₁ x) b₀ o b₁
       → ClearedBy (f .ring) cap r₁ r₂ w₁ w₂ → (D : Decision) → Decided f left right D
-      → Gives (finish D cap (lentRows r₀ w₀ b₀) (searched D cap)) o (lentRows r₂ w₂ b₁)
+      → Gives (searched D cap) (finish D cap (lentRows r₀ w₀ b₀) (searched D cap)) o (lentRows r₂ w₂ b₁)
   unfolding lentRows factsOf
-  run-gives r₂ w₂ b₀ b₁ o (s, e) wiped D d =
+  run-gives r₂ w₂ b₀ b₁ o (s, e, z) wiped D d =
       let on : OnWords f left right D cap = decided-on-words d cap in
       let same : searched D cap ≡ foundIn (f .ring) r₁ w₁ x = found-is on in
       let kind : D .ring ≡ f .ring = sym (ap (λ (g : Facts). g .ring) (d .facts)) in
-      subst⁻¹ (λ g. Gives (finish D cap (lentRows r₀ w₀ b₀) g) o (lentRows r₂ w₂ b₁)) same
-      (subst⁻¹ (λ z. Gives z o (lentRows r₂ w₂ b₁)) (finish-parts D cap (lentRows r₀ w₀ b₀) (foundIn (f .ring) r₁ w₁ x))
+      subst⁻¹ (λ g. Gives g (finish D cap (lentRows r₀ w₀ b₀) g) o (lentRows r₂ w₂ b₁)) same
+      (subst⁻¹ (λ y. Gives (foundIn (f .ring) r₁ w₁ x) y o (lentRows r₂ w₂ b₁)) (finish-parts D cap (lentRows r₀ w₀ b₀) (foundIn (f .ring) r₁ w₁ x))
       (record {
         says = s;
         leaves = parts
@@ -165,6 +165,7 @@ module _ (f : Facts) (left right : List ℕ) (cap : ℕ) (r₀ r₁ : List (List
             (words-left (f .ring) cap r₀ r₁ r₂ w₀ w₁ w₂ inside wiped (ready .room)
             ∙ ap (λ n. cleared 0 n w₀) (sym (needed-words D cap (f .ring) kind)))
             e;
+        sized = z;
       }))
     where
       parts : {a a′ : List Slot} {u u′ c c′ : List ℕ} → a ≡ a′ → u ≡ u′ → c ≡ c′

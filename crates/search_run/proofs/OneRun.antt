@@ -2,7 +2,7 @@
 -- search does.
 -- Assumes nothing.
 use Prim.Native.Nat.{ℕ, suc, _*_, _≤_}
-use mathlib.Core.Path.{_≡_, refl, sym, _∙_, subst}
+use mathlib.Core.Path.{_≡_, sym, subst}
 use mathlib.Core.Bool.{cond}
 use mathlib.Core.List.{List, [], _∷_}
 use lib.ListN.{length}
@@ -10,16 +10,16 @@ use Rattle.claims.specs.Sides.{Decision}
 use Rattle.claims.specs.Calls.{searched, finish, cleared}
 use Rattle.query.specs.declared.Facts.{Facts}
 use Rattle.query.specs.Decided.{Decided}
-use Rattle.search_words.specs.declared.Shape.{Shape}
-use Rattle.search_atoms.specs.Masks.{masksOf}
+use Rattle.search_standings.specs.declared.Shape.{Shape}
+use Rattle.search_alike.specs.Masks.{masksOf}
 use Rattle.search_grow.specs.Masks.{lettersIn}
 use Rattle.search_grow.specs.Kept.{state, Inside, Ready}
-use Rattle.search_course.specs.declared.Answer.{Answer as Found}
+use Rattle.search_course.specs.declared.Finding.{Finding as Found}
 use Rattle.search_course.specs.Answers.{Answered}
 use Rattle.search_outcomes.specs.declared.Outcome.{Outcome}
 use Rattle.search_outcomes.specs.Outcomes.{Gives}
-use Rattle.search_memory.specs.inner.Memory.{lentRows}
-use Rattle.search_tried.specs.inner.Tried.{shapeOf, firstMasks, firstLetters, laterLetters}
+use Rattle.search_shape.specs.inner.Memory.{lentRows}
+use Rattle.search_shape.specs.inner.Tried.{shapeOf, firstMasks, firstLetters, laterLetters}
 use Rattle.search_outcomes.specs.inner.Found.{Reportable, foundIn, Reports}
 use Rattle.search_run.proofs.Levels.{finds}
 use Rattle.search_run.proofs.Finished.{room-kept, reportable, run-gives, cleared-by, records-there, words-there}
@@ -58,7 +58,7 @@ module _ (f : Facts) (left right first later : List ℕ) (cap : ℕ) (r₀ : Lis
   -- which is what the search does
   pub run-done : (b₀ b₁ : List ℕ) (o : Outcome) → Reports (foundIn (f .ring) r₁ w₁ x) b₀ o b₁ → (n m : ℕ) → n ≡ cond (f .ring) 0 cap
       → m ≡ cond (f .ring) (40 * cap) 0 → (r₂ : List (List ℕ)) (w₂ : List ℕ) → r₂ ≡ cleared (0 ∷ 0 ∷ 0 ∷ 0 ∷ []) n r₁ → w₂ ≡ cleared 0 m w₁
-      → (D : Decision) → Decided f left right D → Gives (finish D cap (lentRows r₀ w₀ b₀) (searched D cap)) o (lentRows r₂ w₂ b₁)
+      → (D : Decision) → Decided f left right D → Gives (searched D cap) (finish D cap (lentRows r₀ w₀ b₀) (searched D cap)) o (lentRows r₂ w₂ b₁)
   run-done b₀ b₁ o told n m a b r₂ w₂ c d =
       run-gives f left right cap r₀ r₁ w₀ w₁ x ready (by-facts .0) answered r₂ w₂ b₀ b₁ o told
       (cleared-by (f .ring) cap r₁ r₂ w₁ w₂ n m a b c d)

@@ -20,31 +20,31 @@ use Rattle.search_outcomes.specs.declared.Outcome.{Outcome}
 use Rattle.search_outcomes.specs.declared.Outcome.the-variants.{Refused}
 use Rattle.search_outcomes.specs.Outcomes.{Gives}
 use Rattle.query.specs.Decided.{Decided}
-use Rattle.search_memory.specs.inner.Memory.{roomFor, lentRows}
-use Rattle.search_memory.proofs.Rooms.{room-by-test, enough-is}
+use Rattle.search_shape.specs.inner.Memory.{roomFor, lentRows}
+use Rattle.search_shape.proofs.Rooms.{room-by-test, enough-is}
 
 in-range : (cap : ℕ) → 1 ≤ cap → cap ≤ 4096 → (leb 1 cap && leb cap 4096) ≡ true
 in-range cap h k = and-both (le-leb 1 cap h) (le-leb cap 4096 k)
 
 module _ (a : Asked) (cap : ℕ) (m : Lent) where
-  out-of-range : (leb 1 cap && leb cap 4096) ≡ false → Gives (searchAsked a cap m) (Refused BadAllowance 0) m
+  out-of-range : (leb 1 cap && leb cap 4096) ≡ false → Gives (searched (a .decided) cap) (searchAsked a cap m) (Refused BadAllowance 0) m
   unfolding searchAsked causeOf
   out-of-range e =
       subst⁻¹
-      (λ b. Gives (elim b [
+      (λ b. Gives (searched (a .decided) cap) (elim b [
         | false ↦ record { result = refuse badAllowance 0; lent = m }
         | true ↦ elim (enoughMemory (a .decided) cap m) [
           | false ↦ record { result = refuse shortMemory 0; lent = m }
           | true ↦ finish (a .decided) cap m (searched (a .decided) cap)
         ]
       ]) (Refused BadAllowance 0) m)
-      e (record { says = (refl, refl); leaves = refl })
+      e (record { says = (refl, refl); leaves = refl; sized = tt })
 
   -- 9 for the allowance
-  pub none-gives : cap ≡ 0 → Gives (searchAsked a cap m) (Refused BadAllowance 0) m
+  pub none-gives : cap ≡ 0 → Gives (searched (a .decided) cap) (searchAsked a cap m) (Refused BadAllowance 0) m
   none-gives e = out-of-range (ap (λ b. b && leb cap 4096) (lt-leb 1 cap (omega arith)))
 
-  pub far-gives : (cap ≡ 0 → ⊥) → 4096 < cap → Gives (searchAsked a cap m) (Refused BadAllowance 0) m
+  pub far-gives : (cap ≡ 0 → ⊥) → 4096 < cap → Gives (searched (a .decided) cap) (searchAsked a cap m) (Refused BadAllowance 0) m
   far-gives n h = out-of-range (ap (λ b. leb 1 cap && b) (lt-leb cap 4096 h) ∙ ap (λ b. b && false) (le-leb 1 cap (omega (arith, n))))
 
   -- the test of the memory decides
@@ -84,17 +84,17 @@ module _ (f : Facts) (left right : List ℕ) (cap : ℕ) (r : List (List ℕ)) (
 
   -- 9 for the memory
   pub short-gives : not room ≡ true → (a : Asked) → Decided f left right (a .decided)
-      → Gives (searchAsked a cap (lentRows r w b)) (Refused ShortMemory 0) (lentRows r w b)
+      → Gives (searched (a .decided) cap) (searchAsked a cap (lentRows r w b)) (Refused ShortMemory 0) (lentRows r w b)
   unfolding causeOf
   short-gives t a d =
-      subst⁻¹ (λ z. Gives z (Refused ShortMemory 0) (lentRows r w b))
+      subst⁻¹ (λ z. Gives (searched (a .decided) cap) z (Refused ShortMemory 0) (lentRows r w b))
       (by-memory a cap (lentRows r w b) (omega (arith, some)) few false (enough a d false (not-true room t)))
-      (record { says = (refl, refl); leaves = refl })
+      (record { says = (refl, refl); leaves = refl; sized = tt })
 
   -- the search
   pub searched-gives : not room ≡ false → (o : Outcome) (m : Lent)
-      → ((D : Decision) → Decided f left right D → Gives (finish D cap (lentRows r w b) (searched D cap)) o m)
-      → (a : Asked) → Decided f left right (a .decided) → Gives (searchAsked a cap (lentRows r w b)) o m
+      → ((D : Decision) → Decided f left right D → Gives (searched D cap) (finish D cap (lentRows r w b) (searched D cap)) o m)
+      → (a : Asked) → Decided f left right (a .decided) → Gives (searched (a .decided) cap) (searchAsked a cap (lentRows r w b)) o m
   searched-gives t o m h a d =
-      subst⁻¹ (λ z. Gives z o m)
+      subst⁻¹ (λ z. Gives (searched (a .decided) cap) z o m)
       (by-memory a cap (lentRows r w b) (omega (arith, some)) few true (enough a d true (not-false room t))) (h (a .decided) d)

@@ -1,9 +1,11 @@
 // The search on a decision: refusals 9, 10 and 11, the sheet, and the lent memory that is left behind. (Document 01, "Standings" and "Refusals
 // with an example each".) After refusal 9 nothing is changed; after 10, 11 and an answer the needed working memory is zero.
+use layout::MOST_STANDINGS;
 use query::Facts;
 use refusals::Reason;
 use search_outcomes::Outcome;
 use search_records::Record;
+use side_tables::Table;
 ghost use Prim.Native.Nat.{_≤_, _<_};
 ghost use mathlib.Core.List.{List};
 ghost use lib.ListN.{replicate};
@@ -15,12 +17,13 @@ ghost use Rattle.search_records.specs.Rows.{rows};
 ghost use Rattle.search_grow.specs.Kept.{state, Ready};
 ghost use Rattle.search_outcomes.specs.Outcomes.{lentOf, Gives};
 ghost use Rattle.query.specs.Decided.{Decided};
+ghost use Rattle.layout.specs.Layout.{MOST-STANDINGS};
 
 // The search, its sheet, and the needed memory zero.
 fn run(
     f: Facts,
-    left: &[u64; 4241],
-    right: &[u64; 4241],
+    left: &Table,
+    right: &Table,
     allowance: usize,
     records: &mut [Record],
     words: &mut [u64],
@@ -29,19 +32,19 @@ fn run(
     requires { ⌜ Ready (f .ring) allowance (state (rows (now records)) (now words) 0) × (f .relations ≤ 16) ⌝ }
     ensures { λ r.
         ⌜ ((D : Decision) → Decided f (now (left .entry)) (now (right .entry)) D
-        → Gives (finish D allowance (lentOf (now (records .entry)) (now (words .entry)) (now (buffer .entry))) (searched D allowance)) r
+        → Gives (searched D allowance) (finish D allowance (lentOf (now (records .entry)) (now (words .entry)) (now (buffer .entry))) (searched D allowance)) r
         (lentOf (now (records .exit)) (now (words .exit)) (now (buffer .exit)))) ⌝ }
 {
     let mut first = [0u64; 16];
     let mut later = [0u64; 16];
-    search_tried::letters_tried(f, left, right, &mut first, &mut later);
-    let k = search_tried::shape_of(f);
+    search_shape::letters_tried(f, left, right, &mut first, &mut later);
+    let k = search_shape::shape_of(f);
     let found = search_levels::levels(k, allowance, left, right, &first, &later, records, words);
-    let r = search_report::report(f.ring, records, words, found, buffer);
-    let slots = search_memory::records_needed(f.ring, allowance);
+    let r = search_outcomes::report(f.ring, records, words, found, buffer);
+    let slots = search_shape::records_needed(f.ring, allowance);
     search_records::clear(records, slots);
-    let cells = search_memory::words_needed(f.ring, allowance);
-    search_memory::clear_words(words, cells);
+    let cells = search_shape::words_needed(f.ring, allowance);
+    search_shape::clear_words(words, cells);
     r
 }
 
@@ -49,8 +52,8 @@ fn run(
 // the buffer. Every decision of the reader has at most 16 relations, which is what is required.
 pub fn decide(
     f: Facts,
-    left: &[u64; 4241],
-    right: &[u64; 4241],
+    left: &Table,
+    right: &Table,
     allowance: usize,
     records: &mut [Record],
     words: &mut [u64],
@@ -59,17 +62,17 @@ pub fn decide(
     requires { ⌜ f .relations ≤ 16 ⌝ }
     ensures { λ r.
         ⌜ ((a : Asked) → Decided f (now (left .entry)) (now (right .entry)) (a .decided)
-        → Gives (searchAsked a allowance (lentOf (now (records .entry)) (now (words .entry)) (now (buffer .entry)))) r
+        → Gives (searched (a .decided) allowance) (searchAsked a allowance (lentOf (now (records .entry)) (now (words .entry)) (now (buffer .entry)))) r
         (lentOf (now (records .exit)) (now (words .exit)) (now (buffer .exit)))) ⌝ }
 {
     if allowance == 0 {
         return Outcome::Refused(Reason::BadAllowance, 0);
     }
-    if 4096 < allowance {
+    if MOST_STANDINGS < allowance {
         return Outcome::Refused(Reason::BadAllowance, 0);
     }
     let slots = search_records::count(records);
-    let room = search_memory::enough(f.ring, allowance, slots, words);
+    let room = search_shape::enough(f.ring, allowance, slots, words);
     if !room {
         return Outcome::Refused(Reason::ShortMemory, 0);
     }
@@ -80,8 +83,8 @@ pub fn decide(
 // relations, which is what is required.
 pub fn decide_alone(
     f: Facts,
-    left: &[u64; 4241],
-    right: &[u64; 4241],
+    left: &Table,
+    right: &Table,
     allowance: usize,
     words: &mut [u64],
     buffer: &mut [u8],
@@ -89,7 +92,7 @@ pub fn decide_alone(
     requires { ⌜ f .relations ≤ 16 ⌝ }
     ensures { λ r.
         ⌜ ((after : List Record) × ((a : Asked) → Decided f (now (left .entry)) (now (right .entry)) (a .decided)
-        → Gives (searchAsked a allowance (lentOf (replicate 4096 blank) (now (words .entry)) (now (buffer .entry)))) r
+        → Gives (searched (a .decided) allowance) (searchAsked a allowance (lentOf (replicate MOST-STANDINGS blank) (now (words .entry)) (now (buffer .entry)))) r
         (lentOf after (now (words .exit)) (now (buffer .exit))))) ⌝ }
 {
     let mut records = [Record {
@@ -97,6 +100,6 @@ pub fn decide_alone(
         s: 0,
         parent: 0,
         letter: 0,
-    }; 4096];
+    }; MOST_STANDINGS];
     decide(f, left, right, allowance, &mut records, words, buffer)
 }

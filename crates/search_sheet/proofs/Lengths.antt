@@ -10,7 +10,7 @@ use lib.ListN.{length, length-append}
 use Rattle.kat.specs.Lists.{counted, upto}
 use Rattle.claims.specs.Fields.{field}
 use Rattle.claims.proofs.Bytes.{field-length}
-use Rattle.search_places.specs.Store.{standingAt}
+use Rattle.search_store.specs.Store.{standingAt}
 use Rattle.search_contents.specs.FieldWords.{fieldWords, fieldLength}
 use Rattle.search_contents.proofs.Fields.{field-count}
 use Rattle.search_sheet.specs.SheetWords.{wordSheet, fieldsFrom, provedSheet}

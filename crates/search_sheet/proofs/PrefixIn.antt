@@ -8,7 +8,7 @@ use mathlib.Core.Bool.{Bool}
 use mathlib.Core.List.{List}
 use Rattle.kat.specs.Ring.{Prefix, nothing, then}
 use Rattle.claims.specs.Verdicts.{relationsIn}
-use Rattle.search_places.specs.Store.{parentAt, letterAt, prefixAt, Holds}
+use Rattle.search_store.specs.Store.{parentAt, letterAt, prefixAt, Holds}
 use Rattle.search_sheet.specs.SheetWords.{Falling, prefixWithin, prefixIn}
 
 module _ (ring : Bool) (r : List (List ℕ)) (w : List ℕ) (n : ℕ) (falls : Falling ring r w n) where

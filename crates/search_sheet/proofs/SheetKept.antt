@@ -13,9 +13,9 @@ use Rattle.claims.specs.Fields.{bigEndian, field}
 use Rattle.claims.specs.Search.{proved, refuted}
 use Rattle.claims.specs.SheetBytes.{standingFields, sheetBytes}
 use Rattle.claims.specs.SheetWriting.{AllBytes}
-use Rattle.search_words.specs.declared.Shape.{Shape}
-use Rattle.search_words.specs.Systems.{wordSystem}
-use Rattle.search_places.specs.Store.{standingAt, prefixAt, Holds}
+use Rattle.search_standings.specs.declared.Shape.{Shape}
+use Rattle.search_standings.specs.Systems.{wordSystem}
+use Rattle.search_store.specs.Store.{standingAt, prefixAt, Holds}
 use Rattle.search_contents.specs.FieldWords.{contentsWords, fieldWords}
 use Rattle.search_sheet.specs.SheetWords.{prefixBytes, wordSheet, wordBytes, fieldsFrom, provedSheet, refutedSheet}
 use Rattle.search_sheet.proofs.PrefixIn.{prefix-kept}

@@ -13,12 +13,12 @@ use Rattle.claims.specs.Sides.{Decision}
 use Rattle.claims.specs.Standings.{System, pathSystem, ringSystem}
 use Rattle.claims.specs.Search.{Verdict, proved, refuted, spent}
 use Rattle.claims.specs.SheetBytes.{pathBytes, ringBytes, standingFields, sheetBytes}
-use Rattle.search_words.specs.declared.Shape.{Shape}
-use Rattle.search_words.specs.Systems.{wordSystem}
-use Rattle.search_words.specs.Over.{shown}
-use Rattle.search_words.proofs.GoodStandings.{AllListedGood}
-use Rattle.search_words.proofs.PathShown.{TwoWords, pathOf}
-use Rattle.search_words.proofs.RingShown.{ringShown, GoodRing}
+use Rattle.search_standings.specs.declared.Shape.{Shape}
+use Rattle.search_standings.specs.Systems.{wordSystem}
+use Rattle.search_standings.specs.Over.{shown}
+use Rattle.search_standings.proofs.GoodStandings.{AllListedGood}
+use Rattle.search_standings.proofs.PathShown.{TwoWords, pathOf}
+use Rattle.search_standings.proofs.RingShown.{ringShown, GoodRing}
 use Rattle.search_contents.specs.FieldWords.{contentsWords}
 use Rattle.search_contents.proofs.FieldShown.{path-contents, ring-contents}
 

@@ -12,7 +12,7 @@ use Rattle.claims.specs.Fields.{bigEndian, field}
 use Rattle.claims.specs.Verdicts.{relationsIn}
 use Rattle.claims.proofs.Bytes.{bigEndian-length}
 use Rattle.standings.proofs.Upto.{upto-more}
-use Rattle.search_places.specs.Store.{standingAt, parentAt, letterAt, Room}
+use Rattle.search_store.specs.Store.{standingAt, parentAt, letterAt, Room}
 use Rattle.search_contents.specs.Written.{written, over}
 use Rattle.search_contents.specs.FieldWords.{fieldWords, fieldLength}
 use Rattle.search_contents.proofs.Written.{written-next, over-none, over-next}
@@ -48,6 +48,10 @@ module _ (ring : Bool) (r : List (List ℕ)) (w : List ℕ) where
   fields-end at i n xs h =
       let z : 0 ≡ n - i = omega arith in
       sym (over-none at xs) ∙ ap (λ k. over at (fieldsFrom ring r w (counted i k)) xs) z
+
+  pub fields-done : (i n : ℕ) → n ≤ i → length (fieldsFrom ring r w (upto i n)) ≡ 0
+  unfolding fieldsFrom
+  fields-done i n h = let z : n - i ≡ 0 = omega arith in ap (λ k. length (fieldsFrom ring r w (counted i k))) z
 
 -- bytes behind the verdict's field
 pub verdict-length : (v : ℕ) → length (field 1 (bigEndian 1 v)) ≡ 4

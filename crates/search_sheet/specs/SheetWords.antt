@@ -8,7 +8,7 @@ use mathlib.Core.List.{List, [], _∷_, _++_}
 use Rattle.kat.specs.Lists.{upto}
 use Rattle.kat.specs.Ring.{Prefix, nothing, then}
 use Rattle.claims.specs.Fields.{bigEndian, field}
-use Rattle.search_places.specs.Store.{standingAt, parentAt, letterAt}
+use Rattle.search_store.specs.Store.{standingAt, parentAt, letterAt}
 use Rattle.search_contents.specs.FieldWords.{fieldWords}
 
 -- a letter, 16 * atom + relation, as two bytes: the atom, and the relation behind it ("Sheet and graph bytes")

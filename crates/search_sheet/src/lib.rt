@@ -3,10 +3,15 @@
 // words. Each field is put at the start of the part of the buffer that is not written yet, and its writer returns how many bytes it put
 // there; the buffer around it is left as it is. What is required of the room in it is what the search call has tested (refusal 11), and of the
 // memory what the search leaves there.
+use layout::MOST_STANDINGS;
+use layout::PATH_FIELD;
+use layout::RING_FIELD;
+use layout::RING_WORDS;
+use layout::VERDICT;
+use search_fields::put_big_endian;
+use search_fields::put_bytes;
+use search_fields::put_header;
 use search_fields::put_standing;
-use search_numbers::put_bytes;
-use search_numbers::put_header;
-use search_numbers::put_number;
 use search_records::Record;
 ghost use Prim.Native.Nat.{ℕ, _+_, _*_, _≤_};
 ghost use mathlib.Core.Path.{_≡_};
@@ -15,44 +20,45 @@ ghost use mathlib.Core.List.{List};
 ghost use lib.ListN.{length};
 ghost use Rattle.claims.specs.Fields.{bigEndian, field};
 ghost use Rattle.search_records.specs.Rows.{recordAt};
-ghost use Rattle.search_places.specs.Store.{standingAt};
+ghost use Rattle.search_store.specs.Store.{standingAt};
 ghost use Rattle.search_contents.specs.Written.{written, over};
 ghost use Rattle.search_contents.specs.FieldWords.{fieldWords, fieldLength};
+ghost use Rattle.layout.specs.Layout.{RING-WORDS, HEADER, VERDICT, MOST-STANDINGS};
 ghost use Rattle.search_sheet.specs.SheetWords.{letterBytes};
 
 // How many bytes the sheet of a proved claim with n standings has.
 pub fn proved_length(ring: bool, n: usize) -> usize
-    requires { ⌜ n ≤ 4096 ⌝ }
-    ensures { λ r. ⌜ r ≡ 4 + fieldLength ring * n ⌝ }
+    requires { ⌜ n ≤ MOST-STANDINGS ⌝ }
+    ensures { λ r. ⌜ r ≡ VERDICT + fieldLength ring * n ⌝ }
 {
     if ring {
-        return 4 + 269 * n;
+        return VERDICT + RING_FIELD * n;
     }
-    4 + 19 * n
+    VERDICT + PATH_FIELD * n
 }
 
 // How many bytes the numbers of the longest word have: 4,096 letters of two, and the last atom.
-pub const LONGEST: usize = 2 * 4096 + 1;
+pub const LONGEST: usize = 2 * MOST_STANDINGS + 1;
 
 // The verdict's field: 1 for proved, 2 for refuted.
 pub fn put_verdict(out: &mut [u8], v: u64) -> usize
-    requires { ⌜ 4 ≤ length (now out) ⌝ }
-    ensures { λ r. ⌜ (r ≡ 4) × (now (out .exit) ≡ written (field 1 (bigEndian 1 v)) (now (out .entry))) ⌝ }
+    requires { ⌜ VERDICT ≤ length (now out) ⌝ }
+    ensures { λ r. ⌜ (r ≡ VERDICT) × (now (out .exit) ≡ written (field 1 (bigEndian 1 v)) (now (out .entry))) ⌝ }
 {
     let contents = put_header(out, 1, 1);
-    put_number(out, contents, 1, v)
+    put_big_endian(out, contents, 1, v)
 }
 
 // The field of standing i.
 pub fn put_kept(ring: bool, from: Record, words: &[u64], i: usize, out: &mut [u8]) -> usize
-    requires { ⌜ (ring ≡ true → 40 * (i + 1) ≤ length (now words)) ⌝ }
+    requires { ⌜ (ring ≡ true → RING-WORDS * (i + 1) ≤ length (now words)) ⌝ }
     requires { ⌜ fieldLength ring ≤ length (now out) ⌝ }
     ensures { λ n.
         ⌜ (n ≡ fieldLength ring) × ((r : List (List ℕ)) → from ≡ recordAt r i
         → now (out .exit) ≡ written (fieldWords ring (standingAt ring r (now (words .entry)) i)) (now (out .entry))) ⌝ }
 {
-    let mut s = [0u64; 40];
-    search_places::stand(ring, from, words, i, &mut s);
+    let mut s = [0u64; RING_WORDS];
+    search_store::stand(ring, from, words, i, &mut s);
     put_standing(ring, &s, out)
 }
 
@@ -61,15 +67,15 @@ pub fn put_letter(out: &mut [u8], at: usize, l: u64)
     requires { ⌜ at + 2 ≤ length (now out) ⌝ }
     ensures { λ r. ⌜ now (out .exit) ≡ over at (letterBytes l) (now (out .entry)) ⌝ }
 {
-    let second = put_number(out, at, 1, l / 16);
-    put_number(out, second, 1, l % 16);
+    let second = put_big_endian(out, at, 1, l / 16);
+    put_big_endian(out, second, 1, l % 16);
 }
 
 // The word's field, with the numbers of the word for its contents.
 pub fn put_word(out: &mut [u8], contents: &[u8]) -> usize
-    requires { ⌜ 3 + length (now contents) ≤ length (now out) ⌝ }
+    requires { ⌜ HEADER + length (now contents) ≤ length (now out) ⌝ }
     ensures { λ r.
-        ⌜ (r ≡ 3 + length (now (contents .entry))) × (now (out .exit) ≡ written (field 2 (now (contents .entry))) (now (out .entry))) ⌝ }
+        ⌜ (r ≡ HEADER + length (now (contents .entry))) × (now (out .exit) ≡ written (field 2 (now (contents .entry))) (now (out .entry))) ⌝ }
 {
     let at = put_header(out, 2, contents.len() as u64);
     put_bytes(out, at, contents)

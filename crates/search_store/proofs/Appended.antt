@@ -9,11 +9,11 @@ use mathlib.Core.List.{List, [], _∷_}
 use lib.ListN.{length, getD, set, drop, length-set, length-drop, List·getD-eq-default}
 use lib.Seq.{ext-getD, getD-drop, getD-set-same, getD-set-other, drop-set-lt}
 use Rattle.kat.proofs.Bools.{lt-or-le}
-use Rattle.words.specs.Memory.{words}
-use Rattle.words.proofs.Words.{words-same, changed-out, below, above}
-use Rattle.search_words.specs.Systems.{width}
-use Rattle.search_places.specs.Store.{fieldAt, standingAt, parentAt, letterAt, standingIn, Room, copied, recordsAfter, wordsAfter}
-use Rattle.search_places.proofs.Standing.{copy-at, copied-length}
+use Rattle.memory.specs.Memory.{words}
+use Rattle.memory.proofs.Words.{words-same, changed-out, below, above}
+use Rattle.search_standings.specs.Systems.{width}
+use Rattle.search_store.specs.Store.{fieldAt, standingAt, parentAt, letterAt, standingIn, Room, copied, recordsAfter, wordsAfter}
+use Rattle.search_store.proofs.Standing.{copy-at, copied-length}
 
 -- 34 words put at a place change nothing else
 module _ (to : List ℕ) (at : ℕ) (from : List ℕ) (base : ℕ) where

@@ -13,9 +13,9 @@ use Rattle.kat.specs.Ring.{Prefix, nothing, then}
 use Rattle.kat.proofs.Bools.{or-left, or-right, false-of-not}
 use Rattle.claims.specs.Bytes.{same}
 use Rattle.claims.proofs.Results.{same-is-equal, same-self}
-use Rattle.words.proofs.Words.{words-same}
-use Rattle.search_words.specs.Systems.{width}
-use Rattle.search_places.specs.Store.{fieldAt, standingAt, parentAt, letterAt, standingIn, Room, Place, recordsAfter, wordsAfter, prefixAt, Holds}
+use Rattle.memory.proofs.Words.{words-same}
+use Rattle.search_standings.specs.Systems.{width}
+use Rattle.search_store.specs.Store.{fieldAt, standingAt, parentAt, letterAt, standingIn, Room, Place, recordsAfter, wordsAfter, prefixAt, Holds}
 use Rattle.search_store.proofs.Appended.{field-below, standing-here, parent-here, letter-here}
 
 -- nothing is kept

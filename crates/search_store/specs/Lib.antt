@@ -1,0 +1,2 @@
+-- What stands in the memory of standings, and the entries that it keeps.
+pub mod Store

@@ -3,7 +3,7 @@
 -- Assumes nothing.
 use Prim.Native.Nat.{ℕ, _+_, _*_, _-_, _/_, _≤_, _<_}
 use native.Mathlib.Omega.{arith}
-use mathlib.Core.Path.{_≡_, refl, _∙_, ap, ap₂, subst, subst⁻¹}
+use mathlib.Core.Path.{_≡_, refl, sym, _∙_, ap, ap₂, subst, subst⁻¹}
 use mathlib.Core.Bool.{Bool, true, false}
 use mathlib.Core.List.{List, [], _∷_, _++_, append-nil}
 use lib.ListN.{length, take, drop, length-append, length-drop, drop-of-length-le}
@@ -11,35 +11,36 @@ use lib.Seq.{take-all}
 use Rattle.kat.specs.Lists.{upto}
 use Rattle.claims.specs.Fields.{bigEndian, field}
 use Rattle.claims.proofs.Bytes.{bigEndian-length, field-length}
-use Rattle.search_places.specs.Store.{standingAt, parentAt, letterAt, Room}
+use Rattle.search_store.specs.Store.{standingAt, parentAt, letterAt, Room}
 use Rattle.search_contents.specs.Written.{written, over}
 use Rattle.search_contents.specs.FieldWords.{fieldWords, fieldLength}
 use Rattle.search_contents.proofs.Written.{length-over, length-written, drop-over}
 use Rattle.search_contents.proofs.Fields.{field-count}
 use Rattle.search_sheet.specs.SheetWords.{wordSheet, Falling, prefixIn, letterBytes, prefixBytes, wordBytes, fieldsFrom, provedSheet, refutedSheet}
-use Rattle.search_sheet.proofs.Steps.{fields-more, fields-count, fields-end, verdict-length, behind-verdict, letters-more, letters-end, letter-length, word-length}
+use Rattle.search_sheet.proofs.Steps.{fields-more, fields-count, fields-end, fields-done, verdict-length, behind-verdict, letters-more, letters-end, letter-length, word-length}
 use Rattle.search_sheet.proofs.Lengths.{proved-sheet-length, word-sheet-length}
 use Rattle.search_writing.specs.declared.Writing.{Writing}
 use Rattle.search_writing.specs.Left.{looksAt, atEnd, Ended, WordEnded, FieldsLeft, LettersLeft, ProofStands, WordStands, proofTurns, wordTurns}
 
 -- the sheet of a word, by its numbers
 module _ (numbers b₀ : List ℕ) (x : Writing) where
-  pub word-short : length b₀ < 7 + length numbers → x ≡ atEnd true (length numbers / 2)
+  pub word-short : length b₀ < 7 + length numbers → x ≡ atEnd true (length numbers / 2) 0
       → WordEnded numbers b₀ x b₀
   word-short h e =
       subst⁻¹ (λ y. WordEnded numbers b₀ y b₀) e
       (refl, (omega (arith, word-sheet-length numbers), refl))
 
-  pub word-put : (at : ℕ) (b b′ : List ℕ) → 7 + length numbers ≤ length b₀ → (at ≡ 4) × (b ≡ written (field 1 (bigEndian 1 2)) b₀)
-      → b′ ≡ over at (field 2 numbers) b → x ≡ atEnd false (length numbers / 2)
+  pub word-put : (at l : ℕ) (b b′ : List ℕ) → l ≡ 7 + length numbers → l ≤ length b₀ → (at ≡ 4) × (b ≡ written (field 1 (bigEndian 1 2)) b₀)
+      → b′ ≡ over at (field 2 numbers) b → x ≡ atEnd false (length numbers / 2) l
       → WordEnded numbers b₀ x b′
   unfolding wordSheet bigEndian
-  word-put at b b′ h verdict put e =
+  word-put at l b b′ s h verdict put e =
       subst⁻¹ (λ y. WordEnded numbers b₀ y b′) e (
         refl,
         (
           omega (arith, word-sheet-length numbers),
           put ∙ ap₂ (λ k xs. over k (field 2 numbers) xs) (verdict .0) (verdict .1) ∙ behind-verdict 2 (field 2 numbers) b₀,
+          omega (arith, word-sheet-length numbers),
         ),
       )
 
@@ -50,7 +51,7 @@ part-all at xs = take-all (length xs - at) (drop at xs) (omega (arith, length-dr
 module _ (ring : Bool) (r : List (List ℕ)) (w b₀ : List ℕ) where
   -- the sheet of a proved claim with n standings
   module _ (n : ℕ) (x : Writing) where
-    pub fields-short : (l : ℕ) → l ≡ 4 + fieldLength ring * n → length b₀ < l → x ≡ atEnd true 0 → ProofStands ring r w b₀ n x b₀
+    pub fields-short : (l : ℕ) → l ≡ 4 + fieldLength ring * n → length b₀ < l → x ≡ atEnd true 0 0 → ProofStands ring r w b₀ n x b₀
     fields-short l s h e = subst⁻¹ (λ y. ProofStands ring r w b₀ n y b₀) e (omega (arith, proved-sheet-length ring r w n), refl)
 
     module _ (l : ℕ) (s : l ≡ 4 + fieldLength ring * n) (fits : l ≤ length b₀) (to : ℕ) (b : List ℕ)
@@ -72,14 +73,20 @@ module _ (ring : Bool) (r : List (List ℕ)) (w b₀ : List ℕ) where
             ap length (put .1) ∙ length-written (field 1 (bigEndian 1 1)) b₀ (omega (arith, verdict-length 1)),
           )
 
+      ends : to + length (fieldsFrom ring r w (upto 0 n)) ≡ length (provedSheet ring r w n)
+      unfolding provedSheet
+      ends =
+          omega (arith, put .0, length-append (field 1 (1 ∷ [])) (fieldsFrom ring r w (upto 0 n)), field-length 1 (1 ∷ []))
+
       pub fields-begun : Room ring r w n → 0 < n → x ≡ looksAt 0 to → ProofStands ring r w b₀ n x b
       fields-begun room h e =
           subst⁻¹ (λ y. ProofStands ring r w b₀ n y b) e
-          (record { room = room; below = h; fits = omega (arith, proved-sheet-length ring r w n); free = free; left = behind })
+          (record { room = room; below = h; fits = omega (arith, proved-sheet-length ring r w n); free = free; ends = ends; left = behind })
 
-      pub fields-none : n ≤ 0 → x ≡ atEnd false 0 → ProofStands ring r w b₀ n x b
+      pub fields-none : n ≤ 0 → x ≡ atEnd false 0 l → ProofStands ring r w b₀ n x b
       fields-none h e =
-          subst⁻¹ (λ y. ProofStands ring r w b₀ n y b) e (omega (arith, proved-sheet-length ring r w n), fields-end ring r w to 0 n b h ∙ behind)
+          subst⁻¹ (λ y. ProofStands ring r w b₀ n y b) e
+          (omega (arith, proved-sheet-length ring r w n), fields-end ring r w to 0 n b h ∙ behind, s ∙ sym (proved-sheet-length ring r w n))
 
     module _ (i to more : ℕ) (b b′ : List ℕ) (h : FieldsLeft ring r w b₀ n i to b) (count : more ≡ fieldLength ring)
         (put : b′ ≡ over to (fieldWords ring (standingAt ring r w i)) b) where
@@ -104,15 +111,19 @@ module _ (ring : Bool) (r : List (List ℕ)) (w b₀ : List ℕ) where
                 fields-count ring r w i n (h .below),
                 ap length put ∙ length-over to (fieldWords ring (standingAt ring r w i)) b here,
               );
+              ends = omega (arith, h .ends, fields-count ring r w i n (h .below));
               left = left-behind;
             },
             omega arith,
           )
 
-      pub fields-last : n ≤ i + 1 → x ≡ atEnd false 0 → ProofStands ring r w b₀ n x b′ × (proofTurns n x < n - i)
+      pub fields-last : n ≤ i + 1 → x ≡ atEnd false 0 (to + more) → ProofStands ring r w b₀ n x b′ × (proofTurns n x < n - i)
       fields-last l e =
           subst⁻¹ (λ y. ProofStands ring r w b₀ n y b′ × (proofTurns n y < n - i)) e
-          ((h .fits, fields-end ring r w (to + more) (i + 1) n b′ l ∙ left-behind), omega (arith, h .below))
+          ((h .fits, fields-end ring r w (to + more) (i + 1) n b′ l ∙ left-behind, whole), omega (arith, h .below))
+        where
+          whole : to + more ≡ length (provedSheet ring r w n)
+          whole = omega (arith, h .ends, fields-count ring r w i n (h .below), fields-done ring r w (i + 1) n l)
 
   -- the sheet of the word of a place and a last atom
   module _ (place last : ℕ) (x : Writing) where
@@ -123,7 +134,7 @@ module _ (ring : Bool) (r : List (List ℕ)) (w b₀ : List ℕ) where
     word-told numbers word b all t =
         subst⁻¹ (λ y. WordStands ring r w b₀ place last y word b) (t .0) (
           omega (arith, ap length all, word-length ring r w place last),
-          subst (λ ns. Ended (wordSheet ns) b₀ (x .short) b) all (t .1),
+          subst (λ ns. Ended (wordSheet ns) b₀ (x .short) (x .to) b) all (t .1),
         )
 
     -- the last atom, at the end of the array
@@ -198,6 +209,6 @@ module _ (ring : Bool) (r : List (List ℕ)) (w b₀ : List ℕ) where
           → WordStands ring r w b₀ place last x word′ b′ × (wordTurns x < i + 1)
       letters-last numbers b′ part z t = (
         word-told numbers word′ b′ (part ∙ part-all (to - 2) word′ ∙ letters-end ring r w p (drop (to - 2) word′) z ∙ letters-left p refl)
-            (t .0, subst (λ xs. Ended (wordSheet numbers) xs (x .short) b′) (h .same) (t .1)),
+            (t .0, subst (λ xs. Ended (wordSheet numbers) xs (x .short) (x .to) b′) (h .same) (t .1)),
         subst⁻¹ (λ y. wordTurns y < i + 1) (t .0) (omega arith),
       )

@@ -9,7 +9,7 @@ use mathlib.Core.List.{List, _++_}
 use lib.ListN.{length, drop}
 use Rattle.kat.specs.Lists.{upto}
 use Rattle.claims.specs.Verdicts.{relationsIn}
-use Rattle.search_places.specs.Store.{Room}
+use Rattle.search_store.specs.Store.{Room}
 use Rattle.search_contents.specs.Written.{written, over}
 use Rattle.search_sheet.specs.SheetWords.{wordSheet, Falling, prefixIn, prefixBytes, wordBytes, fieldsFrom, provedSheet, refutedSheet}
 use Rattle.search_writing.specs.declared.Writing.{Writing}
@@ -18,18 +18,19 @@ use Rattle.search_writing.specs.declared.Writing.{Writing}
 abbrev pub looksAt : ℕ → ℕ → Writing
 looksAt i to = record { going = true; short = false; at = i; to = to; count = 0 }
 
--- no standing is left to be looked at, and the buffer was too short or not
-abbrev pub atEnd : Bool → ℕ → Writing
-atEnd short n = record { going = false; short = short; at = 0; to = 0; count = n }
+-- no standing is left to be looked at, and the buffer was too short or not, or the sheet has so many bytes
+abbrev pub atEnd : Bool → ℕ → ℕ → Writing
+atEnd short n to = record { going = false; short = short; at = 0; to = to; count = n }
 
--- a buffer b₀ afterwards: it was too short for the sheet and is as it was, or has the sheet at its start ("Refusals with an example each", 11)
-abbrev pub Ended : List ℕ → List ℕ → Bool → List ℕ → Type 0
-Ended sheet b₀ true b = (length b₀ < length sheet) × (b ≡ b₀)
-Ended sheet b₀ false b = (length sheet ≤ length b₀) × (b ≡ written sheet b₀)
+-- a buffer b₀ afterwards: it was too short for the sheet and is as it was, or has the sheet at its start, of so many bytes ("Refusals with an
+-- example each", 11)
+abbrev pub Ended : List ℕ → List ℕ → Bool → ℕ → List ℕ → Type 0
+Ended sheet b₀ true to b = (length b₀ < length sheet) × (b ≡ b₀)
+Ended sheet b₀ false to b = (length sheet ≤ length b₀) × (b ≡ written sheet b₀) × (to ≡ length sheet)
 
 -- the end of the sheet of a word with these numbers, of which each second one is a relation ("Sheet and graph bytes")
 abbrev pub WordEnded : List ℕ → List ℕ → Writing → List ℕ → Type 0
-WordEnded numbers b₀ x b = (x ≡ atEnd (x .short) (length numbers / 2)) × Ended (wordSheet numbers) b₀ (x .short) b
+WordEnded numbers b₀ x b = (x ≡ atEnd (x .short) (length numbers / 2) (x .to)) × Ended (wordSheet numbers) b₀ (x .short) (x .to) b
 
 module _ (ring : Bool) (r : List (List ℕ)) (w b₀ : List ℕ) where
   -- of n standings, those from i on are left, with their fields from place `to` on ("Sheet and graph bytes")
@@ -38,6 +39,7 @@ module _ (ring : Bool) (r : List (List ℕ)) (w b₀ : List ℕ) where
     pub below : i < n
     pub fits : length (provedSheet ring r w n) ≤ length b₀
     pub free : to + length (fieldsFrom ring r w (upto i n)) ≤ length b
+    pub ends : to + length (fieldsFrom ring r w (upto i n)) ≡ length (provedSheet ring r w n)
     pub left : over to (fieldsFrom ring r w (upto i n)) b ≡ written (provedSheet ring r w n) b₀
 
   -- of the word of a place and a last atom, the letters of the prefix that standing i ends are left, and what is behind them stands in the
@@ -54,7 +56,7 @@ module _ (ring : Bool) (r : List (List ℕ)) (w b₀ : List ℕ) where
   -- what holds of the sheet of a proved claim with n standings, whether it goes on or not
   abbrev pub ProofStage : ℕ → Bool → Writing → List ℕ → Type 0
   ProofStage n true x b = FieldsLeft n (x .at) (x .to) b
-  ProofStage n false x b = Ended (provedSheet ring r w n) b₀ (x .short) b
+  ProofStage n false x b = Ended (provedSheet ring r w n) b₀ (x .short) (x .to) b
 
   abbrev pub ProofStands : ℕ → Writing → List ℕ → Type 0
   ProofStands n x b = ProofStage n (x .going) x b
@@ -63,7 +65,7 @@ module _ (ring : Bool) (r : List (List ℕ)) (w b₀ : List ℕ) where
   abbrev pub WordStage : ℕ → ℕ → Bool → Writing → List ℕ → List ℕ → Type 0
   WordStage place last true x word b = LettersLeft place last (x .at) (x .to) word b
   WordStage place last false x word b =
-      (x .count ≡ relationsIn (prefixIn ring r w place)) × Ended (refutedSheet ring r w place last) b₀ (x .short) b
+      (x .count ≡ relationsIn (prefixIn ring r w place)) × Ended (refutedSheet ring r w place last) b₀ (x .short) (x .to) b
 
   abbrev pub WordStands : ℕ → ℕ → Writing → List ℕ → List ℕ → Type 0
   WordStands place last x word b = WordStage place last (x .going) x word b

@@ -3,6 +3,7 @@
 // well-formed sheet that does not pass. It uses nothing of the search.
 use query::Answer;
 use sheet_checked::Checked;
+use side_tables::TABLE;
 ghost use mathlib.Core.Path.{_≡_};
 ghost use Rattle.claims.specs.Calls.{check-call};
 ghost use Rattle.sheet_checked.specs.Checks.{Says};
@@ -16,8 +17,8 @@ pub fn check(text: &[u8], sheet: &[u8]) -> Checked
     ensures proved { λ r. ⌜ (r ≡ Proved → HoldsInEveryGraph (now (text .entry))) ⌝ }
     ensures refuted { λ r. ⌜ (r ≡ Refuted → DrawnGraphBreaks (now (text .entry)) (now (sheet .entry))) ⌝ }
 {
-    let mut left = [0u64; 4241];
-    let mut right = [0u64; 4241];
+    let mut left = [0u64; TABLE];
+    let mut right = [0u64; TABLE];
     let asked = query::read_sides(text, &mut left, &mut right);
     match asked {
         Answer::Refused(why, place) => Checked::Refused(why, place),

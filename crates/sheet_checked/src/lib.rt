@@ -3,6 +3,7 @@
 use query::Facts;
 use refusals::Reason;
 use sheet_part::Tested;
+use side_tables::Table;
 ghost use mathlib.Core.Path.{_≡_};
 ghost use Rattle.claims.specs.Sides.{Decision};
 ghost use Rattle.claims.specs.Calls.{checked};
@@ -35,7 +36,7 @@ fn answer(proved: bool, passes: bool, field: usize, next: usize, end: usize) -> 
 }
 
 // Checks a sheet for a decision by its facts and the tables of its two sides: one part from its start, of n fields, and nothing behind it.
-pub fn check_decided(f: Facts, left: &[u64; 4241], right: &[u64; 4241], sheet: &[u8]) -> Checked
+pub fn check_decided(f: Facts, left: &Table, right: &Table, sheet: &[u8]) -> Checked
     ensures { λ r. ⌜ ((D : Decision) → Decided f (now (left .entry)) (now (right .entry)) D → Says (checked D (now (sheet .entry))) r) ⌝ }
 {
     let end = sheet.len();

@@ -8,8 +8,8 @@ use borrow.Author.Tests.{eq-eqb, ne-eqb}
 use Rattle.kat.specs.Lists.{isEmpty, member}
 use Rattle.claims.specs.Query.{bit}
 use Rattle.standings.specs.Steps.{endsSet}
-use Rattle.sheet_cells.specs.Layout.{wide}
-use Rattle.sheet_cells.specs.RingCells.{firstIn, ringCovered, ringFinals}
+use Rattle.sheet_standings.specs.Layout.{wide}
+use Rattle.sheet_standings.specs.RingCells.{firstIn, ringCovered, ringFinals}
 
 one-or-none : (b : Bool) (a : ℕ) → b ≡ not (isEmpty (cond b (a ∷ []) []))
 one-or-none true a = refl

@@ -17,12 +17,12 @@ use Rattle.claims.specs.SheetReading.{tagged, verdictIs}
 use Rattle.claims.specs.SheetWriting.{AllBytes}
 use Rattle.claims.proofs.Results.{same-is-equal}
 use Rattle.query.specs.declared.Facts.{Facts}
-use Rattle.sheet_cells.specs.Layout.{fieldLength, listedCells}
-use Rattle.sheet_letters.specs.ByteWords.{wordFits}
-use Rattle.sheet_slots.specs.Index.{Indexed}
-use Rattle.sheet_verdicts.specs.inner.Steps.{verdictOf, sized, mayList}
-use Rattle.sheet_fields.specs.declared.Part.{Part}
-use Rattle.sheet_fields.specs.declared.Part.the-variants.{Proved, Refuted, Wrong}
+use Rattle.sheet_standings.specs.Layout.{fieldLength, listedCells}
+use Rattle.sheet_word.specs.ByteWords.{wordFits}
+use Rattle.sheet_index.specs.Index.{Indexed}
+use Rattle.sheet_fits.specs.inner.Steps.{verdictOf, sized, mayList}
+use Rattle.sheet_fields.specs.declared.PartRead.{PartRead}
+use Rattle.sheet_fields.specs.declared.PartRead.the-variants.{Proved, Refuted, Wrong}
 use Rattle.sheet_fields.specs.declared.Reading.{Reading}
 use Rattle.sheet_fields.specs.inner.Between.{wrongAfter, answerBy, answerOf, fieldsLeft, leftBy, AtVerdict, AtStanding, AtWord, Answered, BetweenBy, Between}
 use Rattle.sheet_fields.proofs.Whole.{WholeAt, contents-size, sized-whole}
@@ -35,7 +35,7 @@ Goes f bs first heads chain r m = Between f bs first heads chain r × (fieldsLef
 
 -- the answer, by what was last awaited
 module _ (s : Reading) where
-  abbrev answered : ℕ → Part
+  abbrev answered : ℕ → PartRead
   answered w = answerBy w (s .base) (s .count) (s .at)
 
   pub answer-wrong : s .awaited ≡ 0 → Wrong (s .count) ≡ answerOf s

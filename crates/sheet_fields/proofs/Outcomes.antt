@@ -15,30 +15,30 @@ use Rattle.kat.specs.Word.{Word}
 use Rattle.kat.proofs.Bools.{lt-or-le}
 use Rattle.claims.specs.Fields.{Field as FieldRead, cut, nextField, afterField, provided}
 use Rattle.claims.specs.Refusals.{sheetField, Result, ok, refuse}
-use Rattle.claims.specs.SheetReading.{Part as PartRead, saysRefuted, tagged, verdictIs, wordOf, wordIn, standingsIn, wordFrom, partFrom, partIn}
+use Rattle.claims.specs.SheetReading.{Part, saysRefuted, tagged, verdictIs, wordOf, wordIn, standingsIn, wordFrom, partFrom, partIn}
 use Rattle.claims.specs.SheetWriting.{AllBytes}
 use Rattle.claims.specs.Sides.{Decision}
-use Rattle.words.specs.Memory.{zeros}
-use Rattle.sheet_cells.specs.Layout.{fieldLength, listedCells}
-use Rattle.sheet_cells.specs.CellSystem.{cellsShow}
+use Rattle.memory.specs.Memory.{zeros}
+use Rattle.sheet_standings.specs.Layout.{fieldLength, listedCells}
+use Rattle.sheet_standings.specs.CellSystem.{cellsShow}
 use Rattle.query.specs.Answer.{factsOf}
 use Rattle.query.specs.Decided.{Decided}
 use Rattle.query.specs.declared.Facts.{Facts}
-use Rattle.sheet_letters.specs.ByteWords.{wordFits, wordRead}
-use Rattle.sheet_letters.proofs.WordsRead.{word-of}
-use Rattle.sheet_slots.specs.Index.{Indexed}
-use Rattle.sheet_slots.proofs.Kept.{indexed-none}
-use Rattle.sheet_verdicts.specs.inner.Steps.{mayList}
-use Rattle.sheet_verdicts.proofs.Listable.{next-place}
-use Rattle.sheet_fields.specs.declared.Part.{Part}
-use Rattle.sheet_fields.specs.declared.Part.the-variants.{Proved, Refuted, Wrong}
+use Rattle.sheet_word.specs.ByteWords.{wordFits, wordRead}
+use Rattle.sheet_word.proofs.WordsRead.{word-of}
+use Rattle.sheet_index.specs.Index.{Indexed}
+use Rattle.sheet_index.proofs.Kept.{indexed-none}
+use Rattle.sheet_fits.specs.inner.Steps.{mayList}
+use Rattle.sheet_fits.proofs.Listable.{next-place}
+use Rattle.sheet_fields.specs.declared.PartRead.{PartRead}
+use Rattle.sheet_fields.specs.declared.PartRead.the-variants.{Proved, Refuted, Wrong}
 use Rattle.sheet_fields.specs.Reads.{ListedAt, Inside, cellsListed, ProvedAt, Reads}
 use Rattle.sheet_fields.specs.inner.Between.{SoFar, AtVerdict, AtStanding, AtWord, Answered}
 use Rattle.sheet_fields.proofs.Whole.{WholeAt}
 use Rattle.sheet_fields.proofs.SoFar.{so-far-none, so-far-end, so-far-full, so-far-wrong, so-far-more}
 
 -- a field is wrong
-wrong-read : (ring : Bool) (D : Decision) (bs : List ℕ) (k place i : ℕ) (read : Result (PartRead D)) → read ≡ refuse sheetField place
+wrong-read : (ring : Bool) (D : Decision) (bs : List ℕ) (k place i : ℕ) (read : Result (Part D)) → read ≡ refuse sheetField place
     → place ≡ k + i → Reads ring D bs k read (Wrong i)
 wrong-read ring D bs k place i read e p = subst⁻¹ (λ r. Reads ring D bs k r (Wrong i)) e (refl, p)
 
@@ -136,7 +136,7 @@ module _ {f : Facts} {left right : List ℕ} {D : Decision} (d : Decided f left 
   abbrev here : FieldRead
   here = nextField (drop at bs)
 
-  abbrev wordRead-from : Option Word → Result (PartRead D)
+  abbrev wordRead-from : Option Word → Result (Part D)
   wordRead-from o =
       elim o [ none ↦ refuse sheetField (suc k) | some w ↦ ok (record { said = saysRefuted w; next = suc (suc k); rest = afterField here }) ]
 
@@ -196,12 +196,12 @@ module _ (f : Facts) (bs : List ℕ) (first : ℕ) (heads chain : List ℕ) (at 
             (indexed-none (listedCells (f .ring) bs (first + 4))));
       }
 
-  abbrev WordReads : Part → Type 0
+  abbrev WordReads : PartRead → Type 0
   WordReads r =
       (left right : List ℕ) (D : Decision) → Decided f left right D → (k : ℕ)
       → Reads (f .ring) D bs k (wordFrom D (suc k) (nextField (drop at bs))) r
 
-  word-answers : (r : Part) → Inside (f .ring) bs first heads chain r → WordReads r → Answered f bs first heads chain r
+  word-answers : (r : PartRead) → Inside (f .ring) bs first heads chain r → WordReads r → Answered f bs first heads chain r
   word-answers r i h =
       record { inside = i; read = λ left right D d k. subst⁻¹ (λ x. Reads (f .ring) D bs k x r) (A .part D k) (h left right D d k) }
 
@@ -214,7 +214,7 @@ module _ (f : Facts) (bs : List ℕ) (first : ℕ) (heads chain : List ℕ) (at 
 
 -- the part, by its verdict
 module _ (D : Decision) (k : ℕ) (first : FieldRead) where
-  abbrev by-verdict : Bool → Bool → Result (PartRead D)
+  abbrev by-verdict : Bool → Bool → Result (Part D)
   by-verdict a b =
       elim a [
         | true ↦ standingsIn D 4096 (suc k) [] (afterField first)

@@ -26,19 +26,19 @@ use Rattle.claims.specs.SheetWriting.{AllBytes}
 use Rattle.claims.specs.Sides.{Decision}
 use Rattle.claims.specs.Standings.{claimSystem}
 use Rattle.claims.specs.Width.{width, rowLength}
-use Rattle.sheet_cells.specs.Layout.{fieldLength, standingCells, listedCells}
-use Rattle.sheet_cells.specs.CellSystem.{cellsFit, cellsShow}
-use Rattle.sheet_cells.specs.Good.{GoodCells}
-use Rattle.sheet_cells.proofs.FieldCells.{FieldAt, field-at, contents-other}
-use Rattle.sheet_cells.proofs.ByKind.{contents-read, cells-good}
-use Rattle.sheet_slots.specs.Index.{lastWhere}
-use Rattle.sheet_slots.proofs.Kept.{listed-found}
+use Rattle.sheet_standings.specs.Layout.{fieldLength, standingCells, listedCells}
+use Rattle.sheet_standings.specs.CellSystem.{cellsFit, cellsShow}
+use Rattle.sheet_standings.specs.Good.{GoodCells}
+use Rattle.sheet_standings.proofs.FieldCells.{FieldAt, field-at, contents-other}
+use Rattle.sheet_standings.proofs.ByKind.{contents-read, cells-good}
+use Rattle.sheet_index.specs.Index.{lastWhere}
+use Rattle.sheet_index.proofs.Kept.{listed-found}
 use Rattle.sheet_word.proofs.Refuted.{decided-shows}
 use Rattle.query.specs.Decided.{Decided}
 use Rattle.query.specs.declared.Facts.{Facts}
 use Rattle.sheet_fields.specs.Reads.{cellsListed}
 use Rattle.sheet_fields.specs.inner.Between.{SoFar}
-use Rattle.sheet_verdicts.specs.inner.Steps.{sized, mayList}
+use Rattle.sheet_fits.specs.inner.Steps.{sized, mayList}
 
 -- one standing more
 upto-last : (i n : ℕ) → counted i (suc n) ≡ counted i n ++ ((i + n) ∷ [])

@@ -13,7 +13,7 @@ use Rattle.claims.specs.SheetBytes.{contentsLength}
 use Rattle.fields.specs.Places.{Stands}
 use Rattle.fields.specs.declared.Field.{Field}
 use Rattle.fields.specs.declared.Field.the-variants.{Whole, Cut}
-use Rattle.sheet_verdicts.specs.inner.Steps.{sized}
+use Rattle.sheet_fits.specs.inner.Steps.{sized}
 
 -- a whole field at a place, as the reader answers it
 pub record WholeAt (bs : List ℕ) (at : ℕ) (field : FieldRead) (tag start end : ℕ) : Type 0 where

@@ -3,8 +3,11 @@
 // that it read ended; all that is decided of a field is decided by `step`. Each standing is looked up among those before it by an index,
 // which is left behind for the check.
 use fields::Field;
+use layout::MOST_STANDINGS;
 use query::Facts;
-ghost use Prim.Native.Nat.{ℕ, _-_, _<_};
+use sheet_index::Chain;
+use sheet_index::Heads;
+ghost use Prim.Native.Nat.{ℕ, _+_, _-_, _<_};
 ghost use mathlib.Core.Path.{_≡_};
 ghost use mathlib.Core.Bool.{true};
 ghost use mathlib.Core.List.{List};
@@ -12,15 +15,17 @@ ghost use lib.ListN.{drop};
 ghost use Rattle.claims.specs.Sides.{Decision};
 ghost use Rattle.claims.specs.Fields.{nextField};
 ghost use Rattle.claims.specs.SheetReading.{partIn};
-ghost use Rattle.words.specs.Memory.{zeros};
+ghost use Rattle.memory.specs.Memory.{zeros};
 ghost use Rattle.fields.specs.Places.{Stands};
 ghost use Rattle.query.specs.Decided.{Decided};
+ghost use Rattle.sheet_index.specs.Index.{SLOTS};
+ghost use Rattle.layout.specs.Layout.{MOST-STANDINGS};
 ghost use Rattle.sheet_fields.specs.Reads.{ListedAt, Inside, Reads};
 ghost use Rattle.sheet_fields.specs.inner.Between.{wrongAfter, answerOf, fieldsLeft, AtVerdict, AtStanding, AtWord, Answered, Between};
 
 // Proved, with the place where the fields of the standings begin, their number, and the place where the next field would start; refuted, with
 // the places where the word's bytes begin and end; or the number of good fields before the wrong one.
-pub enum Part {
+pub enum PartRead {
     Proved(usize, usize, usize),
     Refuted(usize, usize),
     Wrong(usize),
@@ -32,6 +37,9 @@ const VERDICT: u64 = 0;
 const STANDING: u64 = 1;
 
 const WORD: u64 = 2;
+
+// The good fields that may stand before one standing too many: the verdict and the standings.
+const MOST_GOOD: usize = MOST_STANDINGS + 1;
 
 // How far the reading of a part is. While it goes on: which field is awaited; the place where the fields of the standings begin, and how many were
 // read; the place where the last field ended. When it is over: as `awaited` a standing for proved, the word for refuted, with its bytes from
@@ -62,7 +70,7 @@ fn verdict_read(sheet: &[u8], field: Field, s: Reading) -> Reading
     requires { ⌜ Stands (now sheet) (s .at) (nextField (drop (s .at) (now sheet))) field ⌝ }
     ensures { λ r.
         ⌜ ((f : Facts) (first : ℕ) (heads chain : List ℕ) → AtVerdict first heads chain (s .at)
-        → Between f (now (sheet .entry)) first heads chain r × (fieldsLeft r < 4099)) ⌝ }
+        → Between f (now (sheet .entry)) first heads chain r × (fieldsLeft r < MOST-STANDINGS + 3)) ⌝ }
 {
     let Field::Whole(tag, from, to) = field else {
         return wrong(s, 0);
@@ -70,7 +78,7 @@ fn verdict_read(sheet: &[u8], field: Field, s: Reading) -> Reading
     if tag != 1 {
         return wrong(s, 0);
     }
-    let v = sheet_verdicts::verdict(&sheet[from..to]);
+    let v = sheet_fits::verdict(&sheet[from..to]);
     if v == 0 {
         return wrong(s, 0);
     }
@@ -83,21 +91,21 @@ fn verdict_read(sheet: &[u8], field: Field, s: Reading) -> Reading
     }
 }
 
-// A field was read where a standing may stand: it is the next standing and goes into the index, or it is wrong; a 4,097th is. Where the field's
+// A field was read where a standing may stand: it is the next standing and goes into the index, or it is wrong; one more than MOST_STANDINGS is. Where the field's
 // tag is another there is no further standing.
 fn standing_read(
     f: Facts,
     sheet: &[u8],
     field: Field,
     s: Reading,
-    heads: &mut [u64; 8192],
-    chain: &mut [u64; 4096],
+    heads: &mut Heads,
+    chain: &mut Chain,
 ) -> Reading
     requires { ⌜ Stands (now sheet) (s .at) (nextField (drop (s .at) (now sheet))) field
         × ListedAt (f .ring) (now sheet) (now heads) (now chain) (s .base) (s .count) (s .at) ⌝ }
     ensures { λ r.
         ⌜ ((first : ℕ) → AtStanding f (now (sheet .entry)) first (now (heads .entry)) (now (chain .entry)) (s .base) (s .count) (s .at)
-        → Between f (now (sheet .entry)) first (now (heads .exit)) (now (chain .exit)) r × (fieldsLeft r < 4098 - s .count)) ⌝ }
+        → Between f (now (sheet .entry)) first (now (heads .exit)) (now (chain .exit)) r × (fieldsLeft r < MOST-STANDINGS + 2 - s .count)) ⌝ }
 {
     if !fields::tagged(sheet, s.at, 3) {
         return Reading {
@@ -111,13 +119,13 @@ fn standing_read(
     let Field::Whole(_, from, end) = field else {
         return wrong(s, s.count + 1);
     };
-    if s.count == 4096 {
-        return wrong(s, 4097);
+    if s.count == MOST_STANDINGS {
+        return wrong(s, MOST_GOOD);
     }
-    if !sheet_verdicts::is_sized(end - from, f.ring) {
+    if !sheet_fits::is_sized(end - from, f.ring) {
         return wrong(s, s.count + 1);
     }
-    if !sheet_verdicts::may_list(f, sheet, s.base, heads, chain, s.count, s.at) {
+    if !sheet_fits::may_list(f, sheet, s.base, heads, chain, s.count, s.at) {
         return wrong(s, s.count + 1);
     }
     sheet_index::add(sheet, s.base, f.ring, heads, chain, s.count);
@@ -143,7 +151,7 @@ fn word_read(f: Facts, sheet: &[u8], field: Field, s: Reading) -> Reading
     if tag != 2 {
         return wrong(s, 1);
     }
-    if !sheet_letters::fits(&sheet[from..to], f.atoms, f.relations) {
+    if !sheet_word::fits(&sheet[from..to], f.atoms, f.relations) {
         return wrong(s, 1);
     }
     Reading {
@@ -161,8 +169,8 @@ fn step(
     sheet: &[u8],
     field: Field,
     s: Reading,
-    heads: &mut [u64; 8192],
-    chain: &mut [u64; 4096],
+    heads: &mut Heads,
+    chain: &mut Chain,
 ) -> Reading
     requires { ⌜ (s .going ≡ true) × Stands (now sheet) (s .at) (nextField (drop (s .at) (now sheet))) field
         × ((first : ℕ) × Between f (now sheet) first (now heads) (now chain) s) ⌝ }
@@ -180,14 +188,8 @@ fn step(
 }
 
 // The part from place `at` on, field by field: each is read from where the last one ended.
-fn read(
-    f: Facts,
-    sheet: &[u8],
-    at: usize,
-    heads: &mut [u64; 8192],
-    chain: &mut [u64; 4096],
-) -> Reading
-    requires { ⌜ (now heads ≡ zeros 8192) × (now chain ≡ zeros 4096) ⌝ }
+fn read(f: Facts, sheet: &[u8], at: usize, heads: &mut Heads, chain: &mut Chain) -> Reading
+    requires { ⌜ (now heads ≡ zeros SLOTS) × (now chain ≡ zeros MOST-STANDINGS) ⌝ }
     ensures { λ r. ⌜ Answered f (now (sheet .entry)) at (now (heads .exit)) (now (chain .exit)) (answerOf r) ⌝ }
 {
     let mut r = sheet_reader::from(sheet, at);
@@ -207,28 +209,22 @@ fn read(
 }
 
 // The answer of a reading that is over.
-fn answer(s: Reading) -> Part
+fn answer(s: Reading) -> PartRead
     ensures { λ r. ⌜ r ≡ answerOf s ⌝ }
 {
     if s.awaited == VERDICT {
-        return Part::Wrong(s.count);
+        return PartRead::Wrong(s.count);
     }
     if s.awaited == STANDING {
-        return Part::Proved(s.base, s.count, s.at);
+        return PartRead::Proved(s.base, s.count, s.at);
     }
-    Part::Refuted(s.base, s.at)
+    PartRead::Refuted(s.base, s.at)
 }
 
 // What the part from place `at` on says. The index, which is lent, has nothing in it at first, as its caller made it; behind the call it has
 // the standings, or those before a wrong one.
-pub fn part_at(
-    f: Facts,
-    sheet: &[u8],
-    at: usize,
-    heads: &mut [u64; 8192],
-    chain: &mut [u64; 4096],
-) -> Part
-    requires { ⌜ (now heads ≡ zeros 8192) × (now chain ≡ zeros 4096) ⌝ }
+pub fn part_at(f: Facts, sheet: &[u8], at: usize, heads: &mut Heads, chain: &mut Chain) -> PartRead
+    requires { ⌜ (now heads ≡ zeros SLOTS) × (now chain ≡ zeros MOST-STANDINGS) ⌝ }
     ensures inside { λ r. ⌜ Inside (f .ring) (now (sheet .entry)) at (now (heads .exit)) (now (chain .exit)) r ⌝ }
     ensures read { λ r.
         ⌜ ((left right : List ℕ) (D : Decision) → Decided f left right D → (k : ℕ)

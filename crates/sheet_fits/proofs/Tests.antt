@@ -10,9 +10,9 @@ use lib.ListN.{getD, take, drop}
 use lib.Seq.{getD-take}
 use borrow.Author.Tests.{lt-ltb, le-ltb, le-leb, lt-leb}
 use Rattle.claims.specs.SheetReading.{rowOfM, rowOfN, rowsPass}
-use Rattle.sheet_cells.specs.Layout.{wide}
-use Rattle.sheet_cells.specs.PathCells.{pathFits}
-use Rattle.sheet_cells.specs.RingCells.{ringFits, firstIn, flagIn}
+use Rattle.sheet_standings.specs.Layout.{wide}
+use Rattle.sheet_standings.specs.PathCells.{pathFits}
+use Rattle.sheet_standings.specs.RingCells.{ringFits, firstIn, flagIn}
 use Rattle.sheet_fits.specs.Small.{SmallCells}
 
 -- a cell among the first n is small

@@ -1,4 +1,4 @@
 -- Cells of four bytes.
 pub mod Small
--- Promises between the functions of this crate.
+-- Promises between the functions of the sheet check.
 pub mod inner

@@ -1,7 +1,7 @@
 -- Whether the standings one letter on are listed, as the sheet check asks it: from a standing, or from nothing read, over the atoms of the
 -- mask of each relation. (Document 01, "Sheet and graph bytes".) `sheet_proves` shows that these are the letters that have to be tried.
 -- Assumes nothing.
-use Prim.Native.Nat.{ℕ, _+_, _*_, _^_, _≤_, _<_}
+use Prim.Native.Nat.{ℕ, _+_, _*_, _≤_, _<_}
 use mathlib.Core.Bool.{Bool, true, false, cond, not, _&&_, _||_}
 use mathlib.Core.List.{List, map}
 use lib.Dec.{eqb}
@@ -11,14 +11,15 @@ use Rattle.claims.specs.Bytes.{same}
 use Rattle.claims.specs.Standings.{Letter}
 use Rattle.bits.specs.Sets.{members}
 use Rattle.query.specs.declared.Facts.{Facts}
-use Rattle.sheet_cells.specs.Layout.{fieldLength, listedCells}
-use Rattle.sheet_cells.specs.CellSystem.{leftSet, beginCells, onwardCells}
-use Rattle.sheet_slots.specs.Index.{Indexed}
+use Rattle.sheet_standings.specs.Layout.{fieldLength, listedCells, CELL}
+use Rattle.sheet_standings.specs.CellSystem.{leftSet, beginCells, onwardCells}
+use Rattle.sheet_index.specs.Index.{Indexed}
+use Rattle.layout.specs.Layout.{MOST-STANDINGS}
 
 -- n standings lie in the sheet from place base on, and the index is theirs ("Sheet and graph bytes")
 abbrev pub Ready : Bool → List ℕ → ℕ → ℕ → List ℕ → List ℕ → Type 0
 Ready ring bs base n heads chain =
-    Indexed heads chain (listedCells ring bs base) n × (n ≤ 4096) × (base + fieldLength ring * n ≤ length bs)
+    Indexed heads chain (listedCells ring bs base) n × (n ≤ MOST-STANDINGS) × (base + fieldLength ring * n ≤ length bs)
 
 -- the standings listed ("Sheet and graph bytes")
 unfoldable pub partCells : Bool → List ℕ → ℕ → ℕ → List (List ℕ)
@@ -26,7 +27,7 @@ partCells ring bs base n = map (listedCells ring bs base) (upto 0 n)
 
 -- each cell has four bytes ("Sheet and graph bytes")
 abbrev pub Small : List ℕ → Type 0
-Small s = (i : ℕ) → getD s i 0 < 2 ^ 32
+Small s = (i : ℕ) → getD s i 0 < CELL
 
 -- the standing is listed, or no left occurrence is possible ("Sheet and graph bytes")
 unfoldable pub listedAmong : Bool → List (List ℕ) → List ℕ → Bool

@@ -15,14 +15,14 @@ use Rattle.kat.specs.Lists.{isEmpty, member, upto}
 use Rattle.kat.proofs.Bools.{le-or-lt}
 use Rattle.kat.proofs.Sets.{map-same}
 use Rattle.claims.specs.Standings.{Letter}
-use Rattle.words.specs.Memory.{words}
+use Rattle.memory.specs.Memory.{words}
 use Rattle.fields.specs.Places.{cellAt, cellsAt}
 use Rattle.fields.proofs.Cells.{cell-past, cells-length}
-use Rattle.sheet_cells.specs.Layout.{cellCount, cellStart, standingCells, wide}
-use Rattle.sheet_cells.specs.PathCells.{pathBegin, pathOnward, pathFinals}
-use Rattle.sheet_cells.specs.RingCells.{ringBegin, ringOnward, ringFinals}
-use Rattle.sheet_cells.proofs.RingRows.{ring-length}
-use Rattle.sheet_cells.specs.CellSystem.{beginCells, onwardCells, finalsCells, leftSet}
+use Rattle.sheet_standings.specs.Layout.{cellCount, cellStart, standingCells, wide}
+use Rattle.sheet_standings.specs.PathCells.{pathBegin, pathOnward, pathFinals}
+use Rattle.sheet_standings.specs.RingCells.{ringBegin, ringOnward, ringFinals}
+use Rattle.sheet_standings.proofs.RingRows.{ring-length}
+use Rattle.sheet_standings.specs.CellSystem.{beginCells, onwardCells, finalsCells, leftSet}
 
 -- all cells of a ring standing
 all-cells : (to : List ℕ) → length to ≡ 67 → take 67 to ≡ to

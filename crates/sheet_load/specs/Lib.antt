@@ -1,1 +1,1 @@
--- No definitions: what is promised stands in `sheet_cells`.
+-- No definitions: what is promised stands in `sheet_standings`.

@@ -12,7 +12,7 @@ use Rattle.claims.specs.Fields.{setNumber}
 use Rattle.bits.specs.Sets.{meets}
 use Rattle.standings.specs.Steps.{enders, endsSet}
 use Rattle.standings.proofs.Upto.{upto-more, upto-none}
-use Rattle.sheet_cells.specs.RingCells.{rowM, opened}
+use Rattle.sheet_standings.specs.RingCells.{rowM, opened}
 
 -- the numbers from p on that pass, as a set
 module _ (f : ℕ → Bool) where

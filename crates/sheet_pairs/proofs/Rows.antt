@@ -18,8 +18,8 @@ use Rattle.kat.specs.Lists.In.{here, there}
 use Rattle.kat.proofs.Sets.{upto-in}
 use Rattle.claims.specs.Query.{bit}
 use Rattle.claims.specs.Standings.{Letter}
-use Rattle.words.specs.Memory.{words, zeros}
-use Rattle.words.proofs.Words.{words-at, words-ext, words-same, same-or-not}
+use Rattle.memory.specs.Memory.{words, zeros}
+use Rattle.memory.proofs.Words.{words-at, words-ext, words-same, same-or-not}
 use Rattle.bits.proofs.Bit.{bit-none, or-assoc}
 use Rattle.bits.proofs.Lowest.{Lowest}
 use Rattle.standings.specs.Steps.{stepFrom, leads, joined}

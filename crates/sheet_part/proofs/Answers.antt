@@ -10,27 +10,26 @@ use mathlib.Core.List.{List}
 use lib.ListN.{length, take, drop}
 use Rattle.claims.specs.Sides.{Decision}
 use Rattle.claims.specs.Refusals.{Result, ok, refused}
-use Rattle.claims.specs.SheetReading.{Said, saysProved, saysRefuted, Part as PartRead}
+use Rattle.claims.specs.SheetReading.{Said, saysProved, saysRefuted, Part}
 use Rattle.claims.specs.Passing.{passes, refuting}
 use Rattle.query.specs.declared.Facts.{Facts}
 use Rattle.query.specs.Decided.{Decided}
-use Rattle.sheet_cells.specs.Layout.{fieldLength}
-use Rattle.sheet_cells.specs.CellSystem.{cellSystem}
-use Rattle.sheet_letters.specs.ByteWords.{wordRead}
+use Rattle.sheet_standings.specs.Layout.{fieldLength}
+use Rattle.sheet_standings.specs.CellSystem.{cellSystem}
+use Rattle.sheet_word.specs.ByteWords.{wordRead}
 use Rattle.sheet_word.proofs.Refuted.{refutes-passes}
-use Rattle.sheet_fields.specs.declared.Part.{Part}
-use Rattle.sheet_fields.specs.declared.Part.the-variants.{Proved as ProvedAt, Refuted as RefutedAt, Wrong as WrongAt}
+use Rattle.sheet_fields.specs.declared.PartRead.{PartRead}
+use Rattle.sheet_fields.specs.declared.PartRead.the-variants.{Proved as ProvedAt, Refuted as RefutedAt, Wrong as WrongAt}
 use Rattle.sheet_fields.specs.Reads.{ListedAt, Empty, Inside, Says, Reads}
 use Rattle.sheet_listed.specs.Listed.{Ready, partCells}
-use Rattle.sheet_passing.specs.Proves.{provesCells}
-use Rattle.sheet_passing.proofs.Passes.{proves-passes}
-use Rattle.sheet_part.specs.declared.Tested.{Tested}
+use Rattle.sheet_proves.specs.Proves.{provesCells}
+use Rattle.sheet_proves.proofs.Passes.{proves-passes}
 use Rattle.sheet_part.specs.declared.Tested.the-variants.{Proved, Refuted, Wrong}
 use Rattle.sheet_part.specs.Tests.{Tests, TestsPart}
 
 -- what stands where, by the answer
-module _ (ring : Bool) (bs : List ℕ) (at : ℕ) (heads chain : List ℕ) (p : Part) (h : Inside ring bs at heads chain p) where
-  inside-of : {q : Part} → p ≡ q → Inside ring bs at heads chain q
+module _ (ring : Bool) (bs : List ℕ) (at : ℕ) (heads chain : List ℕ) (p : PartRead) (h : Inside ring bs at heads chain p) where
+  inside-of : {q : PartRead} → p ≡ q → Inside ring bs at heads chain q
   inside-of e = subst (Inside ring bs at heads chain) e h
 
   module _ (base n next : ℕ) (e : p ≡ ProvedAt base n next) where
@@ -54,7 +53,7 @@ module _ (ring : Bool) (bs : List ℕ) (at : ℕ) (heads chain : List ℕ) (p : 
 
 module _ {f : Facts} {left right : List ℕ} {D : Decision} (d : Decided f left right D) (bs : List ℕ) (at : ℕ) (heads chain : List ℕ) (k : ℕ) where
   -- a part that says proved
-  pub proved-tests : (p : Part) → Inside (f .ring) bs at heads chain p → (r : Result (PartRead D)) → Reads (f .ring) D bs k r p
+  pub proved-tests : (p : PartRead) → Inside (f .ring) bs at heads chain p → (r : Result (Part D)) → Reads (f .ring) D bs k r p
       → (base n next : ℕ) → p ≡ ProvedAt base n next → (b : Bool) → b ≡ provesCells f left right (partCells (f .ring) bs base n)
       → Tests D bs k r (Proved b (n + 1) next)
   unfolding partCells
@@ -73,11 +72,11 @@ module _ {f : Facts} {left right : List ℕ} {D : Decision} (d : Decided f left 
         q .behind,
       )
 
-      go : (r : Result (PartRead D)) → Reads (f .ring) D bs k r (ProvedAt base n next) → Tests D bs k r (Proved b (n + 1) next)
+      go : (r : Result (Part D)) → Reads (f .ring) D bs k r (ProvedAt base n next) → Tests D bs k r (Proved b (n + 1) next)
       go (ok x) q = said (x .said) (x .next) (x .rest) q
 
   -- a part that says refuted
-  pub refuted-tests : (p : Part) → Inside (f .ring) bs at heads chain p → (r : Result (PartRead D)) → Reads (f .ring) D bs k r p
+  pub refuted-tests : (p : PartRead) → Inside (f .ring) bs at heads chain p → (r : Result (Part D)) → Reads (f .ring) D bs k r p
       → (from to : ℕ) → p ≡ RefutedAt from to → (b : Bool)
       → b ≡ refuting (cellSystem (f .ring) (f .right) (f .live) (f .relations) left right) (wordRead (take (to - from) (drop from bs)))
       → Tests D bs k r (Refuted b 2 to)
@@ -95,17 +94,17 @@ module _ {f : Facts} {left right : List ℕ} {D : Decision} (d : Decided f left 
         q .behind,
       )
 
-      go : (r : Result (PartRead D)) → Reads (f .ring) D bs k r (RefutedAt from to) → Tests D bs k r (Refuted b 2 to)
+      go : (r : Result (Part D)) → Reads (f .ring) D bs k r (RefutedAt from to) → Tests D bs k r (Refuted b 2 to)
       go (ok x) q = said (x .said) (x .next) (x .rest) q
 
   -- a part with a wrong field
-  pub wrong-tests : (p : Part) (r : Result (PartRead D)) → Reads (f .ring) D bs k r p → (i : ℕ) → p ≡ WrongAt i → Tests D bs k r (Wrong i)
+  pub wrong-tests : (p : PartRead) (r : Result (Part D)) → Reads (f .ring) D bs k r p → (i : ℕ) → p ≡ WrongAt i → Tests D bs k r (Wrong i)
   wrong-tests p r s i e = go r (subst (Reads (f .ring) D bs k r) e s)
     where
       said : (t : Said D) (after : ℕ) (rest : List ℕ) → Says (f .ring) D bs k t after rest (WrongAt i) → TestsPart D bs k t after rest (Wrong i)
       said (saysProved ss) after rest q = absurd q
       said (saysRefuted w) after rest q = absurd q
 
-      go : (r : Result (PartRead D)) → Reads (f .ring) D bs k r (WrongAt i) → Tests D bs k r (Wrong i)
+      go : (r : Result (Part D)) → Reads (f .ring) D bs k r (WrongAt i) → Tests D bs k r (Wrong i)
       go (ok x) q = said (x .said) (x .next) (x .rest) q
       go (refused x) q = q

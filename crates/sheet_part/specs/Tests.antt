@@ -9,6 +9,7 @@ use Rattle.claims.specs.Sides.{Decision}
 use Rattle.claims.specs.Refusals.{Result, ok, refused, sheetField}
 use Rattle.claims.specs.SheetReading.{Said, saysProved, saysRefuted, Part}
 use Rattle.claims.specs.Passing.{passes}
+use Rattle.layout.specs.Layout.{MOST-STANDINGS}
 use Rattle.sheet_part.specs.declared.Tested.{Tested}
 use Rattle.sheet_part.specs.declared.Tested.the-variants.{Proved, Refuted, Wrong}
 
@@ -31,8 +32,8 @@ Tests D bs k (refused r) (Proved passed fields next) = ⊥
 Tests D bs k (refused r) (Refuted passed fields next) = ⊥
 Tests D bs k (refused r) (Wrong i) = (r .cause ≡ sheetField) × (r .place ≡ k + i)
 
--- a part has at most 4,097 fields, and as many good ones before a wrong one ("Sheet and graph bytes")
+-- a part has at most one field more than the longest sheet has standings, and as many good ones before a wrong one ("Sheet and graph bytes")
 abbrev pub FewFields : Tested → Type 0
-FewFields (Proved passed fields next) = fields ≤ 4097
-FewFields (Refuted passed fields next) = fields ≤ 4097
-FewFields (Wrong i) = i ≤ 4097
+FewFields (Proved passed fields next) = fields ≤ MOST-STANDINGS + 1
+FewFields (Refuted passed fields next) = fields ≤ MOST-STANDINGS + 1
+FewFields (Wrong i) = i ≤ MOST-STANDINGS + 1

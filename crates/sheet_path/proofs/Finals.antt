@@ -12,8 +12,8 @@ use Rattle.bits.specs.Sets.{members}
 use Rattle.bits.proofs.Lists.{some-filled}
 use Rattle.bits.proofs.Members.{member-bit}
 use Rattle.standings.specs.Steps.{endsSet}
-use Rattle.sheet_cells.specs.Layout.{wide}
-use Rattle.sheet_cells.specs.PathCells.{pathEnds, pathFinals}
+use Rattle.sheet_standings.specs.Layout.{wide}
+use Rattle.sheet_standings.specs.PathCells.{pathEnds, pathFinals}
 
 member-kept : (f : ℕ → Bool) (a : ℕ) (l : List ℕ) → member a (filter f l) ≡ (member a l && f a)
 member-kept f a l =

@@ -7,8 +7,8 @@ use mathlib.Core.Path.{_≡_, refl, sym, ap₂, subst}
 use mathlib.Core.List.{List, [], _∷_}
 use lib.ListN.{length, getD, take, drop, set}
 use lib.Seq.{getD-take}
-use Rattle.sheet_cells.specs.Layout.{halves, wide}
-use Rattle.sheet_cells.specs.PathCells.{pathCells}
+use Rattle.sheet_standings.specs.Layout.{halves, wide}
+use Rattle.sheet_standings.specs.PathCells.{pathCells}
 
 four-written : (l : List ℕ) (a b c d : ℕ) → 4 ≤ length l
     → (take 4 (set (set (set (set l 0 a) 1 b) 2 c) 3 d) ≡ a ∷ b ∷ c ∷ d ∷ []) × (drop 4 (set (set (set (set l 0 a) 1 b) 2 c) 3 d) ≡ drop 4 l)

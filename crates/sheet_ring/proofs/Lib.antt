@@ -1,2 +1,3 @@
--- The cells of a standing, and that they have four bytes.
+-- The rows of M; the cells of a standing, and that they have four bytes.
+pub mod Rows
 pub mod Standing

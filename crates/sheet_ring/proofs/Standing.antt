@@ -13,14 +13,14 @@ use Rattle.kat.specs.Lists.{upto, filter}
 use Rattle.kat.proofs.Bools.{le-or-lt}
 use Rattle.claims.specs.Fields.{setNumber}
 use Rattle.claims.specs.Standings.{Letter}
-use Rattle.words.specs.Memory.{words, zeros}
-use Rattle.words.proofs.Words.{words-at, words-length}
-use Rattle.words.proofs.Zeros.{zeros-words}
+use Rattle.memory.specs.Memory.{words, zeros}
+use Rattle.memory.proofs.Words.{words-at, words-length}
+use Rattle.memory.proofs.Zeros.{zeros-words}
 use Rattle.side_atoms.proofs.Atoms.{number-small}
 use Rattle.standings.specs.Steps.{stepFrom, stepSet, endsSet, nullAt, joined}
 use Rattle.standings.proofs.Joined.{joined-small}
-use Rattle.sheet_cells.specs.Layout.{halves, wide}
-use Rattle.sheet_cells.specs.RingCells.{headCell, firstIn, flagIn, rowM, rowN, ringCells, raised, flag, opened, sent, ringBegin, ringOnward}
+use Rattle.sheet_standings.specs.Layout.{halves, wide}
+use Rattle.sheet_standings.specs.RingCells.{headCell, firstIn, flagIn, rowM, rowN, ringCells, raised, flag, opened, sent, ringBegin, ringOnward}
 use Rattle.sheet_ring.specs.inner.Head.{headed}
 
 -- head and P, and what follows them

@@ -20,15 +20,15 @@ use Rattle.claims.proofs.WordBytes.{word-in-range}
 use Rattle.side_tables.specs.SideTable.{sideTable}
 use Rattle.standings.proofs.LettersOf.{LettersOf}
 use Rattle.standings.proofs.Shows.{Shows}
-use Rattle.sheet_cells.specs.CellSystem.{cellsShow, cellSystem}
-use Rattle.sheet_cells.specs.Good.{GoodCells}
-use Rattle.sheet_cells.proofs.ByKind.{cells-show}
-use Rattle.sheet_cells.proofs.PassingShown.{refuting-shown}
+use Rattle.sheet_standings.specs.CellSystem.{cellsShow, cellSystem}
+use Rattle.sheet_standings.specs.Good.{GoodCells}
+use Rattle.sheet_standings.proofs.ByKind.{cells-show}
+use Rattle.sheet_standings.proofs.PassingShown.{refuting-shown}
 use Rattle.query.specs.Answer.{factsOf}
 use Rattle.query.specs.Decided.{Decided}
 use Rattle.query.specs.declared.Facts.{Facts}
-use Rattle.sheet_letters.specs.ByteWords.{wordFits, wordRead}
-use Rattle.sheet_letters.proofs.WordsRead.{word-of}
+use Rattle.sheet_word.specs.ByteWords.{wordFits, wordRead}
+use Rattle.sheet_word.proofs.WordsRead.{word-of}
 
 -- numbers below m are below any larger number
 rising-wider : (lo m n : ℕ) (ks : List ℕ) → m ≤ n → RisingWithin lo m ks → RisingWithin lo n ks

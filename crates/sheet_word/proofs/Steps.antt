@@ -17,9 +17,9 @@ use Rattle.claims.specs.Standings.{Letter, System}
 use Rattle.bits.specs.Sets.{members}
 use Rattle.bits.proofs.Members.{member-bit}
 use Rattle.standings.specs.Steps.{nullAt, aloneWords}
-use Rattle.sheet_cells.specs.CellSystem.{beginCells, onwardCells, finalsCells, cellSystem}
-use Rattle.sheet_letters.specs.ByteWords.{wordRead}
-use Rattle.sheet_letters.proofs.WordsRead.{two-left, one-left}
+use Rattle.sheet_standings.specs.CellSystem.{beginCells, onwardCells, finalsCells, cellSystem}
+use Rattle.sheet_word.specs.ByteWords.{wordRead}
+use Rattle.sheet_word.proofs.WordsRead.{two-left, one-left}
 
 -- the word that is left: a letter and more, or the last atom, which past the end is 0
 letter-left : (bs : List ℕ) (i : ℕ) → 1 < length bs - i

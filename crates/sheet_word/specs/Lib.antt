@@ -1,0 +1,2 @@
+-- Bytes that are a word.
+pub mod ByteWords

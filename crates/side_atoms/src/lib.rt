@@ -5,7 +5,7 @@ ghost use mathlib.Core.Path.{_≡_};
 ghost use mathlib.Core.List.{[]};
 ghost use lib.ListN.{length};
 ghost use lib.Seq.{slice};
-ghost use Rattle.words.specs.Memory.{zeros};
+ghost use Rattle.memory.specs.Memory.{zeros};
 ghost use Rattle.side_atoms.specs.Tests.{top, push, stacked, holding, testStep, runTest, testSet};
 
 // What is on top of a stack of height n.
@@ -50,13 +50,13 @@ fn test_step(stack: &mut [u64], n: usize, code: u64) -> usize
     ensures { λ r. ⌜ (r ≤ length (now (stack .exit))) × (stacked (now (stack .exit)) r ≡ testStep (length (now (stack .entry))) code (stacked (now (stack .entry)) n)) ⌝ }
 {
     let a = peek(stack, n);
-    let m = words::less(n);
+    let m = memory::less(n);
     let b = peek(stack, m);
     match code {
         codes::TRUE => put(stack, n, bits::ALL),
         codes::FALSE => put(stack, n, 0),
-        codes::OR => put(stack, words::less(m), b | a),
-        codes::AND => put(stack, words::less(m), b & a),
+        codes::OR => put(stack, memory::less(m), b | a),
+        codes::AND => put(stack, memory::less(m), b & a),
         codes::NOT => put(stack, m, bits::ALL - a),
         codes::A_TEST..=codes::LAST_TEST => put(stack, n, holding_atoms(code - codes::A_TEST)),
         _ => n,
@@ -67,7 +67,7 @@ fn test_step(stack: &mut [u64], n: usize, code: u64) -> usize
 fn run(codes: &[u64], from: usize, to: usize, stack: &mut [u64]) -> u64
     ensures { λ r. ⌜ r ≡ top (runTest (length (now (stack .entry))) (slice from to (now (codes .entry))) []) ⌝ }
 {
-    let end = words::least(to, codes.len());
+    let end = memory::least(to, codes.len());
     let mut n: usize = 0;
     let mut i = from;
     while i < end {
@@ -83,6 +83,6 @@ pub fn test_atoms(codes: &[u64], from: usize, to: usize, stack: &mut [u64]) -> u
     ensures { λ r. ⌜ (r ≡ testSet (slice from to (now (codes .entry)))) × (now (stack .exit) ≡ zeros (length (now (stack .entry)))) ⌝ }
 {
     let set = run(codes, from, to, stack);
-    words::clear(stack);
+    memory::clear(stack);
     set
 }

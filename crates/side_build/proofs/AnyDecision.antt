@@ -13,8 +13,7 @@ use Rattle.codes.proofs.Claimed.{Claimed}
 use Rattle.side_tables.specs.SideTable.{sideTable}
 use Rattle.side_parts.proofs.BuiltAlone.{built-alone}
 use Rattle.side_runs.specs.Program.{countsIn}
-use Rattle.side_claim.specs.Decisions.{decisionUnder}
-use Rattle.side_claim.specs.Limits.{withinUnder}
+use Rattle.claims.specs.Under.{decisionUnder, withinUnder}
 use Rattle.side_claim.specs.declared.Decision.{Decision}
 use Rattle.side_claim.proofs.Sides.{Stands, Roomy, Prepared, left-builds, right-builds}
 use Rattle.side_claim.proofs.Limits.{within-roomy, left-few, right-few}

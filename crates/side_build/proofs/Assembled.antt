@@ -1,7 +1,7 @@
 -- What is built from codes, put together: the program, the table of an expression at a place, the two sides, and the atoms that are left. The
 -- functions of `src/lib.rt` cite these laws.
 -- Assumes nothing.
-use Prim.Native.Nat.{ℕ, suc, _+_, _-_, _≤_, _<_, min}
+use Prim.Native.Nat.{ℕ, suc, _+_, _-_, _<_, min}
 use native.Mathlib.Omega.{arith}
 use mathlib.Core.Path.{_≡_, refl, sym, _∙_, ap, ap₂}
 use mathlib.Core.Logic.{⊎-elim}
@@ -9,8 +9,8 @@ use mathlib.Core.List.{List, [], _∷_, _++_, append-nil}
 use lib.ListN.{length, take, drop, length-append, length-drop, drop-of-length-le}
 use lib.Seq.{take-append-seam, take-all}
 use Rattle.kat.proofs.Bools.{le-or-lt}
-use Rattle.words.specs.Memory.{copied}
-use Rattle.words.proofs.Words.{words-length, copied-all}
+use Rattle.memory.specs.Memory.{copied}
+use Rattle.memory.proofs.Words.{words-length, copied-all}
 use Rattle.side_items.specs.Items.{Scan, scanned, argsFrom, argsOf, Item, paired, itemsOf}
 use Rattle.side_relations.specs.Relations.{relationSets, removedSet, liveSet}
 use Rattle.side_parts.specs.Machine.{Machine, nothingBuilt, toldTable}

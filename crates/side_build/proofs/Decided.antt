@@ -17,19 +17,19 @@ use Rattle.claims.specs.Counting.{withinLimits}
 use Rattle.codes.specs.Codes.{queryCodes}
 use Rattle.codes.proofs.Claimed.{Claimed}
 use Rattle.bits.proofs.Bit.{bit-none}
-use Rattle.words.specs.Memory.{zeros}
+use Rattle.memory.specs.Memory.{zeros}
 use Rattle.side_tables.specs.SideTable.{sideTable}
 use Rattle.side_items.specs.Items.{argsOf, paired, itemsOf}
 use Rattle.side_items.proofs.Placed.{Limited}
 use Rattle.side_relations.specs.Relations.{relationSets}
 use Rattle.side_relations.proofs.RelationSets.{limited-sets}
 use Rattle.side_relations.proofs.Removed.{live-atoms}
-use Rattle.side_runs.specs.Program.{itemsIn, setsIn, countsIn}
+use Rattle.side_runs.specs.Program.{itemsIn, setsIn, countsFrom, countsIn}
 use Rattle.side_claim.specs.Sides.{claimed}
-use Rattle.side_claim.specs.Decisions.{decisionUnder}
+use Rattle.claims.specs.Under.{decisionUnder}
 use Rattle.side_claim.proofs.Sides.{Prepared}
-use Rattle.side_claim.proofs.Claims.{claim-stands, decision-all}
-use Rattle.side_claim.proofs.Limits.{within-all}
+use Rattle.side_claim.proofs.Claims.{claim-stands}
+use Rattle.claims.proofs.Under.{decision-all, within-all}
 use Rattle.side_build.specs.Built.{needsOf, leftTable, rightTable, builtFrom}
 use Rattle.side_build.proofs.Assembled.{args-length, needs-length}
 use Rattle.side_build.proofs.AnyDecision.{BuiltAs, within-built}
@@ -55,7 +55,7 @@ module _ (ks : List ℕ) where
 
   -- no line is left out
   all-count : (l : ℕ) → countsIn ks (needsOf ks) l ≡ true
-  unfolding countsIn
+  unfolding countsIn countsFrom
   all-count l =
       ap (λ w. not (bit (l % 64) w)) (List·getD-eq-default (needsOf ks) 0 (omega (arith, needs-length ks))) ∙ ap not (bit-none (l % 64))
 

@@ -3,13 +3,15 @@
 use side_claim::Decision;
 use side_stack::STACK;
 use side_tables::TABLE;
+use side_tables::Table;
 ghost use Prim.Native.Nat.{_+_, _≤_, min};
 ghost use mathlib.Core.Path.{_≡_};
 ghost use lib.ListN.{length, take};
-ghost use Rattle.words.specs.Memory.{zeros};
+ghost use Rattle.memory.specs.Memory.{zeros};
 ghost use Rattle.side_items.specs.Items.{itemsOf};
 ghost use Rattle.side_relations.specs.Relations.{removedSet, liveSet};
 ghost use Rattle.side_build.specs.Built.{needsOf, tableAt, leftOf, rightOf, countedIn, leftTable, rightTable, builtFrom};
+ghost use Rattle.side_tables.specs.Layout.{TABLE};
 
 // The occurrences of each side.
 pub struct Counted {
@@ -25,7 +27,7 @@ pub struct Built {
 }
 
 // The table of the expression that starts at a place of a program.
-pub fn build_at(codes: &[u64], needs: &[u64], from: usize, table: &mut [u64; TABLE])
+pub fn build_at(codes: &[u64], needs: &[u64], from: usize, table: &mut Table)
     ensures { λ r. ⌜ now (table .exit) ≡ tableAt (now (codes .entry)) (now (needs .entry)) from ⌝ }
 {
     let mut parts = [0u64; STACK];
@@ -39,10 +41,10 @@ fn fill_sides(
     codes: &[u64],
     needs: &[u64],
     d: Decision,
-    left: &mut [u64; TABLE],
-    right: &mut [u64; TABLE],
+    left: &mut Table,
+    right: &mut Table,
 ) -> Counted
-    requires { ⌜ (now left ≡ zeros 4241) × (now right ≡ zeros 4241) ⌝ }
+    requires { ⌜ (now left ≡ zeros TABLE) × (now right ≡ zeros TABLE) ⌝ }
     ensures { λ r. ⌜ (r ≡ countedIn (now (codes .entry)) (now (needs .entry)) d)
         × (now (left .exit) ≡ leftOf (now (codes .entry)) (now (needs .entry)) d)
         × (now (right .exit) ≡ rightOf (now (codes .entry)) (now (needs .entry)) d) ⌝ }
@@ -64,15 +66,15 @@ pub fn build_sides(
     codes: &[u64],
     needs: &[u64],
     d: Decision,
-    left: &mut [u64; TABLE],
-    right: &mut [u64; TABLE],
+    left: &mut Table,
+    right: &mut Table,
 ) -> Counted
     ensures { λ r. ⌜ (r ≡ countedIn (now (codes .entry)) (now (needs .entry)) d)
         × (now (left .exit) ≡ leftOf (now (codes .entry)) (now (needs .entry)) d)
         × (now (right .exit) ≡ rightOf (now (codes .entry)) (now (needs .entry)) d) ⌝ }
 {
-    words::clear(left);
-    words::clear(right);
+    memory::clear(left);
+    memory::clear(right);
     fill_sides(codes, needs, d, left, right)
 }
 
@@ -85,7 +87,7 @@ fn prepare(codes: &[u64], needs: &mut [u64])
     side_items::find_args(codes, &mut needs[..n]);
     let mut rels = [0u64; codes::RELATION_SETS];
     side_relations::relation_sets(codes, &needs[..n], &mut rels);
-    words::copy(&rels, &mut needs[n..]);
+    memory::copy(&rels, &mut needs[n..]);
 }
 
 // The atoms that are left.
@@ -102,10 +104,10 @@ fn build_in(
     codes: &[u64],
     needs: &mut [u64],
     tests: u64,
-    left: &mut [u64; TABLE],
-    right: &mut [u64; TABLE],
+    left: &mut Table,
+    right: &mut Table,
 ) -> Built
-    requires { ⌜ (length (now needs) ≡ length (now codes) + 48) × (length (now codes) ≤ 4096) × (now left ≡ zeros 4241) × (now right ≡ zeros 4241) ⌝ }
+    requires { ⌜ (length (now needs) ≡ length (now codes) + 48) × (length (now codes) ≤ 4096) × (now left ≡ zeros TABLE) × (now right ≡ zeros TABLE) ⌝ }
     ensures { λ r. ⌜ (r ≡ builtFrom tests (now (codes .entry))) × (now (left .exit) ≡ leftTable (now (codes .entry)))
         × (now (right .exit) ≡ rightTable (now (codes .entry))) ⌝ }
 {
@@ -120,13 +122,8 @@ fn build_in(
 }
 
 // No more than 464 codes, with little memory.
-fn build_short(
-    codes: &[u64],
-    tests: u64,
-    left: &mut [u64; TABLE],
-    right: &mut [u64; TABLE],
-) -> Built
-    requires { ⌜ (length (now codes) ≤ 464) × (now left ≡ zeros 4241) × (now right ≡ zeros 4241) ⌝ }
+fn build_short(codes: &[u64], tests: u64, left: &mut Table, right: &mut Table) -> Built
+    requires { ⌜ (length (now codes) ≤ 464) × (now left ≡ zeros TABLE) × (now right ≡ zeros TABLE) ⌝ }
     ensures { λ r. ⌜ (r ≡ builtFrom tests (now (codes .entry))) × (now (left .exit) ≡ leftTable (now (codes .entry)))
         × (now (right .exit) ≡ rightTable (now (codes .entry))) ⌝ }
 {
@@ -136,8 +133,8 @@ fn build_short(
 }
 
 // No more than 4,096 codes.
-fn build_long(codes: &[u64], tests: u64, left: &mut [u64; TABLE], right: &mut [u64; TABLE]) -> Built
-    requires { ⌜ (length (now codes) ≤ 4096) × (now left ≡ zeros 4241) × (now right ≡ zeros 4241) ⌝ }
+fn build_long(codes: &[u64], tests: u64, left: &mut Table, right: &mut Table) -> Built
+    requires { ⌜ (length (now codes) ≤ 4096) × (now left ≡ zeros TABLE) × (now right ≡ zeros TABLE) ⌝ }
     ensures { λ r. ⌜ (r ≡ builtFrom tests (now (codes .entry))) × (now (left .exit) ≡ leftTable (now (codes .entry)))
         × (now (right .exit) ≡ rightTable (now (codes .entry))) ⌝ }
 {
@@ -148,19 +145,13 @@ fn build_long(codes: &[u64], tests: u64, left: &mut [u64; TABLE], right: &mut [u
 
 // The tables of the two sides of the claim of the first n codes, of which no more than 4,096 count, and the atoms of so many tests that are left.
 // Clear tables are asked for, since whoever lends them has to clear them where a query is refused.
-pub fn build(
-    codes: &[u64],
-    n: usize,
-    tests: u64,
-    left: &mut [u64; TABLE],
-    right: &mut [u64; TABLE],
-) -> Built
-    requires { ⌜ (now left ≡ zeros 4241) × (now right ≡ zeros 4241) ⌝ }
+pub fn build(codes: &[u64], n: usize, tests: u64, left: &mut Table, right: &mut Table) -> Built
+    requires { ⌜ (now left ≡ zeros TABLE) × (now right ≡ zeros TABLE) ⌝ }
     ensures { λ r. ⌜ (r ≡ builtFrom tests (take (min n 4096) (now (codes .entry))))
         × (now (left .exit) ≡ leftTable (take (min n 4096) (now (codes .entry))))
         × (now (right .exit) ≡ rightTable (take (min n 4096) (now (codes .entry)))) ⌝ }
 {
-    let m = words::least(words::least(n, 4096), codes.len());
+    let m = memory::least(memory::least(n, 4096), codes.len());
     let part = &codes[..m];
     if m <= 464 {
         return build_short(part, tests, left, right);

@@ -1,21 +1,20 @@
 -- The expressions of a query by the codes that they end with: those assumed empty and those assumed irreflexive in the lines that count, and
 -- those of the claim, which is the last line.
 -- Assumes nothing.
-use Prim.Native.Nat.{ℕ, suc, _+_, _≤_, _<_}
+use Prim.Native.Nat.{ℕ, suc, _+_, _≤_}
 use native.Mathlib.Omega.{arith}
 use mathlib.Core.Path.{_≡_, refl, sym, _∙_, ap, ap₂, subst}
 use mathlib.Core.Bool.{Bool, true, false, cond, _&&_}
-use mathlib.Core.List.{List, [], _∷_, _++_, append-nil, append-assoc, append-eq-nil-iff}
+use mathlib.Core.List.{List, [], _∷_, _++_, append-nil, append-eq-nil-iff}
 use lib.Dec.{eqb}
-use lib.ListN.{length, length-append}
 use borrow.Author.Tests.{ne-eqb}
 use Rattle.claims.specs.Tree.{Tree, Claim, includes, empty, irreflexive, Line, testLine, relLine, letLine, neverLine, withinLine, closedLine, assumeEmpty, assumeIrreflexive, claimLine}
 use Rattle.claims.specs.Query.{Query, each, assumedEmpty, assumedIrreflexive, claimsOf}
-use Rattle.codes.specs.Codes.{treeCodes, linesCodes, queryCodes}
+use Rattle.codes.specs.Codes.{queryCodes}
 use Rattle.codes.proofs.Claimed.{Claimed}
 use Rattle.side_items.specs.Items.{startsOf}
 use Rattle.side_items.proofs.Placed.{Placed, PlacedAll}
-use Rattle.side_claim.specs.Decisions.{ofLines}
+use Rattle.claims.specs.Under.{ofLines}
 use Rattle.side_claim.proofs.Starts.{only, lineEnds, claimEnding, ending, endings, ending-placed}
 
 -- lines without a claim have one end each

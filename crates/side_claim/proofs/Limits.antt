@@ -1,11 +1,10 @@
--- A decision within the limits: there is room for the leaves of both sides, and each side has few enough occurrences. Where all lines count, the
--- limits are those of the query's claim.
+-- A decision within the limits: there is room for the leaves of both sides, and each side has few enough occurrences.
 -- Assumes nothing.
 use Prim.Native.Nat.{ℕ, _+_, _≤_}
 use native.Mathlib.Omega.{arith}
 use mathlib.Core.Path.{_≡_, refl, ap, ap₂}
 use mathlib.Core.Bool.{Bool, true, _&&_}
-use mathlib.Core.List.{List, [], _∷_, _++_}
+use mathlib.Core.List.{List, [], _∷_}
 use lib.Dec.{leb}
 use borrow.Author.Tests.{leb-true}
 use Rattle.kat.specs.Tables.{occurrences}
@@ -14,12 +13,10 @@ use Rattle.claims.specs.Tree.{Tree, Claim, includes, empty, irreflexive}
 use Rattle.claims.specs.Query.{Query, assumedEmpty, assumedIrreflexive}
 use Rattle.claims.specs.Sides.{unionAll, somewhere}
 use Rattle.claims.specs.Width.{width}
-use Rattle.claims.specs.Counting.{occurrencesOf, leavesOf, total, Size, sizeOf, withAnys, leftSize, rightSize, rightLimit, withinLimits}
+use Rattle.claims.specs.Counting.{occurrencesOf, leavesOf, total, Size, sizeOf, withAnys, leftSize, rightLimit}
 use Rattle.claims.proofs.Counts.{counted-occurrences, total-append}
-use Rattle.side_claim.specs.Decisions.{ofLines, emptyUnder, irreflexiveUnder, decisionUnder}
-use Rattle.side_claim.specs.Limits.{rightUnder, withinUnder}
+use Rattle.claims.specs.Under.{ofLines, emptyUnder, irreflexiveUnder, decisionUnder, rightUnder, withinUnder}
 use Rattle.side_claim.proofs.Sides.{leavesLeft, leavesBeside, Roomy}
-use Rattle.side_claim.proofs.Claims.{all-lines}
 
 -- the sizes of a decision, each within its limit
 pub record Fits (counts : ℕ → Bool) (q : Query) (c : Claim) : Type 0 where
@@ -103,21 +100,3 @@ module _ (counts : ℕ → Bool) (q : Query) where
 
   pub right-few : (c : Claim) → withinUnder counts q c ≡ true → occurrences (decisionUnder counts q c .right) ≤ 64
   right-few c w = omega (arith, right-within c w, few-of-limit c)
-
--- all lines count
-module _ (counts : ℕ → Bool) (all : (l : ℕ) → counts l ≡ true) (q : Query) where
-  right-all : (c : Claim) → rightUnder counts q c ≡ rightSize q c
-  unfolding rightUnder rightSize
-  right-all (includes e f) = ap (λ es. withAnys 1 (sizeOf q (f ∷ es))) (all-lines counts all assumedEmpty 0 q)
-  right-all (empty e) = ap (λ es. withAnys 2 (sizeOf q es)) (all-lines counts all assumedEmpty 0 q)
-  right-all (irreflexive e) =
-      ap₂ (λ es fs. withAnys 0 (sizeOf q (es ++ fs))) (all-lines counts all assumedIrreflexive 0 q) (all-lines counts all assumedEmpty 0 q)
-
-  pub within-all : (c : Claim) → withinUnder counts q c ≡ withinLimits q c
-  unfolding withinUnder withinLimits
-  within-all c =
-      ap₂ (λ (s : Size) es.
-      (leb (leftSize q c .occurrences) 64 && leb (leftSize q c .leaves) 512)
-      && (leb (s .occurrences) (rightLimit c) && leb (s .leaves) 512)
-      && leb (sizeOf q es .leaves) 512)
-      (right-all c) (all-lines counts all assumedIrreflexive 0 q)

@@ -22,7 +22,6 @@ use Rattle.bits.proofs.Bit.{bit-ones}
 use Rattle.side_atoms.specs.Atoms.{atomsOf, allAtoms}
 use Rattle.side_atoms.proofs.Atoms.{atoms-none, atoms-all}
 use Rattle.side_atoms.proofs.Singles.{any-single}
-use Rattle.side_stack.specs.Stack.{topPart}
 use Rattle.side_parts.specs.Machine.{Machine, given, united, anyStar, nothingBuilt}
 use Rattle.side_items.specs.Items.{itemsOf, startsOf}
 use Rattle.side_items.proofs.Placed.{Placed, PlacedAll, Limited}
@@ -35,7 +34,7 @@ use Rattle.side_parts.proofs.BuildsJoined.{builds-union, builds-sequence}
 use Rattle.side_parts.proofs.BuildsIterated.{builds-star}
 use Rattle.side_parts.proofs.BuiltAlone.{builds-on-nothing, built-null}
 use Rattle.side_claim.specs.Sides.{isRing, placed, assumed, zeroSet, zeroFor, between, around, leftMachine, besides, rightMachine}
-use Rattle.side_claim.specs.Decisions.{ofLines, emptyUnder, irreflexiveUnder, decisionUnder}
+use Rattle.claims.specs.Under.{ofLines, emptyUnder, irreflexiveUnder, decisionUnder}
 use Rattle.side_claim.specs.declared.Decision.{Decision}
 use Rattle.side_claim.proofs.Endings.{empty-placed, irreflexive-placed}
 

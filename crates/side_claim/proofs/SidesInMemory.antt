@@ -15,12 +15,13 @@ use Rattle.side_parts.specs.Machine.{Machine, given, united, inOrder, anyStar, 
 use Rattle.side_items.specs.Items.{startsFrom, startsOf}
 use Rattle.side_runs.specs.Program.{itemsIn, setsIn, countsIn}
 use Rattle.side_runs.specs.Execution.{execute, executeAt, executeAll, unitedTimes, executeUnion}
-use Rattle.words.specs.Memory.{zeros}
+use Rattle.memory.specs.Memory.{zeros}
 use Rattle.side_parts.proofs.Unbuilt.{Unbuilt, unbuilt-start, unbuilt-null}
 use Rattle.side_runs.proofs.Unbuilt.{union-unbuilt}
 use Rattle.side_runs.proofs.RunningAll.{starts-none, starts-inside, starts-other, starts-found}
 use Rattle.side_claim.specs.Sides.{firstOf, startOf, isRing, placed, assumed, zeroSet, zeroFor, between, around, leftMachine, besides, rightMachine}
 use Rattle.side_claim.specs.declared.Decision.{Decision}
+use Rattle.side_tables.specs.Layout.{TABLE}
 
 -- a test negated
 pub not-there : (b : Bool) → not b ≡ true → b ≡ false
@@ -96,7 +97,7 @@ unfolding zeroFor
 zero-path ks ns ring r e f = f ∙ sym (ap (λ b. cond b 0 (zeroSet ks ns)) e)
 
 -- the set of length-0 words of a1, by a machine that builds nothing
-module _ (ks ns : List ℕ) (m n : Machine) (clear : m .table ≡ zeros 4241) (full : m .used ≡ 64) (none : m .stack ≡ [])
+module _ (ks ns : List ℕ) (m n : Machine) (clear : m .table ≡ zeros TABLE) (full : m .used ≡ 64) (none : m .stack ≡ [])
     (ran : n ≡ executeUnion (setsIn ks ns) (itemsIn ks ns) (startsOf (countsIn ks ns) 134 ks) m) where
   ran-unbuilt : Unbuilt n (assumed ks ns 134 nothingBuilt)
   unfolding assumed nothingBuilt
@@ -108,7 +109,7 @@ module _ (ks ns : List ℕ) (m n : Machine) (clear : m .table ≡ zeros 4241) (f
   unfolding zeroSet
   zero-found a g = ap (λ (p : Part). p .null) g ∙ unbuilt-null n (assumed ks ns 134 nothingBuilt) ran-unbuilt
 
-  pub still-clear : n .table ≡ zeros 4241
+  pub still-clear : n .table ≡ zeros TABLE
   still-clear = ran-unbuilt .clear
 
 module _ (ks ns : List ℕ) (d : Decision) where

@@ -1,4 +1,2 @@
--- The two sides of a decision, from a program; what they are of a query; and its limits.
+-- The two sides of a decision, from a program.
 pub mod Sides
-pub mod Decisions
-pub mod Limits

@@ -3,10 +3,12 @@ use side_runs::run_from;
 use side_runs::run_union;
 use side_stack::STACK;
 use side_tables::TABLE;
+use side_tables::Table;
 ghost use mathlib.Core.Path.{_≡_};
-ghost use Rattle.words.specs.Memory.{zeros};
+ghost use Rattle.memory.specs.Memory.{zeros};
 ghost use Rattle.side_parts.specs.Machine.{machineIn};
 ghost use Rattle.side_claim.specs.Sides.{startOf, leftEnd, claimed, isRing, zeroSet, zeroFor, between, around, leftMachine, besides, rightMachine};
+ghost use Rattle.side_tables.specs.Layout.{TABLE};
 
 // What is claimed: its kind, which is the code of a claim, where the claimed expression starts, and for an inclusion where the one starts that
 // it is to lie in.
@@ -64,10 +66,10 @@ pub fn left_side(
     codes: &[u64],
     needs: &[u64],
     d: Decision,
-    table: &mut [u64; TABLE],
+    table: &mut Table,
     parts: &mut [u64; STACK],
 )
-    requires { ⌜ now table ≡ zeros 4241 ⌝ }
+    requires { ⌜ now table ≡ zeros TABLE ⌝ }
     ensures { λ r. ⌜ machineIn (now (table .exit)) (now (parts .exit)) ≡ leftMachine (now (codes .entry)) (now (needs .entry)) d ⌝ }
 {
     side_stack::empty(parts);
@@ -76,9 +78,9 @@ pub fn left_side(
 
 // The atoms that are words of a1, where some expression is assumed irreflexive. Which atoms are words does not depend on the occurrences, so none
 // is added, and the table stays clear.
-fn zero_of(codes: &[u64], needs: &[u64], table: &mut [u64; TABLE], parts: &mut [u64; STACK]) -> u64
-    requires { ⌜ now table ≡ zeros 4241 ⌝ }
-    ensures { λ r. ⌜ (r ≡ zeroSet (now (codes .entry)) (now (needs .entry))) × (now (table .exit) ≡ zeros 4241) ⌝ }
+fn zero_of(codes: &[u64], needs: &[u64], table: &mut Table, parts: &mut [u64; STACK]) -> u64
+    requires { ⌜ now table ≡ zeros TABLE ⌝ }
+    ensures { λ r. ⌜ (r ≡ zeroSet (now (codes .entry)) (now (needs .entry))) × (now (table .exit) ≡ zeros TABLE) ⌝ }
 {
     side_stack::full(parts);
     run_union(codes, needs, codes::ASSUME_IRREFLEXIVE, table, parts);
@@ -91,11 +93,11 @@ fn zero_for(
     codes: &[u64],
     needs: &[u64],
     ring: bool,
-    table: &mut [u64; TABLE],
+    table: &mut Table,
     parts: &mut [u64; STACK],
 ) -> u64
-    requires { ⌜ now table ≡ zeros 4241 ⌝ }
-    ensures { λ r. ⌜ (r ≡ zeroFor (now (codes .entry)) (now (needs .entry)) ring) × (now (table .exit) ≡ zeros 4241) ⌝ }
+    requires { ⌜ now table ≡ zeros TABLE ⌝ }
+    ensures { λ r. ⌜ (r ≡ zeroFor (now (codes .entry)) (now (needs .entry)) ring) × (now (table .exit) ≡ zeros TABLE) ⌝ }
 {
     if ring {
         return 0;
@@ -114,13 +116,7 @@ fn is_ring(d: Decision) -> bool
 }
 
 // What any*;e;any* is united with: y of an inclusion, `[false]` of an empty claim, a1 of a ring claim.
-fn beside(
-    codes: &[u64],
-    needs: &[u64],
-    d: Decision,
-    table: &mut [u64; TABLE],
-    parts: &mut [u64; STACK],
-)
+fn beside(codes: &[u64], needs: &[u64], d: Decision, table: &mut Table, parts: &mut [u64; STACK])
     ensures { λ r. ⌜ machineIn (now (table .exit)) (now (parts .exit))
         ≡ besides (now (codes .entry)) (now (needs .entry)) d (machineIn (now (table .entry)) (now (parts .entry))) ⌝ }
 {
@@ -141,7 +137,7 @@ fn inside(
     needs: &[u64],
     ring: bool,
     zero: u64,
-    table: &mut [u64; TABLE],
+    table: &mut Table,
     parts: &mut [u64; STACK],
 )
     ensures { λ r. ⌜ machineIn (now (table .exit)) (now (parts .exit))
@@ -160,7 +156,7 @@ fn put_around(
     needs: &[u64],
     ring: bool,
     zero: u64,
-    table: &mut [u64; TABLE],
+    table: &mut Table,
     parts: &mut [u64; STACK],
 )
     ensures { λ r. ⌜ machineIn (now (table .exit)) (now (parts .exit))
@@ -178,10 +174,10 @@ pub fn right_side(
     codes: &[u64],
     needs: &[u64],
     d: Decision,
-    table: &mut [u64; TABLE],
+    table: &mut Table,
     parts: &mut [u64; STACK],
 )
-    requires { ⌜ now table ≡ zeros 4241 ⌝ }
+    requires { ⌜ now table ≡ zeros TABLE ⌝ }
     ensures { λ r. ⌜ machineIn (now (table .exit)) (now (parts .exit)) ≡ rightMachine (now (codes .entry)) (now (needs .entry)) d ⌝ }
 {
     let ring = is_ring(d);

@@ -8,9 +8,9 @@ use mathlib.Core.Bool.{Bool, true, false, cond}
 use mathlib.Core.List.{List, _++_}
 use lib.Dec.{eqb}
 use lib.ListN.{length, getD, set, take, drop, length-take, length-drop, length-replicate, getD-replicate, take-append-drop}
-use lib.Seq.{slice, take-add, ext-getD, getD-take, getD-drop, getD-set-same, getD-set-other}
+use lib.Seq.{slice, ext-getD, getD-take, getD-drop, getD-set-same, getD-set-other}
 use borrow.Author.Tests.{eqb-true, eqb-false}
-use Rattle.words.specs.Memory.{zeros}
+use Rattle.memory.specs.Memory.{zeros}
 use Rattle.side_items.specs.Items.{Scan, ofTest, argOf}
 use Rattle.side_items.specs.inner.Blank.{Blank}
 use Rattle.side_items.proofs.Scanned.{test-arg}

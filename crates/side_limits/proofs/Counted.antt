@@ -7,7 +7,7 @@ use mathlib.Core.Path.{_≡_, refl, _∙_, ap, ap₂, fun-ext}
 use mathlib.Core.Bool.{Bool, true, false, cond, not, _&&_}
 use mathlib.Core.List.{List, []}
 use lib.Dec.{eqb, leb}
-use lib.ListN.{length, drop}
+use lib.ListN.{length, getD, drop}
 use lib.Seq.{getD-drop}
 use borrow.Author.Tests.{leb-true, le-leb}
 use Rattle.kat.proofs.Bools.{bool-ext}
@@ -23,15 +23,14 @@ use Rattle.codes.proofs.Claimed.{Claimed}
 use Rattle.bits.proofs.Bit.{bit-none}
 use Rattle.side_items.specs.Items.{startsOf}
 use Rattle.side_items.proofs.Placed.{Placed, PlacedAll}
-use Rattle.side_runs.specs.Program.{countsIn}
+use Rattle.side_runs.specs.Program.{countsFrom, countsIn}
 use Rattle.side_claim.specs.Sides.{claimed, isRing}
-use Rattle.side_claim.specs.Decisions.{ofLines, decisionUnder}
-use Rattle.side_claim.specs.Limits.{rightUnder, withinUnder}
+use Rattle.claims.specs.Under.{ofLines, decisionUnder, rightUnder, withinUnder}
 use Rattle.side_claim.specs.declared.Decision.{Decision}
 use Rattle.side_claim.proofs.Endings.{empty-placed, irreflexive-placed}
 use Rattle.side_claim.proofs.Sides.{Stands}
 use Rattle.side_claim.proofs.Claims.{claim-stands}
-use Rattle.side_claim.proofs.Limits.{within-all}
+use Rattle.claims.proofs.Under.{within-all}
 use Rattle.side_limits.specs.declared.Sizes.{Sizes}
 use Rattle.side_limits.specs.Tally.{capped, weight, relationCount, letCounts, codeCount}
 use Rattle.side_limits.specs.Places.{countAt, countAll, notOut, countKind}
@@ -244,8 +243,11 @@ module _ (q : Query) (c : Claim) (h : Claimed q c) (out : List ℕ) (x : Claim) 
 
 -- in a program the set of the lines left out stands behind what the codes need and the sets of the relations
 counts-behind : (ks ns : List ℕ) → notOut (drop (length ks + 48) ns) ≡ countsIn ks ns
-unfolding notOut countsIn
-counts-behind ks ns = fun-ext (λ l. ap (λ w. not (bit (l % 64) w)) (getD-drop (length ks + 48) ns (l / 64) 0))
+unfolding notOut countsIn countsFrom
+counts-behind ks ns =
+    fun-ext (λ l.
+    let z : 0 + l / 64 ≡ l / 64 = omega arith in
+    ap (λ w. not (bit (l % 64) w)) (ap (λ i. getD (drop (length ks + 48) ns) i 0) z ∙ getD-drop (length ks + 48) ns (l / 64) 0))
 
 pub within-is-in-program : (q : Query) (c : Claim) → Claimed q c → (ns : List ℕ) (x : Claim) (d : Decision) → Stands q x d
     → withinTest (sizesOf (drop (length (queryCodes q) + 48) ns) d (queryCodes q)) ≡ withinUnder (countsIn (queryCodes q) ns) q x
@@ -254,7 +256,7 @@ within-is-in-program q c h ns x d s =
 
 -- the claim of the query, where no line is left out
 none-out : (l : ℕ) → notOut [] l ≡ true
-unfolding notOut
+unfolding notOut countsFrom
 none-out l = ap not (bit-none (l % 64))
 
 pub within-is-within : (q : Query) (c : Claim) → Claimed q c → withinTest (sizesOf [] (claimed (queryCodes q)) (queryCodes q)) ≡ withinLimits q c

@@ -13,7 +13,7 @@ use lib.ListN.{length, getD, set, take, replicate, length-append, length-replica
 use lib.Seq.{take-all, getD-set-same, getD-set-other, getD-at}
 use borrow.Author.Tests.{eq-eqb, ne-eqb, lt-ltb, le-ltb}
 use Rattle.kat.proofs.Bools.{lt-or-le}
-use Rattle.words.proofs.Words.{same-or-not}
+use Rattle.memory.proofs.Words.{same-or-not}
 use Rattle.side_limits.specs.Tally.{Tally, capped, weight, step, nothing, howMany, times, relationCount}
 use Rattle.side_limits.specs.inner.CappedSums.{Table}
 use Rattle.side_limits.proofs.Walk.{how-many-more}

@@ -1,14 +1,14 @@
 -- What the expressions of a query count, by the places in its codes where they start: a claim and the assumptions are found by the same places from
 -- which their tables are built. (Document 01, "Standings", Limits; the places are those of the crate `side_items`.)
 -- Assumes nothing.
-use Prim.Native.Nat.{ℕ, _+_, _/_, _%_}
-use mathlib.Core.Bool.{Bool, cond, not}
+use Prim.Native.Nat.{ℕ, _+_}
+use mathlib.Core.Bool.{Bool, cond}
 use mathlib.Core.List.{List, [], _∷_}
 use lib.Dec.{ltb}
-use lib.ListN.{getD, drop}
-use Rattle.claims.specs.Query.{bit}
+use lib.ListN.{drop}
 use Rattle.codes.specs.Codes.{LINE}
 use Rattle.side_items.specs.Items.{startsOf}
+use Rattle.side_runs.specs.Program.{countsFrom}
 
 -- what codes count together up to the first that ends a line, or the left side of an inclusion, where each counts what f gives it
 unfoldable pub untilEnd : (ℕ → ℕ) → List ℕ → ℕ
@@ -24,9 +24,9 @@ unfoldable pub countAll : (ℕ → ℕ) → List ℕ → List ℕ → ℕ
 countAll f ks [] = 0
 countAll f ks (s ∷ ss) = countAt f ks s + countAll f ks ss
 
--- line l, counted from 0, counts as an assumption: it is not in the set of the lines left out, which has it as bit l % 64 of word l / 64
+-- line l counts as an assumption: it is not in the set of the lines left out
 unfoldable pub notOut : List ℕ → ℕ → Bool
-notOut out l = not (bit (l % 64) (getD out (l / 64) 0))
+notOut out l = countsFrom 0 out l
 
 -- the expressions that end with the code k, of the lines that are not left out
 unfoldable pub countKind : (ℕ → ℕ) → List ℕ → List ℕ → ℕ → ℕ

@@ -12,6 +12,7 @@ use Rattle.side_limits.specs.declared.Size.{Size}
 use Rattle.side_limits.specs.declared.Sizes.{Sizes}
 use Rattle.side_limits.specs.Tally.{capped, codeCount}
 use Rattle.side_limits.specs.Places.{countAt, countKind}
+use Rattle.layout.specs.Layout.{MOST-RIGHT}
 
 -- what any*;e;any* is united with: y of an inclusion, `[false]` of an empty claim, which counts what a bracketed test does, a1 of a ring claim ("Words")
 unfoldable pub beside : Decision → ℕ → ℕ → ℕ → ℕ
@@ -53,5 +54,5 @@ sizesOf out d ks = cappedSizes (exactSizes out d ks)
 unfoldable pub withinTest : Sizes → Bool
 withinTest s =
     (leb (s .left .occurrences) 64 && leb (s .left .leaves) 512)
-    && (leb (s .right .occurrences) (cond (s .ring) 31 64) && leb (s .right .leaves) 512)
+    && (leb (s .right .occurrences) (cond (s .ring) MOST-RIGHT 64) && leb (s .right .leaves) 512)
     && leb (s .own) 512

@@ -1,18 +1,18 @@
 // Occurrences and leaves of the two sides of a decision, counted from the codes of a query by the places where its expressions start, and the
 // limits that refusal 8 is for (document 01, "Standings", Limits). Nothing is expanded: a let counts what its expression counted, and every
 // sum stops at 1,000, above all limits.
+use memory::word;
 use side_claim::Decision;
-use words::word;
 ghost use mathlib.Core.Path.{_≡_};
-ghost use mathlib.Core.Bool.{cond, _&&_};
+ghost use mathlib.Core.Bool.{cond};
 ghost use mathlib.Core.List.{[]};
 ghost use Prim.Native.Nat.{ℕ, _+_};
-ghost use lib.Dec.{eqb};
 ghost use lib.ListN.{replicate};
 ghost use Rattle.side_limits.specs.Tally.{capped, tally, relationCount};
-ghost use Rattle.side_limits.specs.Places.{countAt, notOut, countKind};
+ghost use Rattle.side_limits.specs.Places.{countAt, countKind};
 ghost use Rattle.side_limits.specs.Sizes.{rightOf, sizesOf, withinTest};
 ghost use Rattle.side_limits.specs.inner.CappedSums.{inTable, Table, sumsOf};
+ghost use Rattle.layout.specs.Layout.{MOST-RIGHT};
 
 // Occurrences and leaves of a side, up to 1,000.
 pub struct Size {
@@ -59,10 +59,10 @@ fn start_table(test: u64, table: &mut [u64])
 {
     let mut i = codes::A_RELATION as usize;
     while i < codes::ANY as usize {
-        words::store(table, i, 1);
+        memory::store(table, i, 1);
         i += 1;
     }
-    words::store(table, codes::TESTED as usize, test);
+    memory::store(table, codes::TESTED as usize, test);
 }
 
 // Each `within` line gives its relation two tests more.
@@ -83,7 +83,7 @@ fn add_limits(codes: &[u64], test: u64, table: &mut [u64])
         }
         let at = (codes::A_RELATION + (k - codes::WITHIN_LINE)) as usize;
         let w = add(word(table, at), tests);
-        words::store(table, at, w);
+        memory::store(table, at, w);
     }
 }
 
@@ -105,7 +105,7 @@ fn count_lets(codes: &[u64], table: &mut [u64])
             sum = 0;
             continue;
         }
-        words::store(table, codes::A_LET as usize + n, sum);
+        memory::store(table, codes::A_LET as usize + n, sum);
         n += 1;
         sum = 0;
     }
@@ -128,16 +128,6 @@ fn count_at(codes: &[u64], from: usize, table: &[u64]) -> u64
     sum
 }
 
-// Whether the expression that ends with `code` in line l is one of those that end with `kind` and are not left out.
-fn is_one(out: &[u64], code: u64, kind: u64, l: usize) -> bool
-    ensures { λ r. ⌜ r ≡ (eqb code kind && notOut (now (out .entry)) l) ⌝ }
-{
-    if code == kind {
-        return !bits::member(word(out, l / 64), l % 64);
-    }
-    false
-}
-
 // What the expressions count that end with the code `kind`, of the lines that are not left out.
 fn count_kind(codes: &[u64], out: &[u64], kind: u64, table: &[u64]) -> u64
     ensures { λ r. ⌜ r ≡ capped (countKind (inTable (now (table .entry))) (now (codes .entry)) (now (out .entry)) kind) ⌝ }
@@ -152,7 +142,7 @@ fn count_kind(codes: &[u64], out: &[u64], kind: u64, table: &[u64]) -> u64
         if code < codes::LINE {
             continue;
         }
-        let one = is_one(out, code, kind, line);
+        let one = side_runs::is_one(out, 0, code, kind, line);
         line += 1;
         if !one {
             start = i;
@@ -217,11 +207,14 @@ pub fn sizes_of(codes: &[u64], out: &[u64], d: Decision) -> Sizes
     }
 }
 
+// The right occurrences that a ring claim may have.
+const MOST_RIGHT: u64 = layout::MOST_RIGHT as u64;
+
 // The most occurrences of a right side.
 fn right_limit(ring: bool) -> u64
-    ensures { λ r. ⌜ r ≡ cond ring 31 64 ⌝ }
+    ensures { λ r. ⌜ r ≡ cond ring MOST-RIGHT 64 ⌝ }
 {
-    if ring { 31 } else { 64 }
+    if ring { MOST_RIGHT } else { 64 }
 }
 
 // Whether a decision with these sizes is within the limits; else refusal 8.

@@ -9,7 +9,7 @@ use mathlib.Core.List.{List, _∷_}
 use lib.ListN.{length}
 use borrow.Author.Tests.{lt-ltb}
 use Rattle.kat.specs.Expr.{Expr, test}
-use Rattle.kat.specs.Tables.{occurrences, null}
+use Rattle.kat.specs.Tables.{null}
 use Rattle.claims.specs.Query.{bit}
 use Rattle.side_atoms.specs.Atoms.{atomsOf}
 use Rattle.side_atoms.specs.Single.{Single}

@@ -15,9 +15,10 @@ use Rattle.side_atoms.specs.Atoms.{allAtoms}
 use Rattle.side_tables.specs.InPlace.{added, sequenced, iterated}
 use Rattle.side_stack.specs.Stack.{topPart, underPart, pushPart, usedIn, stackIn}
 use Rattle.side_stack.specs.declared.Part.{Part}
-use Rattle.words.specs.Memory.{zeros}
-use Rattle.words.proofs.Zeros.{zeros-words}
+use Rattle.memory.specs.Memory.{zeros}
+use Rattle.memory.proofs.Zeros.{zeros-words}
 use Rattle.side_parts.specs.Machine.{Machine, machineIn, given, fresh, united, inOrder, again, optional, stepped, nothingBuilt}
+use Rattle.side_tables.specs.Layout.{TABLE}
 
 -- the memory after each change: the number of occurrences and the parts that it holds, and the table
 module _ (t ws vs : List ℕ) where
@@ -67,12 +68,12 @@ again-kept t ws a c d =
     let z : topPart (stackIn ws) .looped ≡ true = ap (λ (p : Part). p .looped) (sym c) ∙ d in
     sym (rw z refl)
 
-pub nothing-made : (t ws : List ℕ) (n : ℕ) → t ≡ zeros n → n ≡ 4241 → usedIn ws ≡ 0 → stackIn ws ≡ [] → machineIn t ws ≡ nothingBuilt
+pub nothing-made : (t ws : List ℕ) (n : ℕ) → t ≡ zeros n → n ≡ TABLE → usedIn ws ≡ 0 → stackIn ws ≡ [] → machineIn t ws ≡ nothingBuilt
 unfolding machineIn nothingBuilt
-nothing-made t ws n e f g h = rw (e, f, g, h, zeros-words 4241) refl
+nothing-made t ws n e f g h = rw (e, f, g, h, zeros-words TABLE) refl
 
-pub clear-made : (t ws : List ℕ) → t ≡ zeros 4241 → (usedIn ws ≡ 0) × (stackIn ws ≡ []) → machineIn t ws ≡ nothingBuilt
-clear-made t ws e (f, g) = nothing-made t ws 4241 e refl f g
+pub clear-made : (t ws : List ℕ) → t ≡ zeros TABLE → (usedIn ws ≡ 0) × (stackIn ws ≡ []) → machineIn t ws ≡ nothingBuilt
+clear-made t ws e (f, g) = nothing-made t ws TABLE e refl f g
 
 -- a test of a flag
 pub not-looped : (b : Bool) → not b ≡ true → b ≡ false

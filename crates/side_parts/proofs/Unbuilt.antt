@@ -9,13 +9,14 @@ use mathlib.Core.List.{List, [], _∷_, map}
 use lib.Bits.{bitAnd, bitOr}
 use lib.Dec.{eqb, leb, ltb}
 use lib.ListN.{length, getD}
-use Rattle.words.specs.Memory.{zeros}
+use Rattle.memory.specs.Memory.{zeros}
 use Rattle.side_atoms.specs.Atoms.{allAtoms}
 use Rattle.side_tables.specs.InPlace.{sequenced, iterated}
 use Rattle.side_tables.proofs.ClearTables.{added-past, sequenced-none, iterated-none}
 use Rattle.side_stack.specs.Stack.{topPart, underPart, pushPart}
 use Rattle.side_stack.specs.declared.Part.{Part}
 use Rattle.side_parts.specs.Machine.{Machine, given, fresh, united, inOrder, again, optional, stepped}
+use Rattle.side_tables.specs.Layout.{TABLE}
 
 -- a part without the number of its occurrences
 abbrev bare : Part → Part
@@ -65,14 +66,14 @@ module _ (ps qs : List Part) (e : bares ps ≡ bares qs) where
 
 -- the machine m builds nothing, and its parts have the sets that those of n have
 pub record Unbuilt (m n : Machine) : Type 0 where
-  pub clear : m .table ≡ zeros 4241
+  pub clear : m .table ≡ zeros TABLE
   pub full : m .used ≡ 64
   pub alike : bares (m .stack) ≡ bares (n .stack)
 
 pub unbuilt-null : (m n : Machine) → Unbuilt m n → topPart (m .stack) .null ≡ topPart (n .stack) .null
 unbuilt-null m n u = same-null (m .stack) (n .stack) (u .alike)
 
-pub unbuilt-start : (m n : Machine) → m .table ≡ zeros 4241 → m .used ≡ 64 → m .stack ≡ [] → n .stack ≡ [] → Unbuilt m n
+pub unbuilt-start : (m n : Machine) → m .table ≡ zeros TABLE → m .used ≡ 64 → m .stack ≡ [] → n .stack ≡ [] → Unbuilt m n
 unbuilt-start m n t f a b = record { clear = t; full = f; alike = ap bares (a ∙ sym b) }
 
 module _ (m n : Machine) (u : Unbuilt m n) where
@@ -117,7 +118,7 @@ module _ (m n : Machine) (u : Unbuilt m n) where
       record {
         clear =
             ap (sequenced (topPart (underPart ps) .low) (topPart ps .low) (m .used) (topPart (underPart ps) .null) (topPart ps .null)) (u .clear)
-            ∙ sequenced-none 4241 (topPart (underPart ps) .low) (topPart ps .low) (m .used) (topPart (underPart ps) .null) (topPart ps .null);
+            ∙ sequenced-none TABLE (topPart (underPart ps) .low) (topPart ps .low) (m .used) (topPart (underPart ps) .null) (topPart ps .null);
         full = u .full;
         alike = same-push (underPart (underPart ps)) (underPart (underPart qs)) two-under _ _
             (ap₂ (λ a b. record { low = 0; null = bitAnd a b; looped = false }) second-null (same-null ps qs (u .alike)));
@@ -141,7 +142,7 @@ module _ (m n : Machine) (u : Unbuilt m n) where
       go false true e = absurd (true≢false (sym e))
       go false false e =
           record {
-            clear = ap (iterated (topPart ps .low) (m .used)) (u .clear) ∙ iterated-none 4241 (topPart ps .low) (m .used);
+            clear = ap (iterated (topPart ps .low) (m .used)) (u .clear) ∙ iterated-none TABLE (topPart ps .low) (m .used);
             full = u .full;
             alike = same-push (underPart ps) (underPart qs) (same-under ps qs (u .alike)) _ _
                 (ap (λ a. record { low = 0; null = a; looped = true }) (same-null ps qs (u .alike)));

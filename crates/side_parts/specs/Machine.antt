@@ -13,7 +13,8 @@ use Rattle.side_atoms.specs.Atoms.{allAtoms}
 use Rattle.side_tables.specs.InPlace.{added, sequenced, iterated}
 use Rattle.side_stack.specs.Stack.{topPart, underPart, pushPart, usedIn, stackIn}
 use Rattle.side_stack.specs.declared.Part.{Part}
-use Rattle.words.specs.Memory.{words}
+use Rattle.memory.specs.Memory.{words}
+use Rattle.side_tables.specs.Layout.{NULL, TABLE}
 
 -- the table so far, how many occurrences it has, and the parts that wait, the last on top
 pub record Machine : Type 0 where
@@ -101,8 +102,8 @@ stepped rels k x m =
 
 -- nothing built yet
 unfoldable pub nothingBuilt : Machine
-nothingBuilt = record { table = words 4241 (λ i. 0); used = 0; stack = [] }
+nothingBuilt = record { table = words TABLE (λ i. 0); used = 0; stack = [] }
 
 -- the table in the end: it also tells the atoms that are words of the part on top
 unfoldable pub toldTable : Machine → List ℕ
-toldTable m = set (m .table) 4240 (topPart (m .stack) .null)
+toldTable m = set (m .table) NULL (topPart (m .stack) .null)

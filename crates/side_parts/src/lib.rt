@@ -1,13 +1,13 @@
 // One code of an expression, on its table and the parts that wait in memory. (Document 01, "Standings".)
+use memory::word;
 use side_stack::Part;
 use side_stack::STACK;
 use side_tables::TABLE;
-use words::word;
+use side_tables::Table;
 ghost use Prim.Native.Nat.{ℕ, _+_, _^_, _<_};
 ghost use mathlib.Core.Path.{_≡_};
 ghost use mathlib.Core.List.{List};
 ghost use lib.ListN.{getD};
-ghost use Rattle.side_stack.specs.Stack.{topPart, stackIn};
 ghost use Rattle.side_parts.specs.Machine.{machineIn, given, fresh, united, inOrder, again, optional, anyStar, stepped, nothingBuilt, toldTable};
 
 // A bracketed test, whose words are the atoms of the set x.
@@ -57,7 +57,7 @@ fn make_optional(parts: &mut [u64; STACK])
 }
 
 // A new occurrence: at the atoms of f it may be first, at those of l last, at those of g after itself; it reads the relations of s.
-fn add_fresh(table: &mut [u64; TABLE], parts: &mut [u64; STACK], f: u64, l: u64, g: u64, s: u64)
+fn add_fresh(table: &mut Table, parts: &mut [u64; STACK], f: u64, l: u64, g: u64, s: u64)
     ensures { λ r. ⌜ machineIn (now (table .exit)) (now (parts .exit)) ≡ fresh f l g s (machineIn (now (table .entry)) (now (parts .entry))) ⌝ }
 {
     let low = side_stack::used(parts);
@@ -74,7 +74,7 @@ fn add_fresh(table: &mut [u64; TABLE], parts: &mut [u64; STACK], f: u64, l: u64,
 }
 
 // `;`
-pub fn put_in_order(table: &mut [u64; TABLE], parts: &mut [u64; STACK])
+pub fn put_in_order(table: &mut Table, parts: &mut [u64; STACK])
     ensures { λ r. ⌜ machineIn (now (table .exit)) (now (parts .exit)) ≡ inOrder (machineIn (now (table .entry)) (now (parts .entry))) ⌝ }
 {
     let a = side_stack::top(parts);
@@ -92,7 +92,7 @@ pub fn put_in_order(table: &mut [u64; TABLE], parts: &mut [u64; STACK])
 }
 
 // `+`
-fn repeat(table: &mut [u64; TABLE], parts: &mut [u64; STACK])
+fn repeat(table: &mut Table, parts: &mut [u64; STACK])
     ensures { λ r. ⌜ machineIn (now (table .exit)) (now (parts .exit)) ≡ again (machineIn (now (table .entry)) (now (parts .entry))) ⌝ }
 {
     let a = side_stack::top(parts);
@@ -111,7 +111,7 @@ fn repeat(table: &mut [u64; TABLE], parts: &mut [u64; STACK])
 }
 
 // The step of relation r.
-fn add_relation(r: usize, rels: &[u64], table: &mut [u64; TABLE], parts: &mut [u64; STACK])
+fn add_relation(r: usize, rels: &[u64], table: &mut Table, parts: &mut [u64; STACK])
     requires { ⌜ r < 16 ⌝ }
     ensures { λ u. ⌜ machineIn (now (table .exit)) (now (parts .exit))
         ≡ fresh (getD (now (rels .entry)) r 0) (getD (now (rels .entry)) (r + 16) 0) (getD (now (rels .entry)) (r + 32) 0) (2 ^ r)
@@ -125,7 +125,7 @@ fn add_relation(r: usize, rels: &[u64], table: &mut [u64; TABLE], parts: &mut [u
 }
 
 // any*
-pub fn any_star(table: &mut [u64; TABLE], parts: &mut [u64; STACK])
+pub fn any_star(table: &mut Table, parts: &mut [u64; STACK])
     ensures { λ r. ⌜ machineIn (now (table .exit)) (now (parts .exit)) ≡ anyStar (machineIn (now (table .entry)) (now (parts .entry))) ⌝ }
 {
     add_fresh(table, parts, bits::ALL, bits::ALL, 0, 65535);
@@ -134,7 +134,7 @@ pub fn any_star(table: &mut [u64; TABLE], parts: &mut [u64; STACK])
 }
 
 // One code with what it needs.
-pub fn step(code: u64, arg: u64, rels: &[u64], table: &mut [u64; TABLE], parts: &mut [u64; STACK])
+pub fn step(code: u64, arg: u64, rels: &[u64], table: &mut Table, parts: &mut [u64; STACK])
     ensures { λ r. ⌜ machineIn (now (table .exit)) (now (parts .exit))
         ≡ stepped (now (rels .entry)) code arg (machineIn (now (table .entry)) (now (parts .entry))) ⌝ }
 {
@@ -157,17 +157,17 @@ pub fn step(code: u64, arg: u64, rels: &[u64], table: &mut [u64; TABLE], parts: 
 }
 
 // Nothing built: the table is empty, and no part waits.
-pub fn nothing(table: &mut [u64; TABLE], parts: &mut [u64; STACK])
+pub fn nothing(table: &mut Table, parts: &mut [u64; STACK])
     ensures { λ r. ⌜ machineIn (now (table .exit)) (now (parts .exit)) ≡ nothingBuilt ⌝ }
 {
-    words::clear(table);
+    memory::clear(table);
     side_stack::empty(parts);
 }
 
 // The table also tells the atoms that are words of the part on top.
-pub fn tell(table: &mut [u64; TABLE], parts: &[u64; STACK])
+pub fn tell(table: &mut Table, parts: &[u64; STACK])
     ensures { λ r. ⌜ now (table .exit) ≡ toldTable (machineIn (now (table .entry)) (now (parts .entry))) ⌝ }
 {
     let a = side_stack::top(parts);
-    words::store(table, side_tables::NULL, a.null);
+    memory::store(table, side_tables::NULL, a.null);
 }

@@ -20,9 +20,9 @@ use Rattle.bits.specs.Sets.{allBelow}
 use Rattle.bits.proofs.Bit.{bit-and, or-assoc}
 use Rattle.bits.proofs.Rows.{bit-all}
 use Rattle.side_atoms.specs.Atoms.{allAtoms}
-use Rattle.words.specs.Memory.{words}
+use Rattle.memory.specs.Memory.{words}
 use Rattle.side_atoms.proofs.Atoms.{bit-not, atoms-ext}
-use Rattle.words.proofs.Words.{words-ext, words-same}
+use Rattle.memory.proofs.Words.{words-ext, words-same}
 use Rattle.side_items.specs.Items.{Item, paired}
 use Rattle.side_relations.specs.Relations.{narrowed, limitsFrom, limitSets, closedSet, closedIn, relationAt, relationSets, removedSet, liveSet}
 use Rattle.side_relations.proofs.ClosedSets.{closed-bit}

@@ -21,11 +21,11 @@ use Rattle.codes.specs.Codes.{testCodes, lineCodes, linesCodes, queryCodes}
 use Rattle.codes.proofs.Names.{has, index-lt}
 use Rattle.codes.proofs.Orderly.{Orderly, slip-first, slip-append, Settled, settled-none, settled-more}
 use Rattle.side_atoms.specs.Atoms.{atomsOf, allAtoms}
-use Rattle.words.specs.Memory.{words}
+use Rattle.memory.specs.Memory.{words}
 use Rattle.side_atoms.specs.Single.{starts, stops}
 use Rattle.side_atoms.specs.Tests.{testSet}
 use Rattle.side_atoms.proofs.Atoms.{atoms-same, atoms-and, atoms-all}
-use Rattle.words.proofs.Words.{words-length, words-at}
+use Rattle.memory.proofs.Words.{words-length, words-at}
 use Rattle.side_items.specs.Items.{Item, unscanned, itemsOf}
 use Rattle.side_relations.specs.Relations.{narrowed, limitsFrom, limitSets}
 use Rattle.side_items.proofs.Scanned.{item, itemsFrom, items-of, resting, of-test-small, Tested, plain}

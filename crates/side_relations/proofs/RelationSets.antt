@@ -21,7 +21,7 @@ use Rattle.codes.proofs.Orderly.{Orderly, slip-first, Settled, settled-none, se
 use Rattle.side_atoms.specs.Atoms.{atomsOf}
 use Rattle.side_atoms.specs.Single.{starts, stops}
 use Rattle.side_atoms.proofs.Atoms.{atoms-same, atoms-and, atoms-none}
-use Rattle.words.proofs.Words.{words-at}
+use Rattle.memory.proofs.Words.{words-at}
 use Rattle.side_items.specs.Items.{Item, unscanned, itemsOf}
 use Rattle.side_relations.specs.Relations.{limitSets, closedIn, relationAt, relationSets}
 use Rattle.side_items.proofs.Placed.{Limited}

@@ -11,9 +11,9 @@ use lib.ListN.{getD, set}
 use Rattle.kat.specs.Lists.{some}
 use Rattle.claims.specs.Query.{bit}
 use Rattle.bits.specs.Sets.{including}
-use Rattle.codes.specs.Codes.{TESTED, NEVER-LINE, WITHIN-LINE, CLOSED-LINE, RELATION-SETS}
+use Rattle.codes.specs.Codes.{TESTED, NEVER-LINE, WITHIN-LINE, CLOSED-LINE, CLOSED-END, RELATION-SETS}
 use Rattle.side_atoms.specs.Atoms.{atomsOf, allAtoms}
-use Rattle.words.specs.Memory.{words}
+use Rattle.memory.specs.Memory.{words}
 use Rattle.side_items.specs.Items.{Item}
 
 -- a `within` line of relation r keeps of the sets at r and at 16 + r only what is in x and in y
@@ -33,9 +33,9 @@ limitsFrom x y (i ∷ is) ws =
 unfoldable pub limitSets : List Item → List ℕ
 limitSets is = limitsFrom 0 0 is (words 32 (λ i. allAtoms))
 
--- the set s, and the relation whose `closed` line ends with code k ("The query")
+-- the set s, and the relation whose `closed` line ends with code k, where k is such a code ("The query")
 unfoldable pub closedWith : ℕ → ℕ → ℕ
-closedWith s k = cond (ltb k CLOSED-LINE) s (including 64 s (k - CLOSED-LINE))
+closedWith s k = cond (leb CLOSED-LINE k && ltb k CLOSED-END) (including 64 s (k - CLOSED-LINE)) s
 
 -- the set s, and the relations that the lines with these codes close ("The query")
 unfoldable pub closedSet : ℕ → List ℕ → ℕ

@@ -1,6 +1,6 @@
 // What the lines of a query say of its relations and atoms, from its codes and what they need, as many as there are of both: where the step of each relation may start,
 // stop and follow itself, which atoms are removed, and which are left. (Document 01, "The query" and "Words".)
-use words::least;
+use memory::least;
 ghost use Prim.Native.Nat.{_+_, _≤_, _^_, min};
 ghost use mathlib.Core.Path.{_≡_};
 ghost use mathlib.Core.Bool.{cond};
@@ -8,7 +8,7 @@ ghost use lib.Dec.{eqb};
 ghost use lib.ListN.{length};
 ghost use Rattle.claims.specs.Query.{bit};
 ghost use Rattle.kat.specs.Lists.{some};
-ghost use Rattle.words.specs.Memory.{words};
+ghost use Rattle.memory.specs.Memory.{words};
 ghost use Rattle.side_items.specs.Items.{paired};
 ghost use Rattle.side_relations.specs.Relations.{narrowed, limitsFrom, closedWith, closedSet, relationAt, relationSets, removedSet, liveSet};
 
@@ -81,11 +81,14 @@ pub fn among(codes: &[u64], k: u64) -> bool
     false
 }
 
-// The set s, and the relation whose `closed` line ends with the code.
+// The set s, and the relation whose `closed` line ends with the code, where it is such a code.
 fn closed_with(s: u64, code: u64) -> u64
     ensures { λ r. ⌜ r ≡ closedWith s code ⌝ }
 {
     if code < codes::CLOSED_LINE {
+        return s;
+    }
+    if codes::CLOSED_END <= code {
         return s;
     }
     bits::with(s, (code - codes::CLOSED_LINE) as usize)

@@ -15,7 +15,7 @@ use Rattle.kat.proofs.Bools.{lt-or-le}
 use Rattle.side_parts.specs.Machine.{Machine, stepped}
 use Rattle.side_items.specs.Items.{Item, ofTest, paired}
 use Rattle.side_items.proofs.Scanned.{of-test-small}
-use Rattle.words.specs.Memory.{zeros}
+use Rattle.memory.specs.Memory.{zeros}
 use Rattle.side_runs.specs.Program.{itemsIn, setsIn}
 use Rattle.side_runs.specs.Performing.{performed, perform}
 use Rattle.side_runs.specs.Execution.{execute}

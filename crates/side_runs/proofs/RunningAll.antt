@@ -15,7 +15,7 @@ use borrow.Author.Tests.{lt-ltb, le-ltb}
 use Rattle.kat.proofs.Bools.{lt-or-le}
 use Rattle.side_parts.specs.Machine.{Machine, given, united}
 use Rattle.side_items.specs.Items.{Item, ofTest, startsFrom, startsOf}
-use Rattle.words.proofs.Words.{same-or-not}
+use Rattle.memory.proofs.Words.{same-or-not}
 use Rattle.side_runs.specs.Program.{itemsIn, setsIn, countsIn}
 use Rattle.side_runs.specs.Execution.{executeAt, executeAll, unitedTimes, executeUnion}
 use Rattle.side_runs.specs.inner.Running.{Skipped, LineRan}

@@ -1,12 +1,13 @@
 // The codes of an expression, one after another, on its table and the parts that wait in memory; a let is built anew where it is named.
 // (Document 01, "Words": lets are expanded.) A program is the codes of a query and `needs`, in which stand behind one another what each code
 // needs, the sets of the relations and the set of the lines that are left out of the assumptions.
+use memory::least;
+use memory::word;
 use side_parts::step;
 use side_stack::STACK;
 use side_tables::TABLE;
-use words::least;
-use words::word;
-ghost use Prim.Native.Nat.{ℕ, _≤_, _<_};
+use side_tables::Table;
+ghost use Prim.Native.Nat.{ℕ, _+_, _<_, _^_};
 ghost use mathlib.Core.Path.{_≡_};
 ghost use mathlib.Core.Bool.{_&&_};
 ghost use mathlib.Core.List.{List};
@@ -14,7 +15,7 @@ ghost use lib.Dec.{eqb};
 ghost use lib.ListN.{length};
 ghost use Rattle.side_items.specs.Items.{startsOf};
 ghost use Rattle.side_parts.specs.Machine.{machineIn};
-ghost use Rattle.side_runs.specs.Program.{itemsIn, setsIn, countsIn};
+ghost use Rattle.side_runs.specs.Program.{itemsIn, setsIn, countsFrom, countsIn};
 ghost use Rattle.side_runs.specs.Execution.{executeAll, unitedTimes, executeUnion};
 ghost use Rattle.side_runs.specs.inner.Running.{Skipped, LineRan, ItemRan};
 
@@ -51,7 +52,7 @@ fn skip_tests(codes: &[u64], pc: usize) -> usize
 pub fn run_from(
     codes: &[u64],
     needs: &[u64],
-    table: &mut [u64; TABLE],
+    table: &mut Table,
     parts: &mut [u64; STACK],
     from: usize,
 )
@@ -72,7 +73,7 @@ pub fn run_from(
 fn run_item(
     codes: &[u64],
     needs: &[u64],
-    table: &mut [u64; TABLE],
+    table: &mut Table,
     parts: &mut [u64; STACK],
     from: usize,
     pc: usize,
@@ -99,22 +100,14 @@ fn run_item(
     run_from(codes, needs, table, parts, start);
 }
 
-// Whether line l, counted from 0, counts as an assumption: it is not left out.
-fn line_counts(codes: &[u64], needs: &[u64], l: usize) -> bool
-    requires { ⌜ l ≤ length (now codes) ⌝ }
-    ensures { λ r. ⌜ r ≡ countsIn (now (codes .entry)) (now (needs .entry)) l ⌝ }
-{
-    let w = word(needs, codes.len() + codes::RELATION_SETS + l / 64);
-    !bits::member(w, l % 64)
-}
-
-// Whether the expression that ends with `code` in line l is one of those that end with `kind` and count.
-fn is_one(codes: &[u64], needs: &[u64], code: u64, kind: u64, l: usize) -> bool
-    requires { ⌜ l ≤ length (now codes) ⌝ }
-    ensures { λ r. ⌜ r ≡ (eqb code kind && countsIn (now (codes .entry)) (now (needs .entry)) l) ⌝ }
+// Whether the expression that ends with `code` in line l is one of those that end with `kind` and are not left out; the set of the lines that are
+// stands from the place `from` on. What is required is no limit: no memory has so many words.
+pub fn is_one(words: &[u64], from: usize, code: u64, kind: u64, l: usize) -> bool
+    requires { ⌜ from + l < 2 ^ 64 ⌝ }
+    ensures { λ r. ⌜ r ≡ (eqb code kind && countsFrom from (now (words .entry)) l) ⌝ }
 {
     if code == kind {
-        return line_counts(codes, needs, l);
+        return !bits::member(word(words, from + l / 64), l % 64);
     }
     false
 }
@@ -124,7 +117,7 @@ fn run_kind(
     codes: &[u64],
     needs: &[u64],
     kind: u64,
-    table: &mut [u64; TABLE],
+    table: &mut Table,
     parts: &mut [u64; STACK],
 ) -> usize
     ensures { λ r. ⌜ (r ≡ length (startsOf (countsIn (now (codes .entry)) (now (needs .entry))) kind (now (codes .entry))))
@@ -143,7 +136,7 @@ fn run_kind(
         if code < codes::LINE {
             continue;
         }
-        let one = is_one(codes, needs, code, kind, line);
+        let one = is_one(needs, codes.len() + codes::RELATION_SETS, code, kind, line);
         line += 1;
         if !one {
             start = i;
@@ -172,7 +165,7 @@ pub fn run_union(
     codes: &[u64],
     needs: &[u64],
     kind: u64,
-    table: &mut [u64; TABLE],
+    table: &mut Table,
     parts: &mut [u64; STACK],
 )
     ensures { λ r. ⌜ machineIn (now (table .exit)) (now (parts .exit))

@@ -1,7 +1,7 @@
 // The parts of an expression that wait while its table is built, in lent memory: how many occurrences there are, how many parts wait, and two
 // words for each part. (Document 01, "Standings".)
-use words::least;
-use words::word;
+use memory::least;
+use memory::word;
 ghost use Prim.Native.Nat.{_+_, _*_, _^_, _≤_, _<_, min};
 ghost use mathlib.Core.Path.{_≡_};
 ghost use mathlib.Core.Bool.{cond};
@@ -67,7 +67,7 @@ pub fn top(parts: &[u64; STACK]) -> Part
 pub fn second(parts: &[u64; STACK]) -> Part
     ensures { λ r. ⌜ (r ≡ topPart (underPart (stackIn (now (parts .entry))))) × (r .low < 2 ^ 63) ⌝ }
 {
-    part_at(parts, words::less(height(parts)))
+    part_at(parts, memory::less(height(parts)))
 }
 
 // Twice the occurrences before a part, with 1 where it is looped.
@@ -112,7 +112,7 @@ pub fn replace(parts: &mut [u64; STACK], part: Part)
     ensures { λ r. ⌜ (usedIn (now (parts .exit)) ≡ usedIn (now (parts .entry))) × (stackIn (now (parts .exit)) ≡ pushPart part (underPart (stackIn (now (parts .entry))))) ⌝ }
 {
     let n = height(parts);
-    put(parts, words::less(n), part);
+    put(parts, memory::less(n), part);
 }
 
 // A part put in the place of the two on top.
@@ -121,7 +121,7 @@ pub fn replace_two(parts: &mut [u64; STACK], part: Part)
     ensures { λ r. ⌜ (usedIn (now (parts .exit)) ≡ usedIn (now (parts .entry))) × (stackIn (now (parts .exit)) ≡ pushPart part (underPart (underPart (stackIn (now (parts .entry)))))) ⌝ }
 {
     let n = height(parts);
-    put(parts, words::less(words::less(n)), part);
+    put(parts, memory::less(memory::less(n)), part);
 }
 
 // One occurrence more, up to 64.
@@ -129,15 +129,15 @@ pub fn one_more(parts: &mut [u64; STACK])
     ensures { λ r. ⌜ (usedIn (now (parts .exit)) ≡ min (usedIn (now (parts .entry)) + 1) 64) × (stackIn (now (parts .exit)) ≡ stackIn (now (parts .entry))) ⌝ }
 {
     let n = used(parts);
-    words::store(parts, 0, (n + 1) as u64);
+    memory::store(parts, 0, (n + 1) as u64);
 }
 
 // No part waits, and there are n occurrences, up to 64.
 fn restart(parts: &mut [u64; STACK], n: u64)
     ensures { λ r. ⌜ (usedIn (now (parts .exit)) ≡ min n 64) × (stackIn (now (parts .exit)) ≡ []) ⌝ }
 {
-    words::store(parts, 0, n);
-    words::store(parts, 1, 0);
+    memory::store(parts, 0, n);
+    memory::store(parts, 1, 0);
 }
 
 // No part waits, and there is no occurrence.

@@ -14,15 +14,16 @@ use lib.Seq.{getD-set-same, getD-set-other}
 use borrow.Author.Tests.{eqb-true, eq-eqb, ne-eqb}
 use Rattle.kat.specs.Lists.{In, some, upto}
 use Rattle.kat.proofs.Bools.{bool-ext, false-of-not, le-or-lt, lt-or-le}
-use Rattle.kat.proofs.Sets.{some-in, in-some, some-none}
+use Rattle.kat.proofs.Sets.{some-in, in-some}
 use Rattle.claims.specs.Query.{bit}
-use Rattle.bits.specs.Sets.{including, members}
+use Rattle.bits.specs.Sets.{members}
 use Rattle.bits.proofs.Bit.{or-assoc}
 use Rattle.bits.proofs.Members.{number-in, in-number}
-use Rattle.words.specs.Memory.{forEach}
-use Rattle.words.proofs.Words.{same-or-not}
-use Rattle.words.proofs.Walks.{each-length}
+use Rattle.memory.specs.Memory.{forEach}
+use Rattle.memory.proofs.Words.{same-or-not}
+use Rattle.memory.proofs.Walks.{each-length}
 use Rattle.side_tables.specs.InPlace.{putInto, joinedAt, joined}
+use Rattle.side_tables.specs.Layout.{ENDS, LETTERS, TABLE, ROW}
 use Rattle.side_tables.proofs.Walks.{put-length, joined-at-length}
 use Rattle.side_tables.proofs.EachNumber as each
 
@@ -91,7 +92,7 @@ module _ (base f : ℕ) where
 
 -- the places of atom a: its steps and its end
 abbrev pub OfAtom : ℕ → ℕ → Type 0
-OfAtom a i = ((65 * a ≤ i) × (i < 65 * a + 65) × (i < 4160)) ⊎ ((i ≡ 4160 + a) × (a < 64))
+OfAtom a i = ((ROW * a ≤ i) × (i < ROW * a + ROW) × (i < ENDS)) ⊎ ((i ≡ ENDS + a) × (a < 64))
 
 pub of-one-atom : (a b i : ℕ) → OfAtom a i → OfAtom b i → a ≡ b
 of-one-atom a b i (inl (x, y, z)) (inl (u, v, w)) = omega arith
@@ -100,75 +101,75 @@ of-one-atom a b i (inr (u, v)) (inl (x, y, z)) = absurd (omega arith)
 of-one-atom a b i (inr (x, y)) (inr (u, v)) = omega arith
 
 -- none of them is past the ends
-pub of-no-atom : (a i : ℕ) → 4224 ≤ i → OfAtom a i → ⊥
+pub of-no-atom : (a i : ℕ) → LETTERS ≤ i → OfAtom a i → ⊥
 of-no-atom a i h (inl (x, y, z)) = omega arith
 of-no-atom a i h (inr (x, y)) = omega arith
 
 -- a join
 module _ (from to : ℕ) where
-  joined-others : (a : ℕ) (t : List ℕ) (i : ℕ) → a < 64 → length t ≡ 4241 → (OfAtom a i → ⊥) → getD (joinedAt from to a t) i 0 ≡ getD t i 0
+  joined-others : (a : ℕ) (t : List ℕ) (i : ℕ) → a < 64 → length t ≡ TABLE → (OfAtom a i → ⊥) → getD (joinedAt from to a t) i 0 ≡ getD t i 0
   unfolding joinedAt
   joined-others a t i h l o =
       ⊎-elim
       (λ e. List·getD-eq-default (joinedAt from to a t) 0 (omega (arith, joined-at-length from to a t)) ∙ sym (List·getD-eq-default t 0 (omega arith)))
-      (λ e. put-elsewhere (65 * a + 1) (bitAnd (getD t (65 * a) 0) to) (bitAnd (getD t (4160 + a) 0) from) i t (omega arith) (beside e))
-      (le-or-lt 4241 i)
+      (λ e. put-elsewhere (ROW * a + 1) (bitAnd (getD t (ROW * a) 0) to) (bitAnd (getD t (ENDS + a) 0) from) i t (omega arith) (beside e))
+      (le-or-lt TABLE i)
     where
-      beside : i < 4241 → (i < 65 * a + 1) ⊎ (65 * a + 1 + 64 ≤ i)
+      beside : i < TABLE → (i < ROW * a + 1) ⊎ (ROW * a + 1 + 64 ≤ i)
       beside e =
           ⊎-elim (λ x. inl x)
-          (λ x. ⊎-elim (λ y. inr y) (λ y. absurd (o (inl (omega arith, omega arith, omega arith)))) (le-or-lt (65 * a + 1 + 64) i))
-          (lt-or-le i (65 * a + 1))
+          (λ x. ⊎-elim (λ y. inr y) (λ y. absurd (o (inl (omega arith, omega arith, omega arith)))) (le-or-lt (ROW * a + 1 + 64) i))
+          (lt-or-le i (ROW * a + 1))
 
-  module _ (t : List ℕ) (long : length t ≡ 4241) where
+  module _ (t : List ℕ) (long : length t ≡ TABLE) where
     joined-at : (a : ℕ) → a < 64
         → each.Reached (joinedAt from to) (joined-at-length from to) OfAtom of-one-atom 64 joined-others t (joined from to t) a
     unfolding joined
     joined-at a h = each.each-own (joinedAt from to) (joined-at-length from to) OfAtom of-one-atom 64 joined-others 0 64 a t (omega arith) long (omega arith) (omega arith)
 
     -- those that may be first or last are as before
-    pub joined-first : (a : ℕ) → a < 64 → getD (joined from to t) (65 * a) 0 ≡ getD t (65 * a) 0
+    pub joined-first : (a : ℕ) → a < 64 → getD (joined from to t) (ROW * a) 0 ≡ getD t (ROW * a) 0
     unfolding joinedAt
     joined-first a h =
         let r = joined-at a h in
-        let o : OfAtom a (65 * a) = inl (omega arith, omega arith, omega arith) in
-        r .after (65 * a) o
-        ∙ put-elsewhere (65 * a + 1) (bitAnd (getD (r .before) (65 * a) 0) to) (bitAnd (getD (r .before) (4160 + a) 0) from) (65 * a) (r .before)
+        let o : OfAtom a (ROW * a) = inl (omega arith, omega arith, omega arith) in
+        r .after (ROW * a) o
+        ∙ put-elsewhere (ROW * a + 1) (bitAnd (getD (r .before) (ROW * a) 0) to) (bitAnd (getD (r .before) (ENDS + a) 0) from) (ROW * a) (r .before)
         (omega (arith, r .long)) (inl (omega arith))
-        ∙ r .same (65 * a) o
+        ∙ r .same (ROW * a) o
 
-    pub joined-end : (a : ℕ) → a < 64 → getD (joined from to t) (4160 + a) 0 ≡ getD t (4160 + a) 0
+    pub joined-end : (a : ℕ) → a < 64 → getD (joined from to t) (ENDS + a) 0 ≡ getD t (ENDS + a) 0
     unfolding joinedAt
     joined-end a h =
         let r = joined-at a h in
-        let o : OfAtom a (4160 + a) = inr (refl, h) in
-        r .after (4160 + a) o
-        ∙ put-elsewhere (65 * a + 1) (bitAnd (getD (r .before) (65 * a) 0) to) (bitAnd (getD (r .before) (4160 + a) 0) from) (4160 + a) (r .before)
+        let o : OfAtom a (ENDS + a) = inr (refl, h) in
+        r .after (ENDS + a) o
+        ∙ put-elsewhere (ROW * a + 1) (bitAnd (getD (r .before) (ROW * a) 0) to) (bitAnd (getD (r .before) (ENDS + a) 0) from) (ENDS + a) (r .before)
         (omega (arith, r .long)) (inr (omega arith))
-        ∙ r .same (4160 + a) o
+        ∙ r .same (ENDS + a) o
 
     -- after p, where it may be last, also those that may be first
     pub joined-step : (a p : ℕ) → a < 64 → p < 64
-        → getD (joined from to t) (65 * a + 1 + p) 0
-        ≡ cond (bit p (bitAnd (getD t (4160 + a) 0) from)) (bitOr (getD t (65 * a + 1 + p) 0) (bitAnd (getD t (65 * a) 0) to)) (getD t (65 * a + 1 + p) 0)
+        → getD (joined from to t) (ROW * a + 1 + p) 0
+        ≡ cond (bit p (bitAnd (getD t (ENDS + a) 0) from)) (bitOr (getD t (ROW * a + 1 + p) 0) (bitAnd (getD t (ROW * a) 0) to)) (getD t (ROW * a + 1 + p) 0)
     unfolding joinedAt
     joined-step a p h i =
         let r = joined-at a h in
         let u = r .before in
-        let o : OfAtom a (65 * a + 1 + p) = inl (omega arith, omega arith, omega arith) in
-        r .after (65 * a + 1 + p) o
-        ∙ put-member (65 * a + 1) (bitAnd (getD u (65 * a) 0) to) (bitAnd (getD u (4160 + a) 0) from) p u i (omega (arith, r .long))
-        ∙ ap₂ (λ e w. cond (bit p (bitAnd e from)) (bitOr w (bitAnd (getD u (65 * a) 0) to)) w)
-        (r .same (4160 + a) (inr (refl, h))) (r .same (65 * a + 1 + p) o)
-        ∙ ap (λ f. cond (bit p (bitAnd (getD t (4160 + a) 0) from)) (bitOr (getD t (65 * a + 1 + p) 0) (bitAnd f to)) (getD t (65 * a + 1 + p) 0))
-        (r .same (65 * a) (inl (omega arith, omega arith, omega arith)))
+        let o : OfAtom a (ROW * a + 1 + p) = inl (omega arith, omega arith, omega arith) in
+        r .after (ROW * a + 1 + p) o
+        ∙ put-member (ROW * a + 1) (bitAnd (getD u (ROW * a) 0) to) (bitAnd (getD u (ENDS + a) 0) from) p u i (omega (arith, r .long))
+        ∙ ap₂ (λ e w. cond (bit p (bitAnd e from)) (bitOr w (bitAnd (getD u (ROW * a) 0) to)) w)
+        (r .same (ENDS + a) (inr (refl, h))) (r .same (ROW * a + 1 + p) o)
+        ∙ ap (λ f. cond (bit p (bitAnd (getD t (ENDS + a) 0) from)) (bitOr (getD t (ROW * a + 1 + p) 0) (bitAnd f to)) (getD t (ROW * a + 1 + p) 0))
+        (r .same (ROW * a) (inl (omega arith, omega arith, omega arith)))
 
-    pub joined-above : (i : ℕ) → 4224 ≤ i → getD (joined from to t) i 0 ≡ getD t i 0
+    pub joined-above : (i : ℕ) → LETTERS ≤ i → getD (joined from to t) i 0 ≡ getD t i 0
     unfolding joined
     joined-above i h =
         each.each-others (joinedAt from to) (joined-at-length from to) OfAtom of-one-atom 64 joined-others 0 64 t i (omega arith) long
         (λ a x y. of-no-atom a i h)
 
-    pub joined-long : length (joined from to t) ≡ 4241
+    pub joined-long : length (joined from to t) ≡ TABLE
     unfolding joined
     joined-long = each-length (joinedAt from to) (joined-at-length from to) (upto 0 64) t ∙ long

@@ -11,9 +11,10 @@ use borrow.Author.Tests.{le-ltb}
 use Rattle.kat.specs.Lists.{upto}
 use Rattle.claims.specs.Query.{bit}
 use Rattle.bits.specs.Sets.{members}
-use Rattle.words.specs.Memory.{forEach, zeros}
+use Rattle.memory.specs.Memory.{forEach, zeros}
 use Rattle.side_atoms.specs.Atoms.{allAtoms}
 use Rattle.side_tables.specs.InPlace.{rangeSet, putInto, joinedAt, joined, keptIf, cutAt, cut, letteredAt, putAtAtom, added, sequenced, iterated}
+use Rattle.side_tables.specs.Layout.{ENDS, ROW}
 
 -- a change that changes nothing, for each number
 each-still : (g : ℕ → List ℕ → List ℕ) (ws : List ℕ) → ((n : ℕ) → g n ws ≡ ws) → (ns : List ℕ) → forEach g ns ws ≡ ws
@@ -44,9 +45,9 @@ module _ (n : ℕ) where
   join-none : (from to a : ℕ) → joinedAt from to a none ≡ none
   unfolding joinedAt
   join-none from to a =
-      each-still (putInto (65 * a + 1) (bitAnd (getD none (65 * a) 0) to)) none
-      (λ k. put-none (65 * a + 1) (bitAnd (getD none (65 * a) 0) to) k (ap (λ v. bitAnd v to) (zero-word n (65 * a))))
-      (members (bitAnd (getD none (4160 + a) 0) from))
+      each-still (putInto (ROW * a + 1) (bitAnd (getD none (ROW * a) 0) to)) none
+      (λ k. put-none (ROW * a + 1) (bitAnd (getD none (ROW * a) 0) to) k (ap (λ v. bitAnd v to) (zero-word n (ROW * a))))
+      (members (bitAnd (getD none (ENDS + a) 0) from))
 
   pub joined-none : (from to : ℕ) → joined from to none ≡ none
   unfolding joined
@@ -60,9 +61,9 @@ module _ (n : ℕ) where
   cut-none : (from to x y a : ℕ) → cutAt from to x y a none ≡ none
   unfolding cutAt
   cut-none from to x y a =
-      ap (λ u. set u (4160 + a) (keptIf (bit a y) from (getD u (4160 + a) 0)))
-      (ap (set none (65 * a)) (kept-none (bit a x) to (getD none (65 * a) 0) (zero-word n (65 * a))) ∙ zero-put n (65 * a))
-      ∙ ap (set none (4160 + a)) (kept-none (bit a y) from (getD none (4160 + a) 0) (zero-word n (4160 + a))) ∙ zero-put n (4160 + a)
+      ap (λ u. set u (ENDS + a) (keptIf (bit a y) from (getD u (ENDS + a) 0)))
+      (ap (set none (ROW * a)) (kept-none (bit a x) to (getD none (ROW * a) 0) (zero-word n (ROW * a))) ∙ zero-put n (ROW * a))
+      ∙ ap (set none (ENDS + a)) (kept-none (bit a y) from (getD none (ENDS + a) 0) (zero-word n (ENDS + a))) ∙ zero-put n (ENDS + a)
 
   pub sequenced-none : (lo mid hi x y : ℕ) → sequenced lo mid hi x y none ≡ none
   unfolding sequenced cut
@@ -78,5 +79,5 @@ pub added-past : (k f l g s : ℕ) (t : List ℕ) → 64 ≤ k → added k f l g
 unfolding added
 added-past k f l g s t h =
     ap (λ b. cond b (forEach (letteredAt k s) (upto 0 16)
-    (forEach (putAtAtom (k + 1) (2 ^ k)) (members g) (forEach (putInto 4160 (2 ^ k)) (members l) (forEach (putAtAtom 0 (2 ^ k)) (members f) t)))) t)
+    (forEach (putAtAtom (k + 1) (2 ^ k)) (members g) (forEach (putInto ENDS (2 ^ k)) (members l) (forEach (putAtAtom 0 (2 ^ k)) (members f) t)))) t)
     (le-ltb k 64 h)

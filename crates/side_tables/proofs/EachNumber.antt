@@ -8,15 +8,16 @@ use mathlib.Core.Logic.{⊎-elim}
 use mathlib.Core.List.{List}
 use lib.ListN.{length, getD}
 use Rattle.kat.specs.Lists.{counted}
-use Rattle.words.specs.Memory.{forEach}
-use Rattle.words.proofs.Words.{same-or-not}
+use Rattle.memory.specs.Memory.{forEach}
+use Rattle.side_tables.specs.Layout.{TABLE}
+use Rattle.memory.proofs.Words.{same-or-not}
 
 -- the changes g of the numbers below `most` in a memory of 4,241 words
 module _ (g : ℕ → List ℕ → List ℕ) (size : (a : ℕ) (t : List ℕ) → length (g a t) ≡ length t) (Own : ℕ → ℕ → Type 0)
     (apart : (a b i : ℕ) → Own a i → Own b i → a ≡ b) (most : ℕ)
-    (others : (a : ℕ) (t : List ℕ) (i : ℕ) → a < most → length t ≡ 4241 → (Own a i → ⊥) → getD (g a t) i 0 ≡ getD t i 0) where
+    (others : (a : ℕ) (t : List ℕ) (i : ℕ) → a < most → length t ≡ TABLE → (Own a i → ⊥) → getD (g a t) i 0 ≡ getD t i 0) where
   -- a place of none of the numbers
-  pub each-others : (b n : ℕ) (t : List ℕ) (i : ℕ) → b + n ≤ most → length t ≡ 4241 → ((a : ℕ) → b ≤ a → a < b + n → Own a i → ⊥)
+  pub each-others : (b n : ℕ) (t : List ℕ) (i : ℕ) → b + n ≤ most → length t ≡ TABLE → ((a : ℕ) → b ≤ a → a < b + n → Own a i → ⊥)
       → getD (forEach g (counted b n) t) i 0 ≡ getD t i 0
   unfolding forEach
   each-others b zero t i m l h = refl
@@ -27,12 +28,12 @@ module _ (g : ℕ → List ℕ → List ℕ) (size : (a : ℕ) (t : List ℕ) �
   -- what the change for a was done on
   pub record Reached (t u : List ℕ) (a : ℕ) : Type 0 where
     pub before : List ℕ
-    pub long : length before ≡ 4241
+    pub long : length before ≡ TABLE
     pub same : (j : ℕ) → Own a j → getD before j 0 ≡ getD t j 0
     pub after : (i : ℕ) → Own a i → getD u i 0 ≡ getD (g a before) i 0
 
   -- the change for a is the first, or a later one
-  first-change : (b n a : ℕ) (t : List ℕ) → suc b + n ≤ most → length t ≡ 4241 → a ≡ b → Reached t (forEach g (counted (suc b) n) (g b t)) a
+  first-change : (b n a : ℕ) (t : List ℕ) → suc b + n ≤ most → length t ≡ TABLE → a ≡ b → Reached t (forEach g (counted (suc b) n) (g b t)) a
   first-change b n a t m l e =
       record {
         before = t;
@@ -43,7 +44,7 @@ module _ (g : ℕ → List ℕ → List ℕ) (size : (a : ℕ) (t : List ℕ) �
             ∙ ap (λ c. getD (g c t) i 0) (sym e);
       }
 
-  later-change : (b a : ℕ) (t u : List ℕ) → b < most → length t ≡ 4241 → (a ≡ b → ⊥) → Reached (g b t) u a → Reached t u a
+  later-change : (b a : ℕ) (t u : List ℕ) → b < most → length t ≡ TABLE → (a ≡ b → ⊥) → Reached (g b t) u a → Reached t u a
   later-change b a t u m l e r =
       record {
         before = r .before;
@@ -52,7 +53,7 @@ module _ (g : ℕ → List ℕ → List ℕ) (size : (a : ℕ) (t : List ℕ) �
         after = r .after;
       }
 
-  pub each-own : (b n a : ℕ) (t : List ℕ) → b + n ≤ most → length t ≡ 4241 → b ≤ a → a < b + n → Reached t (forEach g (counted b n) t) a
+  pub each-own : (b n a : ℕ) (t : List ℕ) → b + n ≤ most → length t ≡ TABLE → b ≤ a → a < b + n → Reached t (forEach g (counted b n) t) a
   unfolding forEach
   each-own b zero a t m l h i = absurd (omega arith)
   each-own b (suc n) a t m l h i =

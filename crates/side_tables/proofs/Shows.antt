@@ -19,32 +19,33 @@ use Rattle.claims.specs.Query.{bit}
 use Rattle.bits.proofs.Bit.{bit-none}
 use Rattle.bits.proofs.Rows.{bit-including}
 use Rattle.side_atoms.specs.Single.{Single}
-use Rattle.words.specs.Memory.{words}
-use Rattle.words.proofs.Words.{same-or-not, words-length, words-at}
+use Rattle.memory.specs.Memory.{words}
+use Rattle.memory.proofs.Words.{same-or-not, words-length, words-at}
 use Rattle.side_tables.specs.InPlace.{added}
+use Rattle.side_tables.specs.Layout.{ENDS, LETTERS, NULL, TABLE, ROW}
 use Rattle.side_tables.proofs.Marks.{withBit, added-first, added-end, added-own, added-step, added-letter, added-above, added-long}
 
 -- the bits of the table t are those of the tables of U, and no word is told yet ("Standings")
 pub record Shows (U : Expr) (t : List ℕ) : Type 0 where
-  pub long : length t ≡ 4241
-  pub first : (a q : ℕ) → a < 64 → bit q (getD t (65 * a) 0) ≡ firsts U 0 (suc q) a
-  pub step : (a p q : ℕ) → a < 64 → p < 64 → bit q (getD t (65 * a + 1 + p) 0) ≡ follows U 0 (suc p) (suc q) a
-  pub end : (a p : ℕ) → a < 64 → bit p (getD t (4160 + a) 0) ≡ lasts U 0 (suc p) a
-  pub letter : (r q : ℕ) → r < 16 → bit q (getD t (4224 + r) 0) ≡ reads U 0 (suc q) r
-  pub untold : getD t 4240 0 ≡ 0
+  pub long : length t ≡ TABLE
+  pub first : (a q : ℕ) → a < 64 → bit q (getD t (ROW * a) 0) ≡ firsts U 0 (suc q) a
+  pub step : (a p q : ℕ) → a < 64 → p < 64 → bit q (getD t (ROW * a + 1 + p) 0) ≡ follows U 0 (suc p) (suc q) a
+  pub end : (a p : ℕ) → a < 64 → bit p (getD t (ENDS + a) 0) ≡ lasts U 0 (suc p) a
+  pub letter : (r q : ℕ) → r < 16 → bit q (getD t (LETTERS + r) 0) ≡ reads U 0 (suc q) r
+  pub untold : getD t NULL 0 ≡ 0
 
 -- nothing
-pub shows-nothing : Shows nowhere (words 4241 (λ i. 0))
+pub shows-nothing : Shows nowhere (words TABLE (λ i. 0))
 shows-nothing =
-    let z : (q i : ℕ) → i < 4241 → bit q (getD (words 4241 (λ i. 0)) i 0) ≡ false =
-    λ q i h. ap (bit q) (words-at 4241 (λ i. 0) i h) ∙ bit-none q in
+    let z : (q i : ℕ) → i < TABLE → bit q (getD (words TABLE (λ i. 0)) i 0) ≡ false =
+    λ q i h. ap (bit q) (words-at TABLE (λ i. 0) i h) ∙ bit-none q in
     record {
-      long = words-length 4241 (λ i. 0);
-      first = λ a q h. z q (65 * a) (omega arith);
-      step = λ a p q h l. z q (65 * a + 1 + p) (omega arith);
-      end = λ a p h. z p (4160 + a) (omega arith);
-      letter = λ r q h. z q (4224 + r) (omega arith);
-      untold = words-at 4241 (λ i. 0) 4240 (omega arith);
+      long = words-length TABLE (λ i. 0);
+      first = λ a q h. z q (ROW * a) (omega arith);
+      step = λ a p q h l. z q (ROW * a + 1 + p) (omega arith);
+      end = λ a p h. z p (ENDS + a) (omega arith);
+      letter = λ r q h. z q (LETTERS + r) (omega arith);
+      untold = words-at TABLE (λ i. 0) NULL (omega arith);
     }
 
 -- the same tables
@@ -135,11 +136,11 @@ shows-added {U} {E} {t = t} y x k f l g s z room isF isL isG isS =
     record {
       long = added-long k f l g s room t (x .long);
       first = λ a q h.
-          ap (bit q) (added-first k f l g s room t (x .long) a h) ∙ with-bit (bit a f) k (getD t (65 * a) 0) q room
+          ap (bit q) (added-first k f l g s room t (x .long) a h) ∙ with-bit (bit a f) k (getD t (ROW * a) 0) q room
           ∙ ap₂ _||_ (x .first a q h) (ap (λ b. eqb q k && b) (isF a h) ∙ own-first y k q a ∙ ap (λ n. firsts E n (suc q) a) (sym z));
       step = λ a p q h i. ⊎-elim
-          (λ e. ap (λ n. bit q (getD (added k f l g s t) (65 * a + 1 + n) 0)) e
-          ∙ ap (bit q) (added-own k f l g s room t (x .long) a h) ∙ with-bit (bit a g) k (getD t (65 * a + 1 + k) 0) q room
+          (λ e. ap (λ n. bit q (getD (added k f l g s t) (ROW * a + 1 + n) 0)) e
+          ∙ ap (bit q) (added-own k f l g s room t (x .long) a h) ∙ with-bit (bit a g) k (getD t (ROW * a + 1 + k) 0) q room
           ∙ ap₂ _||_ (x .step a k q h room) (ap (λ b. eqb q k && b) (isG a h) ∙ own-follows y k q a ∙ ap (λ n. follows E n (suc k) (suc q) a) (sym z))
           ∙ ap (λ n. follows U 0 (suc n) (suc q) a || follows E (0 + occurrences U) (suc n) (suc q) a) (sym e))
           (λ n. ap (bit q) (added-step k f l g s room t (x .long) a p h i n) ∙ x .step a p q h i
@@ -147,10 +148,10 @@ shows-added {U} {E} {t = t} y x k f l g s z room isF isL isG isS =
           ∙ ap (λ b. follows U 0 (suc p) (suc q) a || b) (sym (ap (λ m. follows E m (suc p) (suc q) a) z ∙ none-follows y k q p a n)))
           (same-or-not p k);
       end = λ a p h.
-          ap (bit p) (added-end k f l g s room t (x .long) a h) ∙ with-bit (bit a l) k (getD t (4160 + a) 0) p room
+          ap (bit p) (added-end k f l g s room t (x .long) a h) ∙ with-bit (bit a l) k (getD t (ENDS + a) 0) p room
           ∙ ap₂ _||_ (x .end a p h) (ap (λ b. eqb p k && b) (isL a h) ∙ own-last y k p a ∙ ap (λ n. lasts E n (suc p) a) (sym z));
       letter = λ r q h.
-          ap (bit q) (added-letter k f l g s room t (x .long) r h) ∙ with-bit (bit r s) k (getD t (4224 + r) 0) q room
+          ap (bit q) (added-letter k f l g s room t (x .long) r h) ∙ with-bit (bit r s) k (getD t (LETTERS + r) 0) q room
           ∙ ap₂ _||_ (x .letter r q h) (ap (λ b. eqb q k && b) (isS r h) ∙ own-reads y k q r ∙ ap (λ n. reads E n (suc q) r) (sym z));
       untold = added-above k f l g s room t (x .long) ∙ x .untold;
     }

@@ -9,17 +9,18 @@ use mathlib.Core.Bool.{Bool, true, false, cond, not, _&&_, _||_, and-true, and-f
 use mathlib.Core.List.{List}
 use lib.Bits.{bitAnd, bitOr}
 use lib.ListN.{length, getD}
-use Rattle.kat.specs.Expr.{Expr, alt, seq, plus}
+use Rattle.kat.specs.Expr.{Expr, alt, seq}
 use Rattle.kat.specs.Tables.{occurrences, reads, null, firsts, lasts, follows}
-use Rattle.kat.proofs.Bools.{false-of-not, lt-or-le, le-or-lt}
+use Rattle.kat.proofs.Bools.{false-of-not, lt-or-le}
 use Rattle.kat.proofs.Ranges.{firsts-range, lasts-range}
 use Rattle.claims.specs.Query.{bit}
 use Rattle.bits.proofs.Bit.{bit-or, bit-and}
-use Rattle.side_tables.specs.InPlace.{rangeSet, joined, keptIf, cut, sequenced, iterated}
+use Rattle.side_tables.specs.InPlace.{rangeSet, joined, keptIf, cut, sequenced}
+use Rattle.side_tables.specs.Layout.{ENDS, LETTERS, NULL, TABLE, ROW}
 use Rattle.side_tables.proofs.Changes.{joined-first, joined-end, joined-step, joined-above, joined-long}
 use Rattle.side_tables.proofs.Marks.{cut-first, cut-end, cut-step, cut-above, cut-long}
 use Rattle.side_tables.proofs.RangeSets.{range-small, range-in, range-below, range-above, kept-bit}
-use Rattle.side_tables.proofs.Shows.{Shows, shows-same}
+use Rattle.side_tables.proofs.Shows.{Shows}
 
 -- a set of occurrences, by a test of each that is false outside a range
 pub record Ranged (lo n : ℕ) (f : ℕ → Bool) : Type 0 where
@@ -159,37 +160,37 @@ module _ {U D E : Expr} {t : List ℕ} (x : Shows (alt (alt U D) E) t) (k m n : 
   abbrev both : List ℕ
   both = joined from to t
 
-  long : length both ≡ 4241
+  long : length both ≡ TABLE
   long = joined-long from to t (x .long)
 
-  first-bit : (a q : ℕ) → a < 64 → bit q (getD t (65 * a) 0) ≡ ((firsts U 0 (suc q) a || firsts D k (suc q) a) || firsts E (k + m) (suc q) a)
+  first-bit : (a q : ℕ) → a < 64 → bit q (getD t (ROW * a) 0) ≡ ((firsts U 0 (suc q) a || firsts D k (suc q) a) || firsts E (k + m) (suc q) a)
   first-bit a q h = x .first a q h ∙ from-bits a q
 
-  end-bit : (a p : ℕ) → a < 64 → bit p (getD t (4160 + a) 0) ≡ ((lasts U 0 (suc p) a || lasts D k (suc p) a) || lasts E (k + m) (suc p) a)
+  end-bit : (a p : ℕ) → a < 64 → bit p (getD t (ENDS + a) 0) ≡ ((lasts U 0 (suc p) a || lasts D k (suc p) a) || lasts E (k + m) (suc p) a)
   end-bit a p h = x .end a p h ∙ to-bits a p
 
-  seq-first : (a q : ℕ) → a < 64 → bit q (getD (cut from to v w both) (65 * a) 0) ≡ firsts (alt U (seq D E)) 0 (suc q) a
+  seq-first : (a q : ℕ) → a < 64 → bit q (getD (cut from to v w both) (ROW * a) 0) ≡ firsts (alt U (seq D E)) 0 (suc q) a
   seq-first a q h =
       ap (bit q) (cut-first from to v w both long a h ∙ ap (keptIf (bit a v) to) (joined-first from to t (x .long) a h))
-      ∙ kept-bit (bit a v) to (getD t (65 * a) 0) q (range-small (k + m) (k + (m + n)))
+      ∙ kept-bit (bit a v) to (getD t (ROW * a) 0) q (range-small (k + m) (k + (m + n)))
       (λ i. first-bit a q h ∙ past k m n _ _ _ (left-none a) (mid-first a) (right-first a) few q i)
       ∙ ap₂ (λ b c. b && (c || not (bit q to))) (first-bit a q h) (isV a h)
       ∙ third-cut k m n _ _ _ (left-none a) (mid-first a) (right-first a) few q (null D a)
       ∙ ap₂ (λ i j. firsts U 0 (suc q) a || (firsts D i (suc q) a || (null D a && firsts E j (suc q) a))) (sym isK) (sym after-left)
 
-  seq-end : (a p : ℕ) → a < 64 → bit p (getD (cut from to v w both) (4160 + a) 0) ≡ lasts (alt U (seq D E)) 0 (suc p) a
+  seq-end : (a p : ℕ) → a < 64 → bit p (getD (cut from to v w both) (ENDS + a) 0) ≡ lasts (alt U (seq D E)) 0 (suc p) a
   seq-end a p h =
       ap (bit p) (cut-end from to v w both long a h ∙ ap (keptIf (bit a w) from) (joined-end from to t (x .long) a h))
-      ∙ kept-bit (bit a w) from (getD t (4160 + a) 0) p (range-small k (k + m))
+      ∙ kept-bit (bit a w) from (getD t (ENDS + a) 0) p (range-small k (k + m))
       (λ i. end-bit a p h ∙ past k m n _ _ _ (left-end a) (mid-end a) (right-end a) few p i)
       ∙ ap₂ (λ b c. b && (c || not (bit p from))) (end-bit a p h) (isW a h)
       ∙ second-cut k m n _ _ _ (left-end a) (mid-end a) (right-end a) few p (null E a)
       ∙ ap₂ (λ i j. lasts U 0 (suc p) a || ((lasts D i (suc p) a && null E a) || lasts E j (suc p) a)) (sym isK) (sym after-left)
 
-  seq-step : (a p q : ℕ) → a < 64 → p < 64 → bit q (getD (cut from to v w both) (65 * a + 1 + p) 0) ≡ follows (alt U (seq D E)) 0 (suc p) (suc q) a
+  seq-step : (a p q : ℕ) → a < 64 → p < 64 → bit q (getD (cut from to v w both) (ROW * a + 1 + p) 0) ≡ follows (alt U (seq D E)) 0 (suc p) (suc q) a
   seq-step a p q h l =
       ap (bit q) (cut-step from to v w both long a p h l ∙ joined-step from to t (x .long) a p h l)
-      ∙ joined-bit (getD t (4160 + a) 0) from (getD t (65 * a + 1 + p) 0) (getD t (65 * a) 0) to p q
+      ∙ joined-bit (getD t (ENDS + a) 0) from (getD t (ROW * a + 1 + p) 0) (getD t (ROW * a) 0) to p q
       ∙ ap₂ _||_ (x .step a p q h l)
       (ap₂ _&&_ (ap (λ b. b && bit p from) (end-bit a p h) ∙ in-second k m n _ _ _ (left-end a) (mid-end a) (right-end a) few p)
       (ap (λ b. b && bit q to) (first-bit a q h) ∙ in-third k m n _ _ _ (left-none a) (mid-first a) (right-first a) few q))
@@ -214,8 +215,8 @@ module _ {U D E : Expr} {t : List ℕ} (x : Shows (alt (alt U D) E) t) (k m n : 
         step = seq-step;
         end = seq-end;
         letter = λ r q h.
-            ap (bit q) (cut-above from to v w both long (4224 + r) (omega arith) ∙ joined-above from to t (x .long) (4224 + r) (omega arith))
+            ap (bit q) (cut-above from to v w both long (LETTERS + r) (omega arith) ∙ joined-above from to t (x .long) (LETTERS + r) (omega arith))
             ∙ x .letter r q h ∙ or-assoc (reads U 0 (suc q) r) (reads D (0 + occurrences U) (suc q) r) _
             ∙ ap (λ j. reads U 0 (suc q) r || (reads D (0 + occurrences U) (suc q) r || reads E j (suc q) r)) (after-both ∙ sym after-left);
-        untold = cut-above from to v w both long 4240 (omega arith) ∙ joined-above from to t (x .long) 4240 (omega arith) ∙ x .untold;
+        untold = cut-above from to v w both long NULL (omega arith) ∙ joined-above from to t (x .long) NULL (omega arith) ∙ x .untold;
       }

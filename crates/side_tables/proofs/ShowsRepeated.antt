@@ -10,9 +10,10 @@ use mathlib.Core.List.{List}
 use lib.ListN.{getD}
 use Rattle.kat.specs.Expr.{Expr, test, alt, plus, opt}
 use Rattle.kat.specs.Tables.{occurrences, firsts, lasts, follows}
-use Rattle.kat.proofs.Bools.{or-right, or-cases, lt-or-le}
+use Rattle.kat.proofs.Bools.{or-right, lt-or-le}
 use Rattle.claims.specs.Query.{bit}
 use Rattle.side_tables.specs.InPlace.{rangeSet, joined, iterated}
+use Rattle.side_tables.specs.Layout.{ENDS, LETTERS, NULL, ROW}
 use Rattle.side_tables.proofs.Changes.{joined-first, joined-end, joined-step, joined-above, joined-long}
 use Rattle.side_tables.proofs.RangeSets.{range-in, range-below, range-above}
 use Rattle.side_tables.proofs.Shows.{Shows, shows-same}
@@ -62,7 +63,7 @@ module _ {U E : Expr} {t : List ℕ} (x : Shows (alt U E) t) (k n : ℕ) (isK : 
   abbrev within : ℕ
   within = rangeSet k (k + n)
 
-  first-in : (a q : ℕ) → a < 64 → (bit q (getD t (65 * a) 0) && bit q within) ≡ firsts E k (suc q) a
+  first-in : (a q : ℕ) → a < 64 → (bit q (getD t (ROW * a) 0) && bit q within) ≡ firsts E k (suc q) a
   first-in a q h =
       let ru = first-ranged U 0 a in
       let re = first-ranged E k a in
@@ -71,7 +72,7 @@ module _ {U E : Expr} {t : List ℕ} (x : Shows (alt U E) t) (k n : ℕ) (isK : 
       (record { below = ru .below; above = λ q i. ru .above q (omega (arith, isK)) })
       (record { below = re .below; above = λ q i. re .above q (omega (arith, isN)) }) few q
 
-  end-in : (a p : ℕ) → a < 64 → (bit p (getD t (4160 + a) 0) && bit p within) ≡ lasts E k (suc p) a
+  end-in : (a p : ℕ) → a < 64 → (bit p (getD t (ENDS + a) 0) && bit p within) ≡ lasts E k (suc p) a
   end-in a p h =
       let ru = last-ranged U 0 a in
       let re = last-ranged E k a in
@@ -88,12 +89,12 @@ module _ {U E : Expr} {t : List ℕ} (x : Shows (alt U E) t) (k n : ℕ) (isK : 
         first = λ a q h. ap (bit q) (joined-first within within t (x .long) a h) ∙ x .first a q h;
         step = λ a p q h l.
             ap (bit q) (joined-step within within t (x .long) a p h l)
-            ∙ joined-bit (getD t (4160 + a) 0) within (getD t (65 * a + 1 + p) 0) (getD t (65 * a) 0) within p q
+            ∙ joined-bit (getD t (ENDS + a) 0) within (getD t (ROW * a + 1 + p) 0) (getD t (ROW * a) 0) within p q
             ∙ ap₂ _||_ (x .step a p q h l) (ap₂ _&&_ (end-in a p h) (first-in a q h))
             ∙ or-assoc (follows U 0 (suc p) (suc q) a) (follows E (0 + occurrences U) (suc p) (suc q) a) _
             ∙ ap (λ i. follows U 0 (suc p) (suc q) a
             || (follows E (0 + occurrences U) (suc p) (suc q) a || (lasts E i (suc p) a && firsts E i (suc q) a))) (sym isK);
         end = λ a p h. ap (bit p) (joined-end within within t (x .long) a h) ∙ x .end a p h;
-        letter = λ r q h. ap (bit q) (joined-above within within t (x .long) (4224 + r) (omega arith)) ∙ x .letter r q h;
-        untold = joined-above within within t (x .long) 4240 (omega arith) ∙ x .untold;
+        letter = λ r q h. ap (bit q) (joined-above within within t (x .long) (LETTERS + r) (omega arith)) ∙ x .letter r q h;
+        untold = joined-above within within t (x .long) NULL (omega arith) ∙ x .untold;
       }

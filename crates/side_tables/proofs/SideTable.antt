@@ -12,14 +12,15 @@ use lib.Seq.{getD-append-add, getD-set-same, getD-set-other}
 use Rattle.kat.specs.Expr.{Expr, alt, none as nowhere}
 use Rattle.kat.specs.Tables.{occurrences, reads, null, firsts, lasts, follows, next, stop}
 use Rattle.kat.proofs.Bools.{false-of-not, le-or-lt, lt-or-le}
-use Rattle.kat.proofs.Ranges.{firsts-range, lasts-range, follows-range, follows-before, reads-range}
+use Rattle.kat.proofs.Ranges.{firsts-range, lasts-range, follows-range, reads-range}
 use Rattle.claims.specs.Query.{bit}
 use Rattle.bits.proofs.Bit.{bit-above, bits-equal}
 use Rattle.side_atoms.specs.Atoms.{atomsOf}
 use Rattle.side_atoms.proofs.Atoms.{bit-of, number-small}
-use Rattle.words.specs.Memory.{words}
+use Rattle.memory.specs.Memory.{words}
 use Rattle.side_tables.specs.SideTable.{occurrenceSet, stepWords, endWords, letterWords, sideTable}
-use Rattle.words.proofs.Words.{words-length, words-at, words-ext, same-or-not}
+use Rattle.side_tables.specs.Layout.{ENDS, LETTERS, NULL, TABLE, ROW}
+use Rattle.memory.proofs.Words.{words-length, words-at, words-ext, same-or-not}
 use Rattle.side_tables.proofs.Shows.{Shows}
 
 -- the parts by their lengths
@@ -27,9 +28,9 @@ behind : (l m : List ℕ) (k j : ℕ) → length l ≡ k → getD (l ++ m) (k + 
 behind l m k j e = ap (λ i. getD (l ++ m) (i + j) 0) (sym e) ∙ getD-append-add l m j 0
 
 module _ (E : Expr) where
-  step-length : length (stepWords E) ≡ 4160
+  step-length : length (stepWords E) ≡ ENDS
   unfolding stepWords
-  step-length = words-length 4160 (λ i. occurrenceSet (occurrences E) (λ q. next E (i % 65) q (i / 65)))
+  step-length = words-length ENDS (λ i. occurrenceSet (occurrences E) (λ q. next E (i % ROW) q (i / ROW)))
 
   end-length : length (endWords E) ≡ 64
   unfolding endWords
@@ -39,7 +40,7 @@ module _ (E : Expr) where
   unfolding letterWords
   letter-length = words-length 16 (λ r. occurrenceSet (occurrences E) (λ q. reads E 0 q r))
 
-  pub table-length : length (sideTable E) ≡ 4241
+  pub table-length : length (sideTable E) ≡ TABLE
   unfolding sideTable
   table-length =
       length-append (stepWords E) (endWords E ++ (letterWords E ++ (atomsOf (null E) ∷ [])))
@@ -47,39 +48,39 @@ module _ (E : Expr) where
       ∙ ap₂ _+_ end-length (length-append (letterWords E) (atomsOf (null E) ∷ []) ∙ ap (λ n. n + 1) letter-length))
 
   -- the occurrences that may come next at atom a where p was read last
-  pub table-step : (a p : ℕ) → a < 64 → p < 65 → getD (sideTable E) (65 * a + p) 0 ≡ occurrenceSet (occurrences E) (λ q. next E p q a)
+  pub table-step : (a p : ℕ) → a < 64 → p < ROW → getD (sideTable E) (ROW * a + p) 0 ≡ occurrenceSet (occurrences E) (λ q. next E p q a)
   unfolding sideTable stepWords
   table-step a p h l =
-      let r : (65 * a + p) / 65 ≡ a = omega arith in
-      let s : (65 * a + p) % 65 ≡ p = omega arith in
-      List·getD-append (stepWords E) (endWords E ++ (letterWords E ++ (atomsOf (null E) ∷ []))) 0 (65 * a + p) (omega (arith, step-length))
-      ∙ words-at 4160 (λ i. occurrenceSet (occurrences E) (λ q. next E (i % 65) q (i / 65))) (65 * a + p) (omega arith)
+      let r : (ROW * a + p) / ROW ≡ a = omega arith in
+      let s : (ROW * a + p) % ROW ≡ p = omega arith in
+      List·getD-append (stepWords E) (endWords E ++ (letterWords E ++ (atomsOf (null E) ∷ []))) 0 (ROW * a + p) (omega (arith, step-length))
+      ∙ words-at ENDS (λ i. occurrenceSet (occurrences E) (λ q. next E (i % ROW) q (i / ROW))) (ROW * a + p) (omega arith)
       ∙ ap₂ (λ i j. occurrenceSet (occurrences E) (λ q. next E i q j)) s r
 
   -- those that may be last at atom a
-  pub table-end : (a : ℕ) → a < 64 → getD (sideTable E) (4160 + a) 0 ≡ occurrenceSet (occurrences E) (λ p. stop E p a)
+  pub table-end : (a : ℕ) → a < 64 → getD (sideTable E) (ENDS + a) 0 ≡ occurrenceSet (occurrences E) (λ p. stop E p a)
   unfolding sideTable endWords
   table-end a h =
-      behind (stepWords E) (endWords E ++ (letterWords E ++ (atomsOf (null E) ∷ []))) 4160 a step-length
+      behind (stepWords E) (endWords E ++ (letterWords E ++ (atomsOf (null E) ∷ []))) ENDS a step-length
       ∙ List·getD-append (endWords E) (letterWords E ++ (atomsOf (null E) ∷ [])) 0 a (omega (arith, end-length))
       ∙ words-at 64 (λ b. occurrenceSet (occurrences E) (λ p. stop E p b)) a h
 
   -- those that read relation r
-  pub table-letter : (r : ℕ) → r < 16 → getD (sideTable E) (4224 + r) 0 ≡ occurrenceSet (occurrences E) (λ q. reads E 0 q r)
+  pub table-letter : (r : ℕ) → r < 16 → getD (sideTable E) (LETTERS + r) 0 ≡ occurrenceSet (occurrences E) (λ q. reads E 0 q r)
   unfolding sideTable letterWords
   table-letter r h =
-      let z : 4224 + r ≡ 4160 + (64 + r) = omega arith in
+      let z : LETTERS + r ≡ ENDS + (64 + r) = omega arith in
       ap (λ i. getD (sideTable E) i 0) z
-      ∙ behind (stepWords E) (endWords E ++ (letterWords E ++ (atomsOf (null E) ∷ []))) 4160 (64 + r) step-length
+      ∙ behind (stepWords E) (endWords E ++ (letterWords E ++ (atomsOf (null E) ∷ []))) ENDS (64 + r) step-length
       ∙ behind (endWords E) (letterWords E ++ (atomsOf (null E) ∷ [])) 64 r end-length
       ∙ List·getD-append (letterWords E) (atomsOf (null E) ∷ []) 0 r (omega (arith, letter-length))
       ∙ words-at 16 (λ s. occurrenceSet (occurrences E) (λ q. reads E 0 q s)) r h
 
   -- the atoms that are words
-  pub table-null : getD (sideTable E) 4240 0 ≡ atomsOf (null E)
+  pub table-null : getD (sideTable E) NULL 0 ≡ atomsOf (null E)
   unfolding sideTable
   table-null =
-      behind (stepWords E) (endWords E ++ (letterWords E ++ (atomsOf (null E) ∷ []))) 4160 80 step-length
+      behind (stepWords E) (endWords E ++ (letterWords E ++ (atomsOf (null E) ∷ []))) ENDS 80 step-length
       ∙ behind (endWords E) (letterWords E ++ (atomsOf (null E) ∷ [])) 64 16 end-length
       ∙ behind (letterWords E) (atomsOf (null E) ∷ []) 16 0 letter-length
 
@@ -100,61 +101,61 @@ module _ (E : Expr) where
 -- the table of the parts that wait, where there is one, with the atoms that are words of it ("Standings")
 module _ (E : Expr) (t : List ℕ) (few : occurrences E ≤ 64) (x : Shows (alt nowhere E) t) (w : ℕ) (e : w ≡ atomsOf (null E)) where
   abbrev told : List ℕ
-  told = set t 4240 w
+  told = set t NULL w
 
-  kept : (i : ℕ) → i < 4240 → getD told i 0 ≡ getD t i 0
-  kept i h = getD-set-other t 4240 i w 0 (λ z. omega arith)
+  kept : (i : ℕ) → i < NULL → getD told i 0 ≡ getD t i 0
+  kept i h = getD-set-other t NULL i w 0 (λ z. omega arith)
 
   -- after nothing
-  first-word : (a : ℕ) → a < 64 → getD t (65 * a) 0 ≡ occurrenceSet (occurrences E) (λ q. next E 0 q a)
+  first-word : (a : ℕ) → a < 64 → getD t (ROW * a) 0 ≡ occurrenceSet (occurrences E) (λ q. next E 0 q a)
   first-word a h =
-      within-set E (λ q. firsts E 0 q a) (getD t (65 * a) 0) (λ q. x .first a q h)
+      within-set E (λ q. firsts E 0 q a) (getD t (ROW * a) 0) (λ q. x .first a q h)
       (λ q i. false-of-not (firsts E 0 (suc q) a) (λ z. let (c, d) = firsts-range E 0 (suc q) a z in omega arith))
 
   -- after an occurrence
-  step-word : (a p : ℕ) → a < 64 → p < 64 → getD t (65 * a + 1 + p) 0 ≡ occurrenceSet (occurrences E) (λ q. next E (suc p) q a)
+  step-word : (a p : ℕ) → a < 64 → p < 64 → getD t (ROW * a + 1 + p) 0 ≡ occurrenceSet (occurrences E) (λ q. next E (suc p) q a)
   step-word a p h l =
-      within-set E (λ q. follows E 0 (suc p) q a) (getD t (65 * a + 1 + p) 0) (λ q. x .step a p q h l)
+      within-set E (λ q. follows E 0 (suc p) q a) (getD t (ROW * a + 1 + p) 0) (λ q. x .step a p q h l)
       (λ q i. false-of-not (follows E 0 (suc p) (suc q) a) (λ z. let (c, d) = follows-range E 0 (suc p) (suc q) a z in omega arith))
 
-  step-at : (a p : ℕ) → a < 64 → p < 65 → getD t (65 * a + p) 0 ≡ occurrenceSet (occurrences E) (λ q. next E p q a)
+  step-at : (a p : ℕ) → a < 64 → p < ROW → getD t (ROW * a + p) 0 ≡ occurrenceSet (occurrences E) (λ q. next E p q a)
   step-at a zero h l = ap (λ i. getD t i 0) (omega arith) ∙ first-word a h
   step-at a (suc p) h l = ap (λ i. getD t i 0) (omega arith) ∙ step-word a p h (omega arith)
 
-  end-word : (a : ℕ) → a < 64 → getD t (4160 + a) 0 ≡ occurrenceSet (occurrences E) (λ p. stop E p a)
+  end-word : (a : ℕ) → a < 64 → getD t (ENDS + a) 0 ≡ occurrenceSet (occurrences E) (λ p. stop E p a)
   end-word a h =
-      within-set E (λ p. stop E p a) (getD t (4160 + a) 0) (λ p. x .end a p h)
+      within-set E (λ p. stop E p a) (getD t (ENDS + a) 0) (λ p. x .end a p h)
       (λ p i. false-of-not (lasts E 0 (suc p) a) (λ z. let (c, d) = lasts-range E 0 (suc p) a z in omega arith))
 
-  letter-word : (r : ℕ) → r < 16 → getD t (4224 + r) 0 ≡ occurrenceSet (occurrences E) (λ q. reads E 0 q r)
+  letter-word : (r : ℕ) → r < 16 → getD t (LETTERS + r) 0 ≡ occurrenceSet (occurrences E) (λ q. reads E 0 q r)
   letter-word r h =
-      within-set E (λ q. reads E 0 q r) (getD t (4224 + r) 0) (λ q. x .letter r q h)
+      within-set E (λ q. reads E 0 q r) (getD t (LETTERS + r) 0) (λ q. x .letter r q h)
       (λ q i. false-of-not (reads E 0 (suc q) r) (λ z. let (c, d) = reads-range E 0 (suc q) r z in omega arith))
 
-  inside : (i : ℕ) → i < 4240 → getD t i 0 ≡ getD (sideTable E) i 0
+  inside : (i : ℕ) → i < NULL → getD t i 0 ≡ getD (sideTable E) i 0
   inside i h =
       ⊎-elim
-      (λ l. let z : i ≡ 65 * (i / 65) + i % 65 = omega arith in
-      ap (λ j. getD t j 0) z ∙ step-at (i / 65) (i % 65) (omega arith) (omega arith)
-      ∙ sym (table-step E (i / 65) (i % 65) (omega arith) (omega arith)) ∙ ap (λ j. getD (sideTable E) j 0) (sym z))
+      (λ l. let z : i ≡ ROW * (i / ROW) + i % ROW = omega arith in
+      ap (λ j. getD t j 0) z ∙ step-at (i / ROW) (i % ROW) (omega arith) (omega arith)
+      ∙ sym (table-step E (i / ROW) (i % ROW) (omega arith) (omega arith)) ∙ ap (λ j. getD (sideTable E) j 0) (sym z))
       (λ l. ⊎-elim
-      (λ m. let z : i ≡ 4160 + (i - 4160) = omega arith in
-      ap (λ j. getD t j 0) z ∙ end-word (i - 4160) (omega arith) ∙ sym (table-end E (i - 4160) (omega arith))
+      (λ m. let z : i ≡ ENDS + (i - ENDS) = omega arith in
+      ap (λ j. getD t j 0) z ∙ end-word (i - ENDS) (omega arith) ∙ sym (table-end E (i - ENDS) (omega arith))
       ∙ ap (λ j. getD (sideTable E) j 0) (sym z))
-      (λ m. let z : i ≡ 4224 + (i - 4224) = omega arith in
-      ap (λ j. getD t j 0) z ∙ letter-word (i - 4224) (omega arith) ∙ sym (table-letter E (i - 4224) (omega arith))
+      (λ m. let z : i ≡ LETTERS + (i - LETTERS) = omega arith in
+      ap (λ j. getD t j 0) z ∙ letter-word (i - LETTERS) (omega arith) ∙ sym (table-letter E (i - LETTERS) (omega arith))
       ∙ ap (λ j. getD (sideTable E) j 0) (sym z))
-      (lt-or-le i 4224))
-      (lt-or-le i 4160)
+      (lt-or-le i LETTERS))
+      (lt-or-le i ENDS)
 
   pub told-table : told ≡ sideTable E
   told-table =
-      words-ext told 4241 (λ i. getD (sideTable E) i 0) (length-set t 4240 w ∙ x .long) places
-      ∙ sym (words-ext (sideTable E) 4241 (λ i. getD (sideTable E) i 0) (table-length E) (λ i h. refl))
+      words-ext told TABLE (λ i. getD (sideTable E) i 0) (length-set t NULL w ∙ x .long) places
+      ∙ sym (words-ext (sideTable E) TABLE (λ i. getD (sideTable E) i 0) (table-length E) (λ i h. refl))
     where
-      places : (i : ℕ) → i < 4241 → getD told i 0 ≡ getD (sideTable E) i 0
+      places : (i : ℕ) → i < TABLE → getD told i 0 ≡ getD (sideTable E) i 0
       places i h =
           ⊎-elim
-          (λ l. ap (λ j. getD told j 0) l ∙ getD-set-same t 4240 w 0 (omega (arith, x .long)) ∙ e ∙ sym (table-null E) ∙ ap (λ j. getD (sideTable E) j 0) (sym l))
+          (λ l. ap (λ j. getD told j 0) l ∙ getD-set-same t NULL w 0 (omega (arith, x .long)) ∙ e ∙ sym (table-null E) ∙ ap (λ j. getD (sideTable E) j 0) (sym l))
           (λ l. kept i (omega arith) ∙ inside i (omega arith))
-          (same-or-not i 4240)
+          (same-or-not i NULL)

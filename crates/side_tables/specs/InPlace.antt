@@ -13,7 +13,8 @@ use Rattle.kat.specs.Lists.{upto}
 use Rattle.claims.specs.Query.{bit}
 use Rattle.bits.specs.Sets.{including, allBelow, members}
 use Rattle.side_atoms.specs.Atoms.{allAtoms}
-use Rattle.words.specs.Memory.{forEach}
+use Rattle.memory.specs.Memory.{forEach}
+use Rattle.side_tables.specs.Layout.{ENDS, LETTERS, ROW}
 
 -- the bits from lo to before hi
 unfoldable pub rangeSet : ℕ → ℕ → ℕ
@@ -26,7 +27,7 @@ putInto base f k t = set t (base + k) (bitOr (getD t (base + k) 0) f)
 -- at atom a: those of `to` that may be first may also come after those of `from` that may be last
 unfoldable pub joinedAt : ℕ → ℕ → ℕ → List ℕ → List ℕ
 joinedAt from to a t =
-    forEach (putInto (65 * a + 1) (bitAnd (getD t (65 * a) 0) to)) (members (bitAnd (getD t (4160 + a) 0) from)) t
+    forEach (putInto (ROW * a + 1) (bitAnd (getD t (ROW * a) 0) to)) (members (bitAnd (getD t (ENDS + a) 0) from)) t
 
 unfoldable pub joined : ℕ → ℕ → List ℕ → List ℕ
 joined from to t = forEach (joinedAt from to) (upto 0 64) t
@@ -38,8 +39,8 @@ keptIf b r s = cond b s (bitAnd s (allAtoms - r))
 -- at atom a: where it is not in x none of `to` is first, and where it is not in y none of `from` is last
 unfoldable pub cutAt : ℕ → ℕ → ℕ → ℕ → ℕ → List ℕ → List ℕ
 cutAt from to x y a t =
-    let u = set t (65 * a) (keptIf (bit a x) to (getD t (65 * a) 0)) in
-    set u (4160 + a) (keptIf (bit a y) from (getD u (4160 + a) 0))
+    let u = set t (ROW * a) (keptIf (bit a x) to (getD t (ROW * a) 0)) in
+    set u (ENDS + a) (keptIf (bit a y) from (getD u (ENDS + a) 0))
 
 unfoldable pub cut : ℕ → ℕ → ℕ → ℕ → List ℕ → List ℕ
 cut from to x y t = forEach (cutAt from to x y) (upto 0 64) t
@@ -50,11 +51,11 @@ markedAt i k b t = set t i (cond b (including 64 (getD t i 0) k) (getD t i 0))
 
 -- it reads relation r where r is in s
 unfoldable pub letteredAt : ℕ → ℕ → ℕ → List ℕ → List ℕ
-letteredAt k s r t = markedAt (4224 + r) k (bit r s) t
+letteredAt k s r t = markedAt (LETTERS + r) k (bit r s) t
 
 -- the set f is put into the word at base of the steps at atom a
 unfoldable pub putAtAtom : ℕ → ℕ → ℕ → List ℕ → List ℕ
-putAtAtom base f a t = set t (65 * a + base) (bitOr (getD t (65 * a + base) 0) f)
+putAtAtom base f a t = set t (ROW * a + base) (bitOr (getD t (ROW * a + base) 0) f)
 
 -- A new occurrence with bit k, where there is such a bit: the atoms at which it may be first, last and follow itself, and the relations that
 -- it reads.
@@ -63,7 +64,7 @@ added k f l g s t =
     let own = 2 ^ k in
     cond (ltb k 64)
     (forEach (letteredAt k s) (upto 0 16)
-    (forEach (putAtAtom (k + 1) own) (members g) (forEach (putInto 4160 own) (members l) (forEach (putAtAtom 0 own) (members f) t))))
+    (forEach (putAtAtom (k + 1) own) (members g) (forEach (putInto ENDS own) (members l) (forEach (putAtAtom 0 own) (members f) t))))
     t
 
 -- Two parts in sequence, of the bits from lo to before mid and from mid to before hi; x and y are the atoms that are words of the left and of

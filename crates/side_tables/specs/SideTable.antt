@@ -10,7 +10,8 @@ use Rattle.kat.specs.Lists.{upto, filter}
 use Rattle.kat.specs.Tables.{occurrences, reads, null, next, stop}
 use Rattle.claims.specs.Fields.{setNumber}
 use Rattle.side_atoms.specs.Atoms.{atomsOf}
-use Rattle.words.specs.Memory.{words}
+use Rattle.memory.specs.Memory.{words}
+use Rattle.side_tables.specs.Layout.{ENDS, ROW}
 
 -- the set of the occurrences from 1 to n that pass a test
 abbrev pub occurrenceSet : ℕ → (ℕ → Bool) → ℕ
@@ -18,7 +19,7 @@ occurrenceSet n f = setNumber 1 (filter f (upto 1 (suc n)))
 
 -- at place 65 * a + p the occurrences that may come next at atom a where p was read last, 0 for nothing read ("Standings")
 unfoldable pub stepWords : Expr → List ℕ
-stepWords E = words 4160 (λ i. occurrenceSet (occurrences E) (λ q. next E (i % 65) q (i / 65)))
+stepWords E = words ENDS (λ i. occurrenceSet (occurrences E) (λ q. next E (i % ROW) q (i / ROW)))
 
 -- at place a the occurrences that may be last at atom a ("Standings")
 unfoldable pub endWords : Expr → List ℕ

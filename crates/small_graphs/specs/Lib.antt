@@ -1,2 +1,4 @@
--- The numbers that the graphs are made of.
+-- The numbers that the graphs are made of, relations as words, and the bytes of a graph.
 pub mod Numbers
+pub mod Relations
+pub mod Graphs

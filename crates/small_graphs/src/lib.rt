@@ -1,8 +1,14 @@
 // Numbers by arithmetic alone, so that another program can make the same ones, and the bytes of small graphs. (vectors/README.md, "The
-// circle") A graph has at most 8 events; a relation on them is a word, bit 8 * from + to for an edge. What the numbers are is said by
-// definitions, and for the rest only that it is safe and ends: the cases compare it.
+// circle") A graph has at most 8 events; a relation on them is a word, bit 8 * from + to for an edge. Definitions say what each result is.
+ghost use Prim.Native.Nat.{_<_};
+ghost use mathlib.Core.Bool.{cond};
+ghost use mathlib.Core.List.{[], _∷_};
 ghost use mathlib.Core.Path.{_≡_};
+ghost use lib.ListN.{take};
+ghost use Rattle.small_graphs.specs.Graphs.{edgeField, edgeFields, eventField, eventFields, graphBytes};
+ghost use Rattle.case_lines.specs.Fields.{Puts};
 ghost use Rattle.small_graphs.specs.Numbers.{nextNumber, numberBelow};
+ghost use Rattle.small_graphs.specs.Relations.{Edges, bit, edge, over, through as reached, withEdge};
 
 // The number behind x.
 pub fn next(x: u64) -> u64
@@ -22,7 +28,9 @@ pub fn below(x: u64, end: usize) -> usize
 }
 
 // The relation with one edge more; an event from 8 on has none.
-pub fn with_edge(r: u64, from: usize, to: usize) -> u64 {
+pub fn with_edge(r: u64, from: usize, to: usize) -> u64
+    ensures { λ q. ⌜ q ≡ withEdge r from to ⌝ }
+{
     if 8 <= from {
         return r;
     }
@@ -33,18 +41,20 @@ pub fn with_edge(r: u64, from: usize, to: usize) -> u64 {
 }
 
 // Whether the relation has the edge of this bit.
-fn has(r: u64, bit: usize) -> bool {
-    if 64 <= bit {
+fn has(r: u64, place: usize) -> bool
+    ensures { λ q. ⌜ q ≡ bit place r ⌝ }
+{
+    if 64 <= place {
         return false;
     }
-    (r >> bit) & 1 == 1
+    (r >> place) & 1 == 1
 }
 
 // The relation with the edges that go from one event to another over a third.
-fn through(r: u64, middle: usize) -> u64 {
-    if 8 <= middle {
-        return r;
-    }
+fn through(r: u64, middle: usize) -> u64
+    requires { ⌜ middle < 8 ⌝ }
+    ensures { λ q. ⌜ Edges q (over middle (edge r)) ⌝ }
+{
     let row = (r >> (8 * middle)) & 255;
     let mut all = r;
     let mut from: usize = 0;
@@ -58,7 +68,9 @@ fn through(r: u64, middle: usize) -> u64 {
 }
 
 // The transitive closure.
-pub fn closed(r: u64) -> u64 {
+pub fn closed(r: u64) -> u64
+    ensures { λ q. ⌜ Edges q (reached 8 r) ⌝ }
+{
     let mut all = r;
     let mut middle: usize = 0;
     while middle < 8 {
@@ -69,7 +81,9 @@ pub fn closed(r: u64) -> u64 {
 }
 
 // One byte behind those so far, where there is room.
-fn put(to: &mut [u8], at: usize, b: u8) -> usize {
+fn put(to: &mut [u8], at: usize, b: u8) -> usize
+    ensures { λ r. ⌜ Puts (now (to .entry)) at (b ∷ []) r (now (to .exit)) ⌝ }
+{
     if at < to.len() {
         to[at] = b;
         return at + 1;
@@ -78,25 +92,31 @@ fn put(to: &mut [u8], at: usize, b: u8) -> usize {
 }
 
 // The field of an event.
-fn put_event(to: &mut [u8], at: usize, atom: u8) -> usize {
+fn put_event(to: &mut [u8], at: usize, atom: u8) -> usize
+    ensures { λ r. ⌜ Puts (now (to .entry)) at (eventField atom) r (now (to .exit)) ⌝ }
+{
     let a = put(to, at, 1);
     let b = put(to, a, 0);
     let c = put(to, b, 1);
     put(to, c, atom)
 }
 
-// The field of an edge, whose bit is below 64, of a relation below 16.
-fn put_edge(to: &mut [u8], at: usize, relation: usize, bit: usize) -> usize {
+// The field of the edge of this bit, which is below 64, of a relation below 16.
+fn put_edge(to: &mut [u8], at: usize, relation: usize, place: usize) -> usize
+    ensures { λ r. ⌜ Puts (now (to .entry)) at (edgeField relation place) r (now (to .exit)) ⌝ }
+{
     let a = put(to, at, 2);
     let b = put(to, a, 0);
     let c = put(to, b, 3);
     let d = put(to, c, (relation % 16) as u8);
-    let e = put(to, d, (bit / 8 % 8) as u8);
-    put(to, e, (bit % 8) as u8)
+    let e = put(to, d, (place / 8 % 8) as u8);
+    put(to, e, (place % 8) as u8)
 }
 
 // The fields of the events.
-fn put_events(atoms: &[u8], count: usize, to: &mut [u8]) -> usize {
+fn put_events(atoms: &[u8], count: usize, to: &mut [u8]) -> usize
+    ensures { λ r. ⌜ Puts (now (to .entry)) 0 (eventFields (take count (now (atoms .entry)))) r (now (to .exit)) ⌝ }
+{
     let mut at = 0;
     let mut i = 0;
     while i < count {
@@ -110,26 +130,33 @@ fn put_events(atoms: &[u8], count: usize, to: &mut [u8]) -> usize {
 }
 
 // The field of the edge of this bit, where the relation has it.
-fn put_bit(r: u64, relation: usize, bit: usize, to: &mut [u8], at: usize) -> usize {
-    if has(r, bit) {
-        return put_edge(to, at, relation, bit);
+fn put_bit(r: u64, relation: usize, place: usize, to: &mut [u8], at: usize) -> usize
+    ensures { λ q. ⌜ Puts (now (to .entry)) at (cond (bit place r) (edgeField relation place) []) q (now (to .exit)) ⌝ }
+{
+    if has(r, place) {
+        return put_edge(to, at, relation, place);
     }
     at
 }
 
 // The fields of the edges of a relation.
-fn put_relation(r: u64, relation: usize, from: usize, to: &mut [u8]) -> usize {
+fn put_relation(r: u64, relation: usize, from: usize, to: &mut [u8]) -> usize
+    ensures { λ q. ⌜ Puts (now (to .entry)) from (edgeFields relation r) q (now (to .exit)) ⌝ }
+{
     let mut at = from;
-    let mut bit: usize = 0;
-    while bit < 64 {
-        at = put_bit(r, relation, bit, to, at);
-        bit += 1;
+    let mut place: usize = 0;
+    while place < 64 {
+        at = put_bit(r, relation, place, to, at);
+        place += 1;
     }
     at
 }
 
-// The bytes of a graph: its events, and then its edges by relation, from and to. How many there are.
-pub fn write(atoms: &[u8], count: usize, edges: &[u64], relations: usize, to: &mut [u8]) -> usize {
+// The bytes of a graph, as far as there is room: its events, and then its edges by relation, from and to. How many there are.
+pub fn write(atoms: &[u8], count: usize, edges: &[u64], relations: usize, to: &mut [u8]) -> usize
+    ensures { λ r. ⌜ Puts (now (to .entry)) 0 (graphBytes (take count (now (atoms .entry))) (take relations (now (edges .entry))))
+        r (now (to .exit)) ⌝ }
+{
     let mut at = put_events(atoms, count, to);
     let mut i = 0;
     while i < relations {

@@ -22,6 +22,7 @@ use Rattle.bits.proofs.Members.{numbers-equal, number-filter}
 use Rattle.side_tables.specs.SideTable.{sideTable}
 use Rattle.standings.specs.Steps.{stepFrom, enders}
 use Rattle.standings.specs.Alike.{rowAlike, rowsAlike, endsAlike, alikeAt}
+use Rattle.side_tables.specs.Layout.{ROW}
 use Rattle.standings.proofs.Tables.{null-shown, ends-bit, enders-small, from-small, from-shown}
 
 -- tests that agree on the list
@@ -41,7 +42,7 @@ set-test n x y h k =
 
 module _ (E : Expr) (few : occurrences E ≤ 64) (a b : ℕ) (low : a < 64) (other : b < 64) where
   -- one row
-  row-shown : (r p : ℕ) → r < 16 → p < 65 → rowAlike (sideTable E) r a b p ≡ same (after E (p ∷ []) a r) (after E (p ∷ []) b r)
+  row-shown : (r p : ℕ) → r < 16 → p < ROW → rowAlike (sideTable E) r a b p ≡ same (after E (p ∷ []) a r) (after E (p ∷ []) b r)
   unfolding rowAlike
   row-shown r p letter h =
       set-test (occurrences E) (stepFrom (sideTable E) p a r) (stepFrom (sideTable E) p b r) (from-small E a r low letter p)

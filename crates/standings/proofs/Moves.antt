@@ -23,6 +23,7 @@ use Rattle.bits.proofs.Members.{number-none}
 use Rattle.bits.proofs.Rows.{bit-union, meets-some}
 use Rattle.side_tables.specs.SideTable.{sideTable}
 use Rattle.standings.specs.Steps.{readers, enders, stepFrom, stepSet, endsSet, leads}
+use Rattle.side_tables.specs.Layout.{ROW}
 use Rattle.standings.proofs.Tables.{from-small, from-bit}
 
 -- read by the letter, and next after some of a list that passes a test
@@ -41,7 +42,7 @@ moved-some D l q g os = go (reads (D .right) 0 q (l .relation))
 
 module _ (D : Decision) (l : Letter) (low : l .atom < 64) (letter : l .relation < 16) where
   -- where q is read next
-  pub leads-moves : (p q : ℕ) → p < 65 → 1 ≤ q → q ≤ occurrences (D .right) → leads (sideTable (D .right)) l p q ≡ moves D l p q
+  pub leads-moves : (p q : ℕ) → p < ROW → 1 ≤ q → q ≤ occurrences (D .right) → leads (sideTable (D .right)) l p q ≡ moves D l p q
   unfolding leads moves
   leads-moves p q h i k = from-bit (D .right) (l .atom) (l .relation) low letter p q h i (omega arith)
 
@@ -64,7 +65,7 @@ next-past E zero q a h = absurd (omega arith)
 next-past E (suc p) q a h =
     false-of-not (next E (suc p) q a) (λ e. let (x, y) = follows-before E 0 (suc p) q a e in omega arith)
 
-pub from-past : (E : Expr) (a r : ℕ) → a < 64 → r < 16 → (p : ℕ) → occurrences E < p → p < 65 → stepFrom (sideTable E) p a r ≡ 0
+pub from-past : (E : Expr) (a r : ℕ) → a < 64 → r < 16 → (p : ℕ) → occurrences E < p → p < ROW → stepFrom (sideTable E) p a r ≡ 0
 from-past E a r low letter p h k =
     bit-ext (occurrences E) (stepFrom (sideTable E) p a r) 0 (from-small E a r low letter p) (pow-pos (occurrences E))
     (λ i j. let z : i ≡ suc i - 1 = omega arith in
@@ -76,9 +77,9 @@ pub set-step-none : (t : List ℕ) (a r : ℕ) → stepSet t 0 a r ≡ 0
 unfolding stepSet
 set-step-none t a r =
     bits-equal (stepSet t 0 a r) 0
-    (λ i. bit-and i (unionRows (take 64 (drop (65 * a + 1) t)) 0) (readers t r)
-    ∙ ap (λ b. b && bit i (readers t r)) (bit-union (take 64 (drop (65 * a + 1) t)) 0 i
-    ∙ ap (some (λ k. bit i (row (take 64 (drop (65 * a + 1) t)) k))) (number-none 0 64))
+    (λ i. bit-and i (unionRows (take 64 (drop (ROW * a + 1) t)) 0) (readers t r)
+    ∙ ap (λ b. b && bit i (readers t r)) (bit-union (take 64 (drop (ROW * a + 1) t)) 0 i
+    ∙ ap (some (λ k. bit i (row (take 64 (drop (ROW * a + 1) t)) k))) (number-none 0 64))
     ∙ sym (bit-none i))
 
 pub ends-none : (t : List ℕ) (a : ℕ) → endsSet t 0 a ≡ false

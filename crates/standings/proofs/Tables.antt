@@ -25,6 +25,7 @@ use Rattle.side_atoms.proofs.Atoms.{bit-of, number-small, atoms-bit}
 use Rattle.side_tables.specs.SideTable.{occurrenceSet, sideTable}
 use Rattle.side_tables.proofs.SideTable.{table-step, table-end, table-letter, table-null}
 use Rattle.standings.specs.Steps.{nextSet, readers, enders, stepFrom, stepSet, endsSet, nullAt}
+use Rattle.side_tables.specs.Layout.{ROW}
 
 -- a test over the occurrences of a word is the test over its members, counted from 0
 pub some-occurrences : (p : ℕ → Bool) (n s : ℕ) → some p (numberSet 1 (suc n) s) ≡ some (λ k. p (suc k)) (numberSet 0 n s)
@@ -34,10 +35,10 @@ some-occurrences p n s =
     ∙ some-same (λ k. p (1 + k)) (λ k. p (suc k)) (numberSet 0 n s) (λ k i. ap p (omega arith))
 
 -- row k of the steps at atom a
-pub step-row : (t : List ℕ) (a k : ℕ) → k < 64 → row (take 64 (drop (65 * a + 1) t)) k ≡ nextSet t a (suc k)
+pub step-row : (t : List ℕ) (a k : ℕ) → k < 64 → row (take 64 (drop (ROW * a + 1) t)) k ≡ nextSet t a (suc k)
 unfolding nextSet
 step-row t a k h =
-    getD-take 64 (drop (65 * a + 1) t) k 0 h ∙ getD-drop (65 * a + 1) t k 0 ∙ ap (λ i. getD t i 0) (omega arith)
+    getD-take 64 (drop (ROW * a + 1) t) k 0 h ∙ getD-drop (ROW * a + 1) t k 0 ∙ ap (λ i. getD t i 0) (omega arith)
 
 module _ (E : Expr) where
   -- an occurrence of the set of those that pass a test, and how large the set is
@@ -50,7 +51,7 @@ module _ (E : Expr) where
       subst (λ w. occurrenceSet (occurrences E) f < 2 ^ w) z (number-small f 1 (suc (occurrences E)) (omega arith))
 
   -- what the table has of occurrence q
-  pub next-bit : (a p q : ℕ) → a < 64 → p < 65 → 1 ≤ q → q < suc (occurrences E) → bit (q - 1) (nextSet (sideTable E) a p) ≡ next E p q a
+  pub next-bit : (a p q : ℕ) → a < 64 → p < ROW → 1 ≤ q → q < suc (occurrences E) → bit (q - 1) (nextSet (sideTable E) a p) ≡ next E p q a
   unfolding nextSet
   next-bit a p q h k i l = ap (bit (q - 1)) (table-step E a p h k) ∙ set-bit (λ o. next E p o a) q i l
 
@@ -82,14 +83,14 @@ module _ (E : Expr) where
     from-small p =
         lt-of-le-of-lt (and-le-r (nextSet (sideTable E) a p) (readers (sideTable E) r)) (readers-small r letter)
 
-    pub from-bit : (p q : ℕ) → p < 65 → 1 ≤ q → q < suc (occurrences E)
+    pub from-bit : (p q : ℕ) → p < ROW → 1 ≤ q → q < suc (occurrences E)
         → bit (q - 1) (stepFrom (sideTable E) p a r) ≡ (reads E 0 q r && next E p q a)
     unfolding stepFrom
     from-bit p q h i l =
         bit-and (q - 1) (nextSet (sideTable E) a p) (readers (sideTable E) r)
         ∙ ap₂ _&&_ (next-bit a p q low h i l) (reads-bit r q letter i l) ∙ and-comm (next E p q a) (reads E 0 q r)
 
-    pub from-shown : (p : ℕ) → p < 65
+    pub from-shown : (p : ℕ) → p < ROW
         → numberSet 1 (suc (occurrences E)) (stepFrom (sideTable E) p a r) ≡ after E (p ∷ []) a r
     unfolding after
     from-shown p h =
@@ -101,17 +102,17 @@ module _ (E : Expr) where
     pub set-step-small : (s : ℕ) → stepSet (sideTable E) s a r < 2 ^ occurrences E
     unfolding stepSet
     set-step-small s =
-        lt-of-le-of-lt (and-le-r (unionRows (take 64 (drop (65 * a + 1) (sideTable E))) s) (readers (sideTable E) r))
+        lt-of-le-of-lt (and-le-r (unionRows (take 64 (drop (ROW * a + 1) (sideTable E))) s) (readers (sideTable E) r))
         (readers-small r letter)
 
     module _ (few : occurrences E ≤ 64) where
       union-bit : (s q : ℕ) → s < 2 ^ occurrences E → 1 ≤ q → q < suc (occurrences E)
-          → bit (q - 1) (unionRows (take 64 (drop (65 * a + 1) (sideTable E))) s)
+          → bit (q - 1) (unionRows (take 64 (drop (ROW * a + 1) (sideTable E))) s)
           ≡ some (λ p. next E p q a) (numberSet 1 (suc (occurrences E)) s)
       union-bit s q h i l =
           let z : occurrences E - 0 ≡ occurrences E = omega arith in
-          bit-union (take 64 (drop (65 * a + 1) (sideTable E))) s (q - 1)
-          ∙ some-same (λ k. bit (q - 1) (row (take 64 (drop (65 * a + 1) (sideTable E))) k)) (λ k. next E (suc k) q a) (numberSet 0 64 s)
+          bit-union (take 64 (drop (ROW * a + 1) (sideTable E))) s (q - 1)
+          ∙ some-same (λ k. bit (q - 1) (row (take 64 (drop (ROW * a + 1) (sideTable E))) k)) (λ k. next E (suc k) q a) (numberSet 0 64 s)
           (λ k j. let (u, v, w) = number-in 0 64 s k j in
           ap (bit (q - 1)) (step-row (sideTable E) a k v) ∙ next-bit a (suc k) q low (omega arith) i l)
           ∙ ap (some (λ k. next E (suc k) q a)) (number-wide 0 (occurrences E) 64 s few (subst (λ w. s < 2 ^ w) (sym z) h))
@@ -122,7 +123,7 @@ module _ (E : Expr) where
           ≡ (reads E 0 q r && some (λ p. next E p q a) (numberSet 1 (suc (occurrences E)) s))
       unfolding stepSet
       set-step-bit s q h i l =
-          bit-and (q - 1) (unionRows (take 64 (drop (65 * a + 1) (sideTable E))) s) (readers (sideTable E) r)
+          bit-and (q - 1) (unionRows (take 64 (drop (ROW * a + 1) (sideTable E))) s) (readers (sideTable E) r)
           ∙ ap₂ _&&_ (union-bit s q h i l) (reads-bit r q letter i l)
           ∙ and-comm (some (λ p. next E p q a) (numberSet 1 (suc (occurrences E)) s)) (reads E 0 q r)
 

@@ -10,18 +10,19 @@ use Rattle.kat.specs.Lists.{filter}
 use Rattle.claims.specs.Query.{bit}
 use Rattle.claims.specs.Standings.{Letter}
 use Rattle.bits.specs.Sets.{unionRows, meets, members}
+use Rattle.side_tables.specs.Layout.{ENDS, LETTERS, NULL, ROW}
 
 -- the occurrences that may come next at atom a, where p was read last (0: nothing yet)
 unfoldable pub nextSet : List ℕ → ℕ → ℕ → ℕ
-nextSet t a p = getD t (65 * a + p) 0
+nextSet t a p = getD t (ROW * a + p) 0
 
 -- the occurrences that read relation r
 unfoldable pub readers : List ℕ → ℕ → ℕ
-readers t r = getD t (4224 + r) 0
+readers t r = getD t (LETTERS + r) 0
 
 -- the occurrences at which a word may end at atom a
 unfoldable pub enders : List ℕ → ℕ → ℕ
-enders t a = getD t (4160 + a) 0
+enders t a = getD t (ENDS + a) 0
 
 -- what may have been read of one letter, where p was read last (0: nothing yet)
 unfoldable pub stepFrom : List ℕ → ℕ → ℕ → ℕ → ℕ
@@ -29,7 +30,7 @@ stepFrom t p a r = bitAnd (nextSet t a p) (readers t r)
 
 -- what may have been read one letter on, where one of the set s was read last: the union of its rows, cut by the letter
 unfoldable pub stepSet : List ℕ → ℕ → ℕ → ℕ → ℕ
-stepSet t s a r = bitAnd (unionRows (take 64 (drop (65 * a + 1) t)) s) (readers t r)
+stepSet t s a r = bitAnd (unionRows (take 64 (drop (ROW * a + 1) t)) s) (readers t r)
 
 -- one of the set s may be read last at atom a
 unfoldable pub endsSet : List ℕ → ℕ → ℕ → Bool
@@ -37,7 +38,7 @@ endsSet t s a = meets s (enders t a)
 
 -- the single atom a is a word
 unfoldable pub nullAt : List ℕ → ℕ → Bool
-nullAt t a = bit a (getD t 4240 0)
+nullAt t a = bit a (getD t NULL 0)
 
 -- right occurrence q may be read next by the letter, where p was read last (0: nothing yet)
 unfoldable pub leads : List ℕ → Letter → ℕ → ℕ → Bool

@@ -35,7 +35,7 @@ pub fn same(a: &[u8], b: &[u8]) -> bool
 }
 
 // What a part of a text consists of: the bytes of a line, spaces, or the bytes of a word.
-enum Part {
+enum PartKind {
     Line,
     Spaces,
     Word,
@@ -49,18 +49,18 @@ fn in_word(b: u8) -> bool
 }
 
 // Whether the byte belongs to such a part.
-fn belongs(kind: Part, b: u8) -> bool
+fn belongs(kind: PartKind, b: u8) -> bool
     ensures { λ r. ⌜ r ≡ ofPart kind b ⌝ }
 {
     match kind {
-        Part::Line => b != 10,
-        Part::Spaces => b == 32,
-        Part::Word => in_word(b),
+        PartKind::Line => b != 10,
+        PartKind::Spaces => b == 32,
+        PartKind::Word => in_word(b),
     }
 }
 
 // Where the part ends that goes on at a place. The place is required to be within the text, so that the end is.
-fn part_end(text: &[u8], at: usize, kind: Part) -> usize
+fn part_end(text: &[u8], at: usize, kind: PartKind) -> usize
     requires { ⌜ at ≤ length (now text) ⌝ }
     ensures { λ r. ⌜ (at ≤ r) × (r ≤ length (now (text .entry))) × (r ≡ at + length (front (ofPart kind) (drop at (now (text .entry))))) ⌝ }
 {
@@ -91,7 +91,7 @@ fn next_line(text: &[u8], at: usize) -> usize
     requires { ⌜ at ≤ length (now text) ⌝ }
     ensures { λ r. ⌜ (at ≤ r) × (r ≤ length (now (text .entry))) × (min (at + 1) (length (now (text .entry))) ≤ r) × (drop r (now (text .entry)) ≡ behind (back inLine (drop at (now (text .entry))))) ⌝ }
 {
-    line_after(text, part_end(text, at, Part::Line))
+    line_after(text, part_end(text, at, PartKind::Line))
 }
 
 // Line n of the text, counted from 1, without its byte 10; no bytes where there is none.
@@ -107,19 +107,19 @@ pub fn line(text: &[u8], n: usize) -> &[u8]
         at = next_line(text, at);
         left -= 1;
     }
-    let end = part_end(text, at, Part::Line);
+    let end = part_end(text, at, PartKind::Line);
     &text[at..end]
 }
 
 // The name that the line declares, where its first word is the given one, and else no bytes.
-pub fn declared<'a>(line: &'a [u8], word: &[u8]) -> &'a [u8]
+fn declared<'a>(line: &'a [u8], word: &[u8]) -> &'a [u8]
     ensures { λ r. ⌜ now r ≡ declaredBy (now (word .entry)) (now (line .entry)) ⌝ }
 {
-    let a = part_end(line, 0, Part::Spaces);
-    let b = part_end(line, a, Part::Word);
+    let a = part_end(line, 0, PartKind::Spaces);
+    let b = part_end(line, a, PartKind::Word);
     if same(&line[a..b], word) {
-        let c = part_end(line, b, Part::Spaces);
-        let d = part_end(line, c, Part::Word);
+        let c = part_end(line, b, PartKind::Spaces);
+        let d = part_end(line, c, PartKind::Word);
         return &line[c..d];
     }
     &line[..0]
@@ -133,7 +133,7 @@ pub fn name<'a>(text: &'a [u8], word: &[u8], k: usize) -> &'a [u8]
     let mut at = 0;
     let mut left = k;
     while at < text.len() {
-        let end = part_end(text, at, Part::Line);
+        let end = part_end(text, at, PartKind::Line);
         let next = line_after(text, end);
         let found = declared(&text[at..end], word);
         if 0 < found.len() {

@@ -7,7 +7,7 @@ use mathlib.Core.Bool.{true, false}
 use mathlib.Core.List.{[]}
 use Rattle.kat.specs.Lists.{In}
 use Rattle.notation.specs.Query.{live}
-use Rattle.verdicts.specs.Standings.{System, Letter, refutingAtoms}
+use Rattle.verdicts.specs.Standings.{System, Letter}
 use Rattle.verdicts.specs.Orders.{Rising}
 
 -- the laws of a kind of standing

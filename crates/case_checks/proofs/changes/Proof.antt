@@ -1,14 +1,13 @@
--- `case_checks::changes` is safe and ends: it goes once over the bytes; the bytes keep their length.
+-- `case_checks::changes` is safe and ends: it goes once over the bytes; the bytes stay as they were.
 -- Assumes nothing.
 use Prim.Native.Nat.{_-_, _≤_}
 use mathlib.Core.Path.{_≡_}
-use lib.ListN.{length}
 use borrow.Author.Needs.{needs}
 use Rattle.case_checks.proofs.changes.Statement.{statement}
 use Rattle.case_checks.proofs.changes.Tie as tie
 
 abbrev Inv-loop : tie.InvT-loop
-Inv-loop of query buffer₀ n at r₀ b₀ t6 buffer r b = (b ≤ 255) × (length buffer ≡ length buffer₀)
+Inv-loop of query buffer₀ n at r₀ b₀ t6 buffer r b = (b ≤ 255) × (buffer ≡ buffer₀)
 
 abbrev μ-loop : tie.MeasureT-loop
 μ-loop of query buffer₀ n at r₀ b₀ t6 buffer r b = 255 - b

@@ -1,14 +1,13 @@
--- `case_checks::edits` is safe and ends: it goes once over the places; the bytes keep their length.
+-- `case_checks::edits` is safe and ends: it goes once over the places; the bytes stay as they were.
 -- Assumes nothing.
 use Prim.Native.Nat.{_-_, _≤_}
 use mathlib.Core.Path.{_≡_}
-use lib.ListN.{length}
 use borrow.Author.Needs.{needs}
 use Rattle.case_checks.proofs.edits.Statement.{statement}
 use Rattle.case_checks.proofs.edits.Tie as tie
 
 abbrev Inv-loop : tie.InvT-loop
-Inv-loop of query buffer₀ n i₀ buffer i = (i ≤ n) × (length buffer ≡ length buffer₀)
+Inv-loop of query buffer₀ n i₀ buffer i = (i ≤ n) × (buffer ≡ buffer₀)
 
 abbrev μ-loop : tie.MeasureT-loop
 μ-loop of query buffer₀ n i₀ buffer i = n - i

@@ -17,7 +17,7 @@ slice-aggregate-run-3 : tie.Need-slice-aggregate-run-3
 slice-aggregate-run-3 c = sym (length-replicate {A = ℕ} 163840 0)
 
 slice-aggregate-run-4 : tie.Need-slice-aggregate-run-4
-slice-aggregate-run-4 c = sym (length-replicate {A = ℕ} 1102097 0)
+slice-aggregate-run-4 c = sym (length-replicate {A = ℕ} 1101828 0)
 
 slice-aggregate-run-5 : tie.Need-slice-aggregate-run-5
 slice-aggregate-run-5 c = sym (length-replicate {A = ℕ} 24832 0)

@@ -1,4 +1,4 @@
--- The contract of `evidence::search_and_check`: the kinds of its parameters and of its result, and the reading of its clauses, which are plain facts.
+-- The contract of `confirmed_search::search_and_check`: the kinds of its parameters and of its result, and the reading of its clauses, which are plain facts.
 -- Assumes nothing.
 use Rattle.derivations.proofs.Derive.{rEnum}
 use borrow.Fn.Kind.{PK, RK}

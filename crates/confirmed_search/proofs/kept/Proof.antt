@@ -1,6 +1,6 @@
 -- `confirmed_search::kept` meets its contract. By the case of the outcome; what the check says of the sheet is `check-call`.
 -- Assumes nothing.
-use Rattle.evidence.proofs.Confirmed.{kept-proved-by, kept-refuted-by, kept-refused-by}
+use Rattle.confirmed_search.proofs.Confirmed.{kept-proved-by, kept-refuted-by, kept-refused-by}
 use borrow.Author.Needs.{needs}
 use Rattle.confirmed_search.proofs.kept.Statement.{statement}
 use Rattle.confirmed_search.proofs.kept.Tie as tie
@@ -27,10 +27,10 @@ enum-known-r-3 : tie.Need-enum-known-r-3
 enum-known-r-3 c = search needs
 
 returns : tie.Need-returns
-returns c = kept-proved-by _ _ _ (c .before .before .before .r .given .1) _ (c .before .check .ensures .0) (c .kept-proved .ensures)
+returns c = kept-proved-by _ _ _ _ (c .before .before .before .r .given .1) _ (c .before .check .ensures .0) (c .kept-proved .ensures)
 
 returns-2 : tie.Need-returns-2
-returns-2 c = kept-refuted-by _ _ _ (c .before .before .before .r2 .given .1) _ (c .before .check2 .ensures .0) (c .kept-refuted .ensures)
+returns-2 c = kept-refuted-by _ _ _ _ (c .before .before .before .r2 .given .1) _ (c .before .check2 .ensures .0) (c .kept-refuted .ensures)
 
 returns-3 : tie.Need-returns-3
 returns-3 c = kept-refused-by _ _ _ _ (c .before .r3 .given .1)

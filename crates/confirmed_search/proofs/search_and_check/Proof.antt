@@ -17,7 +17,7 @@ use borrow.Fn.Kinds.{Dens, GoodsP}
 use borrow.Fn.Plain.{Known, plainOf, t-fn-plain}
 use borrow.Fn.Run.{Over}
 use borrow.Fn.World.{World}
-use Rattle.evidence.proofs.Confirmed.{checked-gives}
+use Rattle.confirmed_search.proofs.Confirmed.{checked-gives}
 use Rattle.derivations.proofs.Derive.{fix, homesOf}
 use Rattle.derivations.proofs.Plain as Plain
 use Rattle.confirmed_search.proofs.Contracts.SearchAndCheck.{ps, r, spec}

@@ -4,7 +4,7 @@
 use Prim.Native.Nat.{_-_, _≤_}
 use native.Mathlib.Omega.{arith}
 use lib.ListN.{length, drop}
-use Rattle.draw_fields.proofs.Pieces.{Left, left-begin}
+use Rattle.print_line.proofs.Pieces.{Left, left-begin}
 use Rattle.dot.specs.DotText.{edgeLines, edgesIn}
 use Rattle.dot.proofs.Lines.{edges-more, edges-end}
 use borrow.Author.Needs.{needs}

@@ -5,7 +5,7 @@ use Prim.Native.Nat.{_+_, _-_, _≤_}
 use native.Mathlib.Omega.{arith}
 use mathlib.Core.Path.{sym, _∙_}
 use lib.ListN.{length, drop}
-use Rattle.draw_fields.proofs.Pieces.{Left, left-begin}
+use Rattle.print_line.proofs.Pieces.{Left, left-begin}
 use Rattle.dot.specs.DotText.{eventLines, atomsIn}
 use Rattle.dot.proofs.Listing.{event-within}
 use Rattle.dot.proofs.Lines.{events-more, events-end}

@@ -6,7 +6,7 @@ use native.Mathlib.Omega.{arith}
 use mathlib.Core.Path.{refl}
 use Rattle.kat.specs.Lists.{upto}
 use Rattle.claims.specs.GraphWriting.{joined}
-use Rattle.draw_fields.proofs.Pieces.{Left, range-more, range-end}
+use Rattle.print_line.proofs.Pieces.{Left, range-more, range-end}
 use Rattle.dot.specs.DotText.{testsText}
 use Rattle.dot.proofs.Lines.{aTest, tests-begin}
 use borrow.Author.Needs.{needs}

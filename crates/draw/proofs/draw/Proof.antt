@@ -52,18 +52,19 @@ part-draw-word-start c =
 part-draw-word-end : tie.Need-part-draw-word-end
 part-draw-word-end c = search needs
 
-closed-set-requires : tie.Need-closed-set-requires
-closed-set-requires c κs = search needs
-
 cast-draw-word : tie.Need-cast-draw-word
 cast-draw-word c =
-    let k = c .before .before .before .before .before .before in
+    let k = c .before .before .before .before .before in
     let a = k .before .before .before .before in
     let r = a .before .before .read in
     omega (arith, few-relations _ (r .result) (r .ensures .0) _ (a .asked2 .given .1) _ _ (r .ensures .2) (r .ensures .3))
 
 draw-word-requires : tie.Need-draw-word-requires
-draw-word-requires c κs = search needs
+draw-word-requires c κs =
+    let k = c .before .before .before .before .before .before in
+    let a = k .before .before .before .before in
+    let r = a .before .before .read in
+    omega (arith, few-relations _ (r .result) (r .ensures .0) _ (a .asked2 .given .1) _ _ (r .ensures .2) (r .ensures .3))
 
 returns : tie.Need-returns
 returns c =
@@ -94,7 +95,7 @@ same-length c = search needs
 
 returns-4 : tie.Need-returns-4
 returns-4 c =
-    let e = c .before .before .before .before .before .before .before .before in
+    let e = c .before .before .before .before .before .before .before in
     let k = e .before .before in
     let a = k .before .before .before .before in
     let r = a .before .before .read in
@@ -102,7 +103,7 @@ returns-4 c =
     let passed = refuted-passes _ _ (k .check-decided .result) says (e .enum-told2 .given .1) in
     let d =
     refuted-drawn _ _ passed (r .result) (r .ensures .0) _ (a .asked2 .given .1) _ _ _ (r .ensures .1) (r .ensures .2) (r .ensures .3) _
-    (c .before .before .before .before .before .closed-set .ensures) _ _ refl (c .before .before .draw-word .ensures)
+    refl _ _ refl (c .before .before .draw-word .ensures)
     in
     (d, graph-breaks _ _ _ _ _ d)
 
@@ -120,7 +121,6 @@ draw-spec =
     sub-draw-word
     part-draw-word-start
     part-draw-word-end
-    closed-set-requires
     cast-draw-word
     draw-word-requires
     returns

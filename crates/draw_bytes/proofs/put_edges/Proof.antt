@@ -6,27 +6,29 @@ use native.Mathlib.Omega.{arith}
 use mathlib.Core.Path.{refl}
 use Rattle.kat.specs.Lists.{upto}
 use Rattle.claims.specs.GraphWriting.{joined}
+use Rattle.draw_rows.specs.Rows.{tableAt}
 use Rattle.draw_bytes.specs.Bytes.{relationBytes, edgesBytes}
-use Rattle.draw_fields.proofs.Pieces.{Left, range-more, range-end}
+use Rattle.print_line.proofs.Pieces.{Left, range-more, range-end}
 use Rattle.draw_bytes.proofs.Relations.{edges-begin}
 use borrow.Author.Needs.{needs}
 use Rattle.draw_bytes.proofs.put_edges.Statement.{statement}
 use Rattle.draw_bytes.proofs.put_edges.Tie as tie
 
 abbrev Inv-loop : tie.InvT-loop
-Inv-loop out₀ at word n closed relations to₀ r₀ out to r =
-    (r ≤ relations) × Left out₀ at (edgesBytes word n closed relations) out to (joined (relationBytes word n closed) (upto r relations))
+Inv-loop out₀ at n tables relations to₀ r₀ out to r =
+    (r ≤ relations)
+    × Left out₀ at (edgesBytes n (tableAt tables) relations) out to (joined (relationBytes n (tableAt tables)) (upto r relations))
 
 abbrev μ-loop : tie.MeasureT-loop
-μ-loop out₀ at word n closed relations to₀ r₀ out to r = relations - r
+μ-loop out₀ at n tables relations to₀ r₀ out to r = relations - r
 
 least-requires : tie.Need-least-requires Inv-loop μ-loop
 least-requires c κs = search needs
 
 loop-holds : tie.Need-loop-holds Inv-loop μ-loop
 loop-holds c =
-    let a = c .before .before .before .args in
-    (omega arith, edges-begin (a .out .now) (a .at) _ (a .word .now) (a .n) (a .closed) (a .relations) (c .least .ensures))
+    let a = c .before .before .args in
+    (omega arith, edges-begin (a .out .now) (a .at) _ (a .n) (tableAt (a .tables .now)) (a .relations) (c .least .ensures))
 
 put-relation-requires : tie.Need-put-relation-requires Inv-loop μ-loop
 put-relation-requires c κs = search needs
@@ -40,9 +42,9 @@ loop-less c = omega arith
 loop-again : tie.Need-loop-again Inv-loop μ-loop
 loop-again c =
     let l = c .before .before .before .before .before .loop in
-    let a = c .before .before .before .before .before .before .before .before .before .args in (
+    let a = c .before .before .before .before .before .before .before .before .args in (
       omega arith,
-      range-more (relationBytes (a .word .now) (a .n) (a .closed)) (l .r) (a .relations) (omega arith) (l .inv .1) _ refl
+      range-more (relationBytes (a .n) (tableAt (a .tables .now))) (l .r) (a .relations) (omega arith) (l .inv .1) _ refl
           (c .before .before .put-relation .ensures),
     )
 
@@ -52,8 +54,8 @@ same-length c = c .before .loop .inv .1 .same-length
 returns : tie.Need-returns Inv-loop μ-loop
 returns c =
     let l = c .before .loop in
-    let a = c .before .before .before .before .before .args in
-    range-end (relationBytes (a .word .now) (a .n) (a .closed)) (l .r) (a .relations) (omega arith) (l .inv .1)
+    let a = c .before .before .before .before .args in
+    range-end (relationBytes (a .n) (tableAt (a .tables .now))) (l .r) (a .relations) (omega arith) (l .inv .1)
 
 pub put-edges-spec : {M : Type 1} → statement M
 put-edges-spec =

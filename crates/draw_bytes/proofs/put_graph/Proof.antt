@@ -18,7 +18,7 @@ returns : tie.Need-returns
 returns c =
     let k = c .before .before .before .before .before .before in
     let a = k .before .before .before .before .args in
-    puts-graph (a .word .now) (a .n) (a .closed) (a .relations) (k .put-events .ensures) (c .before .before .put-edges .ensures)
+    puts-graph (a .word .now) (a .n) _ (a .relations) (k .put-events .ensures) (c .before .before .put-edges .ensures)
 
 pub put-graph-spec : {M : Type 1} → statement M
 put-graph-spec = tie.close (tie.spec put-events-requires put-edges-requires same-length returns)

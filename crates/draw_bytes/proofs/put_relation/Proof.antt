@@ -1,15 +1,12 @@
--- `draw_bytes::put_relation` meets its contract: its rows are made, and put.
+-- `draw_bytes::put_relation` meets its contract: its rows are put.
 -- Assumes nothing.
 use Rattle.draw_bytes.proofs.Relations.{puts-relation}
 use borrow.Author.Needs.{needs}
 use Rattle.draw_bytes.proofs.put_relation.Statement.{statement}
 use Rattle.draw_bytes.proofs.put_relation.Tie as tie
 
-member-requires : tie.Need-member-requires
-member-requires c κs = search needs
-
-relation-rows-requires : tie.Need-relation-rows-requires
-relation-rows-requires c κs = search needs
+table-requires : tie.Need-table-requires
+table-requires c κs = search needs
 
 slice-aggregate-put-rows : tie.Need-slice-aggregate-put-rows
 slice-aggregate-put-rows c = search needs
@@ -23,16 +20,13 @@ same-length c = search needs
 returns : tie.Need-returns
 returns c =
     let k = c .before .before .before .before .before in
-    let a = k .before .before .before .before .args in
-    puts-relation (a .word .now) (a .n) (a .closed) (a .r) _ _ (k .before .member .ensures) (k .relation-rows .ensures)
-    (c .before .before .put-rows .ensures)
+    puts-relation _ _ _ _ (k .table .ensures) (c .before .before .put-rows .ensures)
 
 pub put-relation-spec : {M : Type 1} → statement M
 put-relation-spec =
     tie.close
     (tie.spec
-    member-requires
-    relation-rows-requires
+    table-requires
     slice-aggregate-put-rows
     put-rows-requires
     same-length

@@ -2,7 +2,7 @@
 -- Assumes nothing.
 use native.Mathlib.Omega.{arith}
 use lib.Count.{ones-le}
-use Rattle.draw_fields.proofs.Pieces.{row-length}
+use Rattle.draw_bytes.proofs.Pieces.{row-length}
 use borrow.Author.Needs.{needs}
 use Rattle.draw_bytes.proofs.row_length.Statement.{statement}
 use Rattle.draw_bytes.proofs.row_length.Tie as tie

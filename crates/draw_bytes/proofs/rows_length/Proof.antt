@@ -7,8 +7,9 @@ use mathlib.Core.Path.{_≡_, _∙_, ap}
 use lib.ListN.{length}
 use Rattle.kat.specs.Lists.{upto}
 use Rattle.claims.specs.GraphWriting.{joined}
-use Rattle.draw_fields.specs.Fields.{rowBytes, rowsBytes}
-use Rattle.draw_fields.proofs.Pieces.{aRow, count-more, count-end}
+use Rattle.draw_bytes.specs.Fields.{rowBytes, rowsBytes}
+use Rattle.print_line.proofs.Pieces.{count-more, count-end}
+use Rattle.draw_bytes.proofs.Pieces.{aRow}
 use Rattle.draw_bytes.proofs.Relations.{rows-count-begin}
 use borrow.Author.Needs.{needs}
 use Rattle.draw_bytes.proofs.rows_length.Statement.{statement}

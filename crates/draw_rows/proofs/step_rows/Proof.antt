@@ -5,8 +5,8 @@ use Prim.Native.Nat.{_-_, _≤_}
 use native.Mathlib.Omega.{arith}
 use mathlib.Core.Path.{_≡_, sym, _∙_}
 use lib.ListN.{length, length-set}
-use Rattle.words.specs.Memory.{changed, words}
-use Rattle.words.proofs.Words.{fill-begin, fill-more, fill-end}
+use Rattle.memory.specs.Memory.{changed, words}
+use Rattle.memory.proofs.Words.{fill-begin, fill-more, fill-end}
 use Rattle.draw_rows.specs.Rows.{stepRow}
 use borrow.Author.Needs.{needs}
 use Rattle.draw_rows.proofs.step_rows.Statement.{statement}

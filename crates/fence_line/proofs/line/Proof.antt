@@ -41,7 +41,7 @@ returns c =
     let line =
     puts-same (program-line _ _ _ _ (t .search-alone .result) refl refl (g .says) (ap (λ (m : Lent). m .buffer) (g .leaves)))
     (o .outcome-line .ensures) in
-    ((line, program-says _ _ _ _ refl refl (g .says)), λ h. puts-all _ _ _ _ line (omega (arith, printed-within programAllowance text)))
+    ((line, program-says _ _ _ _ refl refl (g .says), g .sized), λ h. puts-all _ _ _ _ line (omega (arith, printed-within programAllowance text)))
 
 pub line-spec : {M : Type 1} → statement M
 line-spec =

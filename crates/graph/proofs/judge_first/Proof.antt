@@ -1,7 +1,7 @@
 -- `graph::judge_first` meets its contract: the first codes with what they need are the items.
 -- Assumes nothing.
 use native.Mathlib.Omega.{arith}
-use mathlib.Core.Path.{refl, _∙_, ap}
+use mathlib.Core.Path.{_∙_, ap}
 use Rattle.side_items.specs.Items.{itemsOf}
 use Rattle.graph_judge.specs.Machine.{performedAll, beginning}
 use lib.ListN.{take, length-take, length-drop, length-append}

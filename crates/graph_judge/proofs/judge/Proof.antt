@@ -1,7 +1,7 @@
 -- `graph_judge::judge` meets its contract: the codes are run on blank tables.
 -- Assumes nothing.
 use mathlib.Core.Path.{ap}
-use Rattle.words.specs.Memory.{zeros}
+use Rattle.memory.specs.Memory.{zeros}
 use Rattle.rows.specs.Rows.{blank}
 use Rattle.graph_tables.specs.Machine.{Judging}
 use Rattle.graph_judge.specs.Machine.{beginning}

@@ -4,7 +4,7 @@ use native.Mathlib.Omega.{arith}
 use mathlib.Core.Path.{sym, _∙_, ap}
 use Rattle.graph_tables.specs.Machine.{judging}
 use Rattle.graph_judge.specs.Machine.{brokenIf}
-use Rattle.graph_judge.proofs.Ends.{onward-state, ends-bare, ends-within, ends-closed}
+use Rattle.graph_judge.proofs.Ends.{onward-state, ends-bare, ends-within, ends-closed, ends-past}
 use borrow.Author.Needs.{needs}
 use Rattle.graph_judge.proofs.relation_line.Statement.{statement}
 use Rattle.graph_judge.proofs.relation_line.Tie as tie
@@ -39,9 +39,19 @@ broken-if-requires-3 c κs = search needs
 
 returns-3 : tie.Need-returns-3
 returns-3 c =
+    let a = c .before .before .before .before .before .args in
+    let j = judging (a .mem .now) (a .s) in
+    c .broken-if3 .ensures ∙ ap (λ b. brokenIf b (a .s)) (c .before .lacks-pair .ensures)
+    ∙ sym (ends-closed (a .listed .now) j (a .k) (omega arith) (omega arith))
+
+broken-if-requires-4 : tie.Need-broken-if-requires-4
+broken-if-requires-4 c κs = search needs
+
+returns-4 : tie.Need-returns-4
+returns-4 c =
     let a = c .before .before .before .before .args in
     let j = judging (a .mem .now) (a .s) in
-    c .broken-if3 .ensures ∙ ap (λ b. brokenIf b (a .s)) (c .before .lacks-pair .ensures) ∙ sym (ends-closed (a .listed .now) j (a .k) (omega arith))
+    c .broken-if4 .ensures ∙ onward-state (a .s) ∙ sym (ends-past (a .listed .now) j (a .k) (omega arith))
 
 pub relation-line-spec : {M : Type 1} → statement M
 relation-line-spec =
@@ -54,4 +64,6 @@ relation-line-spec =
     returns-2
     lacks-pair-requires
     broken-if-requires-3
-    returns-3)
+    returns-3
+    broken-if-requires-4
+    returns-4)

@@ -3,7 +3,7 @@
 use native.Mathlib.Omega.{arith}
 use mathlib.Core.Path.{_∙_, ap}
 use borrow.Author.Needs.{needs}
-use Rattle.words.specs.Memory.{zeros}
+use Rattle.memory.specs.Memory.{zeros}
 use Rattle.graph_read.proofs.SoFar.{read-whole, read-wrong, as-many}
 use Rattle.graph_read.proofs.read.Statement.{statement}
 use Rattle.graph_read.proofs.read.Tie as tie

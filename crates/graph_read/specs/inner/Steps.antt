@@ -10,16 +10,17 @@ use lib.ListN.{length, drop}
 use Rattle.kat.specs.Lists.{isEmpty}
 use Rattle.claims.specs.Fields.{nextField, afterField}
 use Rattle.claims.specs.GraphBytes.{Listed}
+use Rattle.graph_read.specs.Layout.{MOST-EVENTS}
 use Rattle.graph_read.specs.Reading.{listedWords}
-use Rattle.graph_read.specs.declared.Reading.{Reading}
-use Rattle.graph_read.specs.declared.Reading.the-variants.{Events, Wrong}
+use Rattle.graph_read.specs.declared.GraphRead.{GraphRead}
+use Rattle.graph_read.specs.declared.GraphRead.the-variants.{Events, Wrong}
 use Rattle.graph_read.specs.declared.Turn.{Turn}
 use Rattle.graph_read.specs.declared.Turn.the-variants.{On, Not}
 
 -- G is held: it has n events, the memory lists it, and whether it has an edge is noted ("Sheet and graph bytes")
 pub record Held (G : Listed) (n : ℕ) (edged : Bool) (ws : List ℕ) : Type 0 where
   pub events : n ≡ length (G .atoms)
-  pub few : n ≤ 64
+  pub few : n ≤ MOST-EVENTS
   pub edge : edged ≡ not (isEmpty (G .edges))
   pub listed : ws ≡ listedWords G
 
@@ -40,6 +41,6 @@ Turns bs at (some H) ws (On next n edged) =
 Turns bs at (some H) ws Not = ⊥
 
 -- the memory after a whole reading; after a wrong field it may be anything ("Sheet and graph bytes")
-abbrev pub Leaves : Reading → List ℕ → List ℕ → Type 0
+abbrev pub Leaves : GraphRead → List ℕ → List ℕ → Type 0
 Leaves (Events n) ws left = ws ≡ left
 Leaves (Wrong k) ws left = Unit {0}

@@ -5,8 +5,8 @@ use Prim.Native.Nat.{_+_, _-_}
 use native.Mathlib.Omega.{arith}
 use mathlib.Core.Path.{_≡_, refl, sym, _∙_, ap}
 use lib.ListN.{length, getD, length-set}
-use Rattle.words.specs.Memory.{words, changed}
-use Rattle.words.proofs.Words.{fill-begin, fill-more, fill-end}
+use Rattle.memory.specs.Memory.{words, changed}
+use Rattle.memory.proofs.Words.{fill-begin, fill-more, fill-end}
 use borrow.Author.Needs.{needs}
 use Rattle.graph_tables.proofs.copy.Statement.{statement}
 use Rattle.graph_tables.proofs.copy.Tie as tie

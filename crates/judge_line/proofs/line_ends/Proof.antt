@@ -3,7 +3,7 @@ use Rattle.judge_line.proofs.JudgedLaws.{ends-here, ends-later, ends-no
 use Rattle.judge_line.specs.JudgedWords.{lineEnds}
 use lib.ListN.{length, drop}
 use mathlib.Core.Logic.{⊎-elim}
-use mathlib.Core.Path.{_≡_, refl}
+use mathlib.Core.Path.{_≡_}
 use native.Mathlib.Omega.{arith}
 use Prim.Native.Nat.{_+_, _-_, _≤_}
 -- `judge_line::line_ends` meets its contract. The ends so far and those behind are all.

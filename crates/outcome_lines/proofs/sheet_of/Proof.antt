@@ -5,8 +5,8 @@ use borrow.Author.Needs.{needs}
 use Rattle.outcome_lines.proofs.sheet_of.Statement.{statement}
 use Rattle.outcome_lines.proofs.sheet_of.Tie as tie
 
-sheet-size-requires : tie.Need-sheet-size-requires
-sheet-size-requires c κs = search needs
+sheet-bytes-requires : tie.Need-sheet-bytes-requires
+sheet-bytes-requires c κs = search needs
 
 least-requires : tie.Need-least-requires
 least-requires c κs = search needs
@@ -15,8 +15,8 @@ slice-aggregate-result : tie.Need-slice-aggregate-result
 slice-aggregate-result c = part-length _ _ (c .before .before .before .before .args .buffer .now) (c .before .least .ensures)
 
 returns : tie.Need-returns
-returns c = part-within _ _ _ _ (c .before .least .ensures) (c .before .before .sheet-size .ensures)
+returns c = part-within _ _ _ _ (c .before .least .ensures) (c .before .before .sheet-bytes .ensures)
 
 pub sheet-of-spec : {M : Type 1} → statement M
 sheet-of-spec =
-    tie.close (tie.spec sheet-size-requires least-requires slice-aggregate-result returns)
+    tie.close (tie.spec sheet-bytes-requires least-requires slice-aggregate-result returns)

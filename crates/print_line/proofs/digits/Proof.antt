@@ -3,11 +3,10 @@
 use lib.ListN.{drop-of-length-le, length-drop}
 use lib.Seq.{take-all}
 use mathlib.Core.Path.{ap}
-use mathlib.Core.List.{List, []}
 use Rattle.print_line.proofs.Decimals.{digit-more, digit-last, two-digits, fewer-digits}
 use lib.ListN.{set, length-set}
 use Prim.Native.Nat.{suc, _+_, _-_}
-use mathlib.Core.Path.{refl, sym, _∙_}
+use mathlib.Core.Path.{sym, _∙_}
 use native.Mathlib.Omega.{arith}
 use Prim.Native.Nat.{ℕ, _^_, _<_, _≤_}
 use mathlib.Core.Path.{_≡_}

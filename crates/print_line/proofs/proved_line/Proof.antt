@@ -11,8 +11,8 @@ slice-aggregate-put-text c = search needs
 put-text-requires : tie.Need-put-text-requires
 put-text-requires c κs = search needs
 
-put-number-requires : tie.Need-put-number-requires
-put-number-requires c κs = search needs
+put-spaced-requires : tie.Need-put-spaced-requires
+put-spaced-requires c κs = search needs
 
 put-byte-requires : tie.Need-put-byte-requires
 put-byte-requires c κs = search needs
@@ -22,7 +22,7 @@ same-length c = search needs
 
 returns : tie.Need-returns
 returns c =
-    puts-append (c .before .before .before .before .before .before .before .before .before .before .put-text .ensures) (puts-append (c .before .before .before .before .before .before .put-number .ensures) (c .before .before .put-byte .ensures))
+    puts-append (c .before .before .before .before .before .before .before .before .before .before .put-text .ensures) (puts-append (c .before .before .before .before .before .before .put-spaced .ensures) (c .before .before .put-byte .ensures))
 
 pub proved-line-spec : {M : Type 1} → statement M
 proved-line-spec =
@@ -30,7 +30,7 @@ proved-line-spec =
     (tie.spec
     slice-aggregate-put-text
     put-text-requires
-    put-number-requires
+    put-spaced-requires
     put-byte-requires
     same-length
     returns)

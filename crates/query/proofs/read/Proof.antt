@@ -1,7 +1,7 @@
 -- `query::read` meets its contract: each way out is what document 01's reading says.
 -- Assumes nothing.
 use Rattle.query.proofs.Outcomes.{refused-way, over-way, within-way}
-use Rattle.words.specs.Memory.{zeros}
+use Rattle.memory.specs.Memory.{zeros}
 use mathlib.Core.Path.{_∙_, ap}
 use borrow.Author.Needs.{needs}
 use Rattle.query.proofs.read.Statement.{statement}
@@ -12,7 +12,7 @@ use Rattle.query.proofs.facts_by.Reads as facts-by-reads
 use Rattle.query.proofs.within.Reads as within-reads
 use Rattle.read_text.proofs.read.Reads as read-reads
 use Rattle.side_build.proofs.build.Reads as build-reads
-use Rattle.words.proofs.clear.Reads as clear-reads
+use Rattle.memory.proofs.clear.Reads as clear-reads
 
 clear-requires : tie.Need-clear-requires
 clear-requires c κs = search needs

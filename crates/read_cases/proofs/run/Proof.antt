@@ -21,6 +21,9 @@ next-requires c κs = search needs
 enum-known-c : tie.Need-enum-known-c Inv-loop μ-loop
 enum-known-c c = search needs
 
+first-requires : tie.Need-first-requires Inv-loop μ-loop
+first-requires c κs = search needs
+
 answer-requires : tie.Need-answer-requires Inv-loop μ-loop
 answer-requires c κs = search needs
 
@@ -63,6 +66,7 @@ run-spec =
     loop-holds
     next-requires
     enum-known-c
+    first-requires
     answer-requires
     enum-told
     same-length

@@ -18,14 +18,14 @@ use Rattle.read_tokens.specs.declared.Key.{Key}
 use Rattle.read_names.specs.Keys.{entered}
 use Rattle.read_bodies.specs.Bodies.{Named}
 use Rattle.refusals.specs.declared.Reason.the-variants.{TooMany}
-use Rattle.read_declarations.specs.declared.Checked.{Checked}
-use Rattle.read_declarations.specs.declared.Checked.the-variants.{Fine, Faulty}
-use Rattle.read_declarations.specs.declared.State.{State}
+use Rattle.read_declarations.specs.declared.LineCheck.{LineCheck}
+use Rattle.read_declarations.specs.declared.LineCheck.the-variants.{Fine, Faulty}
+use Rattle.read_declarations.specs.declared.LineState.{LineState}
 use Rattle.read_declarations.specs.declared.LineRead.{LineRead}
 use Rattle.read_declarations.specs.declared.LineRead.the-variants.{Taken, Refused}
 
 -- how many names of the kind the state counts, how many the lines of q declare, and how many there may be
-unfoldable pub countOf : ℕ → State → ℕ
+unfoldable pub countOf : ℕ → LineState → ℕ
 countOf of st = cond (eqb of A-TEST) (st .tests) (cond (eqb of A-RELATION) (st .relations) (st .lets))
 
 unfoldable pub numberOf : ℕ → Query → ℕ
@@ -39,7 +39,7 @@ abbrev pub oneIf : ℕ → ℕ → ℕ
 oneIf a b = cond (eqb a b) 1 0
 
 -- the state with a name more of the kind, and u codes
-unfoldable pub oneMore : ℕ → ℕ → State → State
+unfoldable pub oneMore : ℕ → ℕ → LineState → LineState
 oneMore of u st =
     record {
       used = u;
@@ -51,12 +51,12 @@ oneMore of u st =
     }
 
 -- a line that declares a name of the kind, by its check
-unfoldable pub declaredRead : ℕ → State → Checked → LineRead
+unfoldable pub declaredRead : ℕ → LineState → LineCheck → LineRead
 declaredRead of st (Fine u) = cond (leb (mostOf of) (countOf of st)) (Refused TooMany) (Taken (oneMore of u st))
 declaredRead of st (Faulty w) = Refused w
 
 -- the table of names behind it, where the name has the key k
-unfoldable pub declaredNames : Key → ℕ → State → Checked → List ℕ → List ℕ
+unfoldable pub declaredNames : Key → ℕ → LineState → LineCheck → List ℕ → List ℕ
 declaredNames k of st (Fine u) names = cond (leb (mostOf of) (countOf of st)) names (entered names (st .names) k (of + countOf of st))
 declaredNames k of st (Faulty w) names = names
 

@@ -16,14 +16,15 @@ use Rattle.claims.specs.Reading.{readLine}
 use Rattle.claims.specs.Refusals.{Result, ok, refuse}
 use Rattle.read_tokens.specs.declared.Key.{Key}
 use Rattle.read_tokens.specs.Scan.{keyOf}
+use Rattle.read_names.specs.declared.Slip.{Slip}
+use Rattle.read_names.specs.declared.Slip.the-variants.{Clean, Unknown, OtherKind, Twice, Reserved}
 use Rattle.read_names.specs.Keys.{sameKey}
 use Rattle.read_tests.specs.declared.Parsed.{Parsed}
 use Rattle.read_tests.specs.declared.Parsed.the-variants.{Got, Wrong, Deep}
-use Rattle.refusals.specs.declared.Reason.{Reason}
 use Rattle.refusals.specs.declared.Reason.the-variants.{Notation, TooDeep, UnknownName, WrongKind, DeclaredTwice, ReservedName}
-use Rattle.read_declarations.specs.declared.Checked.{Checked}
-use Rattle.read_declarations.specs.declared.Checked.the-variants.{Fine, Faulty}
-use Rattle.read_declarations.specs.declared.State.{State}
+use Rattle.read_declarations.specs.declared.LineCheck.{LineCheck}
+use Rattle.read_declarations.specs.declared.LineCheck.the-variants.{Fine, Faulty}
+use Rattle.read_declarations.specs.declared.LineState.{LineState}
 use Rattle.read_declarations.specs.declared.LineRead.{LineRead}
 use Rattle.read_declarations.specs.declared.LineRead.the-variants.{Taken, Refused}
 use Rattle.read_bodies.specs.Bodies.{Bare}
@@ -32,19 +33,23 @@ use Rattle.read_declarations.specs.inner.Declaring.{DeclaresNext}
 use Rattle.read_declarations.specs.State.{After, Small, Tabled}
 use Rattle.refusals.specs.Causes.{causeOf}
 
--- the reason that a slip is
-unfoldable pub slipReason : ℕ → Reason
-slipReason n = cond (eqb n 1) UnknownName (cond (eqb n 2) WrongKind (cond (eqb n 3) DeclaredTwice ReservedName))
+-- a line that stands whole and has u codes behind it, by the first slip of its names
+unfoldable pub bySlip : ℕ → Slip → LineCheck
+bySlip u Clean = Fine u
+bySlip u Unknown = Faulty UnknownName
+bySlip u OtherKind = Faulty WrongKind
+bySlip u Twice = Faulty DeclaredTwice
+bySlip u Reserved = Faulty ReservedName
 
 -- the whole line: its end, and then its names
-unfoldable pub checked : List ℕ → Bool → Parsed → Checked
+unfoldable pub checked : List ℕ → Bool → Parsed → LineCheck
 checked s ended (Got p) =
-    cond (atEnd (tokens (drop (p .at) s)) && ended) (cond (eqb (p .slip) 0) (Fine (p .used)) (Faulty (slipReason (p .slip)))) (Faulty Notation)
+    cond (atEnd (tokens (drop (p .at) s)) && ended) (bySlip (p .used) (p .slip)) (Faulty Notation)
 checked s ended Wrong = Faulty Notation
 checked s ended Deep = Faulty TooDeep
 
 -- a line that declares nothing, by its check; c says whether it is a claim
-unfoldable pub plainRead : State → Bool → Checked → LineRead
+unfoldable pub plainRead : LineState → Bool → LineCheck → LineRead
 plainRead st c (Fine u) =
     Taken (record { used = u; names = st .names; tests = st .tests; relations = st .relations; lets = st .lets; claimed = st .claimed || c })
 plainRead st c (Faulty w) = Refused w
@@ -54,7 +59,7 @@ unfoldable pub wholeLine : Bool → Found Line → Found Line
 wholeLine ended x = andThen x (λ l us. elim (atEnd us && ended) [ true ↦ got l [] | false ↦ wrong ])
 
 -- the line is taken after those of q, with the fate that is given for it
-pub record Takes (fate : ℕ → Result Line) (q : Query) (next : State) (most : ℕ) (before names out : List ℕ) : Type 0 where
+pub record Takes (fate : ℕ → Result Line) (q : Query) (next : LineState) (most : ℕ) (before names out : List ℕ) : Type 0 where
   pub line : Line
   pub fated : (n : ℕ) → fate n ≡ ok line
   pub after : After (q ++ (line ∷ [])) next before out
@@ -67,7 +72,7 @@ KindSays fate q most before names out (Taken next) = Takes fate q next most befo
 KindSays fate q most before names out (Refused c) = (n : ℕ) → fate n ≡ refuse (causeOf c) n
 
 -- what stands from `at` on is a line as D reads it, after the lines of every query whose state, table and codes these are
-abbrev pub KindOutcome : (List Piece → Found Line) → List ℕ → ℕ → Bool → State → List ℕ → List ℕ → LineRead → List ℕ → List ℕ → Type 0
+abbrev pub KindOutcome : (List Piece → Found Line) → List ℕ → ℕ → Bool → LineState → List ℕ → List ℕ → LineRead → List ℕ → List ℕ → Type 0
 KindOutcome D s at ended st names out r namesAfter outAfter =
     (q : Query) (before : List ℕ) → After q st before out → Tabled names (st .names) q
     → KindSays (λ n. readLine q n (wholeLine ended (D (tokens (drop at s))))) q (st .used + (length s - at) + 1) before namesAfter outAfter r

@@ -53,8 +53,8 @@ element-write-out c =
     let w = scanned _ _ (b .before .before .token-at .ensures) (b .t .given .1) in
     omega (arith, w .after, w .within, d .before .pre)
 
-add-t14 : tie.Need-add-t14
-add-t14 c = omega arith
+add-t15 : tie.Need-add-t15
+add-t15 c = omega arith
 
 slip-of-requires : tie.Need-slip-of-requires
 slip-of-requires c κs = tt
@@ -85,7 +85,7 @@ named-spec =
     find-requires
     mul-out
     element-write-out
-    add-t14
+    add-t15
     slip-of-requires
     first-slip-requires
     returns-3)

@@ -1,7 +1,7 @@
 -- `read_next::clear_codes` meets its contract: the memory for codes has 4,096 words.
 -- Assumes nothing.
 use mathlib.Core.Path.{ap, _∙_}
-use Rattle.words.specs.Memory.{zeros}
+use Rattle.memory.specs.Memory.{zeros}
 use borrow.Author.Needs.{needs}
 use Rattle.read_next.proofs.clear_codes.Statement.{statement}
 use Rattle.read_next.proofs.clear_codes.Tie as tie

@@ -37,8 +37,8 @@ element-write-out c =
     let w = scanned _ _ (b .before .before .token-at .ensures) (b .t .given .1) in
     omega (arith, w .after, w .within, d .before .pre)
 
-add-t14 : tie.Need-add-t14
-add-t14 c = omega arith
+add-t15 : tie.Need-add-t15
+add-t15 c = omega arith
 
 returns-2 : tie.Need-returns-2
 returns-2 c =
@@ -66,8 +66,8 @@ element-write-out-2 c =
     let w = scanned _ _ (d .before .token-at .ensures) (b .before .before .before .t .given .1) in
     omega (arith, w .after, w .within, e .pre)
 
-add-t19 : tie.Need-add-t19
-add-t19 c = omega arith
+add-t20 : tie.Need-add-t20
+add-t20 c = omega arith
 
 returns-3 : tie.Need-returns-3
 returns-3 c =
@@ -116,8 +116,8 @@ element-write-out-3 c =
     let w = scanned _ _ (e .token-at .ensures) (d .before .before .t .given .1) in
     omega (arith, w .after, w .within, e .before .before .before .pre)
 
-add-t25 : tie.Need-add-t25
-add-t25 c = omega arith
+add-t26 : tie.Need-add-t26
+add-t26 c = omega arith
 
 slip-of-requires : tie.Need-slip-of-requires
 slip-of-requires c κs = tt
@@ -150,13 +150,13 @@ word-spec =
     same-key-requires
     mul-out
     element-write-out
-    add-t14
+    add-t15
     returns-2
     word-key-requires-2
     same-key-requires-2
     mul-out-2
     element-write-out-2
-    add-t19
+    add-t20
     returns-3
     reserved-requires
     wrong-requires-2
@@ -164,7 +164,7 @@ word-spec =
     find-requires
     mul-out-3
     element-write-out-3
-    add-t25
+    add-t26
     slip-of-requires
     first-slip-requires
     returns-5)

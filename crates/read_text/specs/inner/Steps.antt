@@ -9,9 +9,9 @@ use lib.Dec.{eqb}
 use lib.ListN.{length, drop}
 use Rattle.claims.specs.Query.{Query, tests, relations}
 use Rattle.claims.specs.Refusals.{Result, ok, refused}
-use Rattle.words.specs.Memory.{zeros}
+use Rattle.memory.specs.Memory.{zeros}
 use Rattle.codes.specs.Codes.{queryCodes, claimKind}
-use Rattle.read_declarations.specs.declared.State.{State}
+use Rattle.read_declarations.specs.declared.LineState.{LineState}
 use Rattle.read_text.specs.declared.Summary.{Summary}
 
 -- a byte that ends no line
@@ -29,6 +29,6 @@ Written (ok q) before out = out ≡ queryCodes q ++ drop (length (queryCodes q))
 Written (refused r) before out = out ≡ zeros 4096
 
 -- what the reader's state says after so many lines with these codes
-unfoldable pub known : State → ℕ → List ℕ → Summary
+unfoldable pub known : LineState → ℕ → List ℕ → Summary
 known st n ks =
     record { codes = st .used; lines = n; tests = st .tests; relations = st .relations; kind = claimKind ks }

@@ -5,7 +5,7 @@ use Prim.Native.Nat.{_-_, _≤_}
 use native.Mathlib.Omega.{arith}
 use mathlib.Core.Path.{_≡_, sym, _∙_}
 use lib.ListN.{length, length-set}
-use Rattle.words.specs.Memory.{changed}
+use Rattle.memory.specs.Memory.{changed}
 use Rattle.rows.specs.Rows.{joinedWhere}
 use Rattle.rows.proofs.Rounds.{merge, where-begin, where-more, where-end}
 use borrow.Author.Needs.{needs}

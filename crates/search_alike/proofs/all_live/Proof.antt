@@ -2,7 +2,7 @@
 -- Assumes nothing.
 use native.Mathlib.Omega.{arith}
 use mathlib.Core.Path.{_∙_, ap}
-use Rattle.words.specs.Memory.{words}
+use Rattle.memory.specs.Memory.{words}
 use borrow.Author.Needs.{needs}
 use Rattle.search_alike.proofs.all_live.Statement.{statement}
 use Rattle.search_alike.proofs.all_live.Tie as tie

@@ -5,8 +5,8 @@ use native.Mathlib.Omega.{arith}
 use mathlib.Core.Path.{_≡_, refl, sym, _∙_}
 use borrow.Author.Needs.{needs}
 use lib.ListN.{length, length-set}
-use Rattle.words.specs.Memory.{words, changed}
-use Rattle.words.proofs.Words.{fill-begin, fill-more, fill-end}
+use Rattle.memory.specs.Memory.{words, changed}
+use Rattle.memory.proofs.Words.{fill-begin, fill-more, fill-end}
 use Rattle.search_alike.proofs.fill_live.Statement.{statement}
 use Rattle.search_alike.proofs.fill_live.Tie as tie
 

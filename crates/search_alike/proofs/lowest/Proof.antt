@@ -12,7 +12,7 @@ use Rattle.kat.specs.Lists.{some}
 use Rattle.bits.specs.Sets.{members}
 use Rattle.bits.proofs.Lowest.{Lowest, lowest as lowest-member}
 use Rattle.bits.proofs.Walk.{some-end, some-hit, some-miss}
-use Rattle.search_atoms.specs.Masks.{alikeWords, lowestWords}
+use Rattle.search_alike.specs.Masks.{alikeWords, lowestWords}
 use Rattle.search_alike.proofs.lowest.Statement.{statement}
 use Rattle.search_alike.proofs.lowest.Tie as tie
 

@@ -5,7 +5,7 @@ use mathlib.Core.Path.{_∙_, sym, ap}
 use mathlib.Core.Bool.{cond}
 use borrow.Author.Needs.{needs}
 use borrow.Author.Tests.{lt-ltb, le-ltb}
-use Rattle.search_atoms.specs.Masks.{maskOf, maskAt}
+use Rattle.search_alike.specs.Masks.{maskOf, maskAt}
 use Rattle.search_alike.proofs.mask_at.Statement.{statement}
 use Rattle.search_alike.proofs.mask_at.Tie as tie
 

@@ -1,6 +1,8 @@
+-- `search_candidates::complete` meets its contract, by whether the standing completes a word and whether it is the last of its level.
+-- Assumes nothing.
 use Rattle.search_candidates.proofs.OneStanding.{completes-word, level-grows, next-standing}
-use Rattle.search_words.specs.First.{firstOr}
-use Rattle.search_words.specs.Systems.{finalsWords}
+use Rattle.search_standings.specs.First.{firstOr}
+use Rattle.search_standings.specs.Systems.{finalsWords}
 use native.Mathlib.Omega.{arith}
 use mathlib.Core.Path.{refl, _∙_, ap}
 use borrow.Author.Needs.{needs}
@@ -15,7 +17,7 @@ first-final-requires c κs = search needs
 
 returns : tie.Need-returns
 returns c = let a = c .before .before .before .before .before .before .args in (
-  (refl, refl, refl),
+  refl,
   λ first later cap r e z at.
       completes-word (a .k) (a .left .now) (a .right .now) first later cap (a .t) r (a .words .now) at z (c .before .first-final .result)
       (c .before .first-final .ensures
@@ -29,7 +31,7 @@ add-u c = search needs
 returns-2 : tie.Need-returns-2
 returns-2 c = let b = c .before .before .before .before in
     let a = b .before .before .before .before .before .args in (
-      (refl, refl, refl),
+      refl,
       λ first later cap r e z at.
           level-grows (a .k) (a .left .now) (a .right .now) first later cap (a .t) r (a .words .now) at z (b .first-final .result)
           (b .first-final .ensures
@@ -46,7 +48,7 @@ add-u-3 c = search needs
 returns-3 : tie.Need-returns-3
 returns-3 c = let b = c .before .before .before .before .before in
     let a = b .before .before .before .before .before .args in (
-      (refl, refl, refl),
+      refl,
       λ first later cap r e z at.
           next-standing (a .k) (a .left .now) (a .right .now) first later cap (a .t) r (a .words .now) at z (b .first-final .result)
           (b .first-final .ensures

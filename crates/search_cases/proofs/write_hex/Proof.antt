@@ -7,16 +7,13 @@ use Rattle.search_cases.proofs.write_hex.Statement.{statement}
 use Rattle.search_cases.proofs.write_hex.Tie as tie
 
 abbrev Inv-loop : tie.InvT-loop
-Inv-loop buffer n i₀ t4 i = i ≤ length buffer
+Inv-loop bytes i₀ t3 i = i ≤ length bytes
 
 abbrev μ-loop : tie.MeasureT-loop
-μ-loop buffer n i₀ t4 i = n - i
+μ-loop bytes i₀ t3 i = length bytes - i
 
 loop-holds : tie.Need-loop-holds Inv-loop μ-loop
 loop-holds c = search needs
-
-returns : tie.Need-returns Inv-loop μ-loop
-returns c = search needs
 
 shared-slice-read-wide : tie.Need-shared-slice-read-wide Inv-loop μ-loop
 shared-slice-read-wide c = search needs
@@ -42,8 +39,8 @@ slice-aggregate-write-all c = search needs
 write-all-requires : tie.Need-write-all-requires Inv-loop μ-loop
 write-all-requires c κs = search needs
 
-returns-2 : tie.Need-returns-2 Inv-loop μ-loop
-returns-2 c = search needs
+returns : tie.Need-returns Inv-loop μ-loop
+returns c = search needs
 
 pub write-hex-spec : {M : Type 1} → statement M
 write-hex-spec =
@@ -52,7 +49,6 @@ write-hex-spec =
     Inv-loop
     μ-loop
     loop-holds
-    returns
     shared-slice-read-wide
     wide-requires
     print-hex-requires
@@ -61,4 +57,4 @@ write-hex-spec =
     loop-again
     slice-aggregate-write-all
     write-all-requires
-    returns-2)
+    returns)

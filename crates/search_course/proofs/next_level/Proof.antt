@@ -1,3 +1,5 @@
+-- `search_course::next_level` meets its contract: the allowance is spent, nothing is left, or the level begins.
+-- Assumes nothing.
 use Rattle.search_course.proofs.Phases.{ends-level, completes-level, level-spent, level-proved, level-completes}
 use mathlib.Core.Path.{refl}
 use native.Mathlib.Omega.{arith}
@@ -7,7 +9,7 @@ use Rattle.search_course.proofs.next_level.Tie as tie
 
 returns : tie.Need-returns
 returns c = let a = c .before .before .args in (
-  (refl, refl, refl),
+  refl,
   (
     ends-level _ _ (omega arith),
     λ k left right first later r w ready low on. level-spent k left right first later (a .cap) (a .t) r w ready low on (c .if1 .taken),
@@ -16,7 +18,7 @@ returns c = let a = c .before .before .args in (
 
 returns-2 : tie.Need-returns-2
 returns-2 c = let a = c .before .before .before .before .args in (
-  (refl, refl, refl),
+  refl,
   (
     ends-level _ _ (omega arith),
     λ k left right first later r w ready low on.
@@ -29,7 +31,7 @@ add-u c = search needs
 
 returns-3 : tie.Need-returns-3
 returns-3 c = let a = c .before .before .before .before .before .args in (
-  (refl, refl, refl),
+  refl,
   (
     completes-level _ refl,
     λ k left right first later r w ready low on.

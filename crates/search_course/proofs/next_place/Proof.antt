@@ -1,3 +1,5 @@
+-- `search_course::next_place` meets its contract: the level is over, or its next standing follows.
+-- Assumes nothing.
 use Rattle.search_course.proofs.Phases.{level-over, standing-on}
 use mathlib.Core.Path.{refl}
 use borrow.Author.Needs.{needs}
@@ -21,7 +23,7 @@ add-u c = search needs
 
 returns-2 : tie.Need-returns-2
 returns-2 c = let a = c .before .before .before .args in (
-  (refl, refl, refl),
+  refl,
   λ k left right first later r w same tries none at.
       standing-on k left right first later (a .cap) (a .t) r w at none tries (c .before .if1 .left) (c .before .before .before .pre .1) (a .live) same (search needs),
 )

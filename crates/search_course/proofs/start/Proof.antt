@@ -1,3 +1,5 @@
+-- `search_course::start` meets its contract: a single atom refutes, or the letters behind the empty prefix are left.
+-- Assumes nothing.
 use Rattle.search_course.proofs.FirstTurn.{atom-refutes, letters-first}
 use mathlib.Core.Path.{refl}
 use borrow.Author.Needs.{needs}

@@ -3,7 +3,7 @@
 use mathlib.Core.Path.{refl, sym, _∙_, ap, ap₂}
 use mathlib.Core.Bool.{cond, not, _&&_}
 use lib.ListN.{getD, take}
-use Rattle.search_words.specs.RingWords.{ringCovered}
+use Rattle.search_standings.specs.RingWords.{ringCovered}
 use Rattle.search_cover.proofs.Finals as finals
 use borrow.Author.Needs.{needs}
 use Rattle.search_cover.proofs.first_final.Statement.{statement}

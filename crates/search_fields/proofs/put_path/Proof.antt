@@ -14,17 +14,17 @@ use Rattle.search_fields.proofs.put_path.Tie as tie
 put-header-requires : tie.Need-put-header-requires
 put-header-requires c κs = search needs
 
-element-copy-out-put-number : tie.Need-element-copy-out-put-number
-element-copy-out-put-number c = search needs
+element-copy-out-put-big-endian : tie.Need-element-copy-out-put-big-endian
+element-copy-out-put-big-endian c = search needs
 
-put-number-requires : tie.Need-put-number-requires
-put-number-requires c κs = search needs
+put-big-endian-requires : tie.Need-put-big-endian-requires
+put-big-endian-requires c κs = search needs
 
-element-copy-out-put-number-2 : tie.Need-element-copy-out-put-number-2
-element-copy-out-put-number-2 c = search needs
+element-copy-out-put-big-endian-2 : tie.Need-element-copy-out-put-big-endian-2
+element-copy-out-put-big-endian-2 c = search needs
 
-put-number-requires-2 : tie.Need-put-number-requires-2
-put-number-requires-2 c κs = search needs
+put-big-endian-requires-2 : tie.Need-put-big-endian-requires-2
+put-big-endian-requires-2 c κs = search needs
 
 same-length : tie.Need-same-length
 same-length c = search needs
@@ -33,8 +33,8 @@ returns : tie.Need-returns
 returns c =
     let a = c .before .before .before .before .before .before .before .before .before .before .before .before .before .before .before .args in
     let header = c .before .before .before .before .before .before .before .before .before .before .before .before .put-header in
-    let first = c .before .before .before .before .before .before .before .put-number in
-    let second = c .before .before .put-number2 in
+    let first = c .before .before .before .before .before .before .before .put-big-endian in
+    let second = c .before .before .put-big-endian2 in
     let w = getD (a .s .now) 0 0 in
     let v = getD (a .s .now) 1 0 in
     let h = laid-header 3 16 (header .result) (a .out .now) (header .last .0) (header .ensures) in
@@ -47,9 +47,9 @@ put-path-spec =
     tie.close
     (tie.spec
     put-header-requires
-    element-copy-out-put-number
-    put-number-requires
-    element-copy-out-put-number-2
-    put-number-requires-2
+    element-copy-out-put-big-endian
+    put-big-endian-requires
+    element-copy-out-put-big-endian-2
+    put-big-endian-requires-2
     same-length
     returns)

@@ -16,23 +16,23 @@ use Rattle.search_fields.proofs.put_ring.Tie as tie
 put-header-requires : tie.Need-put-header-requires
 put-header-requires c κs = search needs
 
-element-copy-out-put-number : tie.Need-element-copy-out-put-number
-element-copy-out-put-number c = search needs
+element-copy-out-put-big-endian : tie.Need-element-copy-out-put-big-endian
+element-copy-out-put-big-endian c = search needs
 
-put-number-requires : tie.Need-put-number-requires
-put-number-requires c κs = search needs
+put-big-endian-requires : tie.Need-put-big-endian-requires
+put-big-endian-requires c κs = search needs
 
-element-copy-out-put-number-2 : tie.Need-element-copy-out-put-number-2
-element-copy-out-put-number-2 c = search needs
+element-copy-out-put-big-endian-2 : tie.Need-element-copy-out-put-big-endian-2
+element-copy-out-put-big-endian-2 c = search needs
 
-put-number-requires-2 : tie.Need-put-number-requires-2
-put-number-requires-2 c κs = search needs
+put-big-endian-requires-2 : tie.Need-put-big-endian-requires-2
+put-big-endian-requires-2 c κs = search needs
 
-element-copy-out-put-number-3 : tie.Need-element-copy-out-put-number-3
-element-copy-out-put-number-3 c = search needs
+element-copy-out-put-big-endian-3 : tie.Need-element-copy-out-put-big-endian-3
+element-copy-out-put-big-endian-3 c = search needs
 
-put-number-requires-3 : tie.Need-put-number-requires-3
-put-number-requires-3 c κs = search needs
+put-big-endian-requires-3 : tie.Need-put-big-endian-requires-3
+put-big-endian-requires-3 c κs = search needs
 
 put-rows-requires : tie.Need-put-rows-requires
 put-rows-requires c κs = search needs
@@ -47,9 +47,9 @@ returns : tie.Need-returns
 returns c =
     let a = c .before .before .before .before .before .before .before .before .before .before .before .before .before .before .before .before .before .before .before .before .before .before .before .before .before .before .before .before .args in
     let header = c .before .before .before .before .before .before .before .before .before .before .before .before .before .before .before .before .before .before .before .before .before .before .before .before .before .put-header in
-    let first = c .before .before .before .before .before .before .before .before .before .before .before .before .before .before .before .before .before .before .before .before .put-number in
-    let flag = c .before .before .before .before .before .before .before .before .before .before .before .before .before .before .before .put-number2 in
-    let left = c .before .before .before .before .before .before .before .before .before .before .put-number3 in
+    let first = c .before .before .before .before .before .before .before .before .before .before .before .before .before .before .before .before .before .before .before .before .put-big-endian in
+    let flag = c .before .before .before .before .before .before .before .before .before .before .before .before .before .before .before .put-big-endian2 in
+    let left = c .before .before .before .before .before .before .before .before .before .before .put-big-endian3 in
     let below = c .before .before .before .before .before .before .put-rows in
     let above = c .before .before .put-rows2 in
     let w = getD (a .s .now) 32 0 in
@@ -68,12 +68,12 @@ put-ring-spec =
     tie.close
     (tie.spec
     put-header-requires
-    element-copy-out-put-number
-    put-number-requires
-    element-copy-out-put-number-2
-    put-number-requires-2
-    element-copy-out-put-number-3
-    put-number-requires-3
+    element-copy-out-put-big-endian
+    put-big-endian-requires
+    element-copy-out-put-big-endian-2
+    put-big-endian-requires-2
+    element-copy-out-put-big-endian-3
+    put-big-endian-requires-3
     put-rows-requires
     put-rows-requires-2
     same-length

@@ -1,3 +1,5 @@
+-- `search_grow::behind` meets its contract, by whether the place is that of the empty prefix.
+-- Assumes nothing.
 use Rattle.search_grow.proofs.OneLetter.{behind-nothing, behind-standing}
 use native.Mathlib.Omega.{arith}
 use borrow.Author.Needs.{needs}

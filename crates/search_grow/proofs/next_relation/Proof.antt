@@ -1,9 +1,11 @@
+-- `search_grow::next_relation` meets its contract: the relations that are passed over are not tried with the atom.
+-- Assumes nothing.
 use mathlib.Core.Path.{_≡_, refl, sym, _∙_, ap}
 use Rattle.search_grow.proofs.Letters.{relation-skip}
 use Rattle.search_grow.specs.Masks.{relationsLeft, tried}
 use borrow.Author.Needs.{needs}
 use native.Mathlib.Omega.{arith}
-use Prim.Native.Nat.{ℕ, _-_, _≤_, _<_}
+use Prim.Native.Nat.{_-_, _≤_}
 use Rattle.search_grow.proofs.next_relation.Statement.{statement}
 use Rattle.search_grow.proofs.next_relation.Tie as tie
 

@@ -1,13 +1,15 @@
+-- `search_grow::note` meets its contract, by what becomes of the candidate.
+-- Assumes nothing.
 use Rattle.search_grow.proofs.Noting.{first-word, by-ring, ring-place, ring-records, ring-room, inside-appended, note-impossible, note-spent, note-found, note-over, note-kept}
 use Rattle.search_grow.proofs.Adding.{inside-none, inside-count}
 use Rattle.search_grow.specs.Kept.{state, Noted}
-use Rattle.search_places.specs.Store.{standingIn}
-use Rattle.search_words.specs.declared.Shape.{Shape}
+use Rattle.search_store.specs.Store.{standingIn}
+use Rattle.search_standings.specs.declared.Shape.{Shape}
 use mathlib.Core.List.{List}
 use mathlib.Core.Bool.{true}
-use mathlib.Core.Path.{_≡_, refl, sym, _∙_}
+use mathlib.Core.Path.{refl, sym, _∙_}
 use native.Mathlib.Omega.{arith}
-use Prim.Native.Nat.{ℕ, _+_, _*_, _≤_}
+use Prim.Native.Nat.{ℕ, _+_}
 use borrow.Author.Needs.{needs}
 use Rattle.search_grow.proofs.note.Statement.{statement}
 use Rattle.search_grow.proofs.note.Tie as tie

@@ -1,9 +1,11 @@
-use Rattle.search_grow.proofs.Letters.{letters-none, letters-same, letters-next, weight-more, weight-next}
+-- `search_grow::seek` meets its contract: the letters that are passed over are not tried.
+-- Assumes nothing.
+use Rattle.search_grow.proofs.Letters.{letters-same, letters-next, weight-more, weight-next}
 use Rattle.search_grow.specs.Masks.{lettersLeft, letterWeight}
 use Rattle.bits.proofs.Lowest.{lowest}
 use borrow.Author.Needs.{needs}
 use lib.Count.{ones, trailing-le}
-use mathlib.Core.Path.{_≡_, refl, sym, _∙_}
+use mathlib.Core.Path.{_≡_, refl, _∙_}
 use native.Mathlib.Omega.{arith}
 use Prim.Native.Nat.{_≤_, _<_, _^_}
 use Rattle.search_grow.proofs.seek.Statement.{statement}

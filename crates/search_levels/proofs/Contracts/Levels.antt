@@ -11,11 +11,11 @@ use mathlib.Core.List.{List, [], _∷_}
 use mathlib.Core.Path.{refl}
 use mir.Syntax.{w64}
 use Rattle.derivations.proofs.Plain as Plain
-use Rattle.search_course.proofs.Answer.Laws as Answer′
-use Rattle.search_words.proofs.Shape.Laws as Shape′
-use Rattle.search_course.proofs.Answer
+use Rattle.search_course.proofs.Finding.Laws as Finding′
+use Rattle.search_standings.proofs.Shape.Laws as Shape′
+use Rattle.search_course.proofs.Finding
 use Rattle.search_records.proofs.Record
-use Rattle.search_words.proofs.Shape
+use Rattle.search_standings.proofs.Shape
 use Rattle.search_levels.proofs.levels as fn
 use Rattle.search_levels.proofs.levels.Symbol as symbol
 
@@ -23,7 +23,7 @@ abbrev pub ps : List (PK 6)
 ps = (pStruct Shape.the-type Shape′.the-laws Shape′.the-copy Shape′.the-plain) ∷ (pNum w64) ∷ (pShr (Array (rtF (fInt w64)) 4241) 0 tt) ∷ (pShr (Array (rtF (fInt w64)) 4241) 1 tt) ∷ (pShr (Array (rtF (fInt w64)) 16) 2 tt) ∷ (pShr (Array (rtF (fInt w64)) 16) 3 tt) ∷ (pMutS Record.the-row 4 tt) ∷ (pMutS (rtF (fInt w64)) 5 tt) ∷ []
 
 abbrev pub r : RK 6
-r = rEnum Answer.the-type Answer′.the-laws Answer′.the-copy Answer′.the-plain tt
+r = rEnum Finding.the-type Finding′.the-laws Finding′.the-copy Finding′.the-plain tt
 
 abbrev pub req : Plain.Reqs 6 ps r
 req κs a g w = fn.clauses (w .𝓤) (w .H) (w .𝓖 .A) (w .𝓜 .mem) (w .𝓡 .run) κs a .requires g

@@ -12,10 +12,10 @@ use mathlib.Core.Path.{refl}
 use mir.Syntax.{w64}
 use Rattle.derivations.proofs.Plain as Plain
 use Rattle.search_course.proofs.Course.Laws as Course′
-use Rattle.search_words.proofs.Shape.Laws as Shape′
+use Rattle.search_standings.proofs.Shape.Laws as Shape′
 use Rattle.search_course.proofs.Course
 use Rattle.search_records.proofs.Record
-use Rattle.search_words.proofs.Shape
+use Rattle.search_standings.proofs.Shape
 use Rattle.search_levels.proofs.turn as fn
 use Rattle.search_levels.proofs.turn.Symbol as symbol
 

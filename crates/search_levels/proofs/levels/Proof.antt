@@ -30,10 +30,10 @@ use Rattle.search_course.proofs.start.Symbol as start-Symbol
 use Rattle.search_levels.proofs.turn.Met as turn-Met
 use Rattle.search_levels.proofs.turn.Symbol as turn-Symbol
 use Rattle.search_levels.proofs.Contracts.Turn as Turn
-use Rattle.search_course.proofs.answer_of.Kinds as answer-of-Kinds
-use Rattle.search_course.proofs.answer_of.Met as answer-of-Met
-use Rattle.search_course.proofs.answer_of.Reads as answer-of-Reads
-use Rattle.search_course.proofs.answer_of.Symbol as answer-of-Symbol
+use Rattle.search_course.proofs.finding_of.Kinds as finding-of-Kinds
+use Rattle.search_course.proofs.finding_of.Met as finding-of-Met
+use Rattle.search_course.proofs.finding_of.Reads as finding-of-Reads
+use Rattle.search_course.proofs.finding_of.Symbol as finding-of-Symbol
 use Rattle.search_levels.proofs.levels.Code as code
 use Rattle.search_levels.proofs.levels.Proof.Steps.{xs, d}
 use Rattle.search_levels.proofs.levels.Statement as stated
@@ -43,8 +43,8 @@ mod Steps
 module _ {M : Type 1} (𝓤 : URA M) (H : Heap 𝓤) (A : Atoms 𝓤) (W : Given 𝓤 H A) (𝓣 : Tables 𝓤 H)
     (start : Known 𝓤 H A W 𝓣 2 start-Kinds.ps start-Kinds.r start-Reads.Asked start-Reads.Learnt start-Symbol.name)
     (turn : Plain.Knows Turn.spec 𝓤 H A W 𝓣)
-    (answer-of : Known 𝓤 H A W 𝓣 0 answer-of-Kinds.ps answer-of-Kinds.r answer-of-Reads.Asked answer-of-Reads.Learnt answer-of-Symbol.name) where
-  asked : (κs : Lfts 6) (qs : Shares 6) (a : Dens κs ps) → GoodsP κs ps a → Plain.Pre spec κs a → (bs : List ℕ) → d 𝓤 H A W 𝓣 κs qs bs start turn answer-of .Φ (wantQ 6 ps r xs 2 κs qs a (Plain.Post spec κs a)) (init 6 ps r xs 2 κs qs a)
+    (finding-of : Known 𝓤 H A W 𝓣 0 finding-of-Kinds.ps finding-of-Kinds.r finding-of-Reads.Asked finding-of-Reads.Learnt finding-of-Symbol.name) where
+  asked : (κs : Lfts 6) (qs : Shares 6) (a : Dens κs ps) → GoodsP κs ps a → Plain.Pre spec κs a → (bs : List ℕ) → d 𝓤 H A W 𝓣 κs qs bs start turn finding-of .Φ (wantQ 6 ps r xs 2 κs qs a (Plain.Post spec κs a)) (init 6 ps r xs 2 κs qs a)
   asked κs qs a good pre bs = (
     λ κ. tt,
     λ start. (
@@ -90,7 +90,7 @@ module _ {M : Type 1} (𝓤 : URA M) (H : Heap 𝓤) (A : Atoms 𝓤) (W : Given
   )
 
   triple : Triple 𝓤 (WpFn 𝓤 H (𝓣 .C) (𝓣 .Λ) code.function) (plainOf 𝓤 H A 6 ps r (Plain.Pre spec) (Plain.Post spec))
-  triple = t-fn-plain 𝓤 H A W 𝓣 6 ps r xs 2 (homesOf (code.function .locals)) (code.function .body) (λ κs qs bs. d 𝓤 H A W 𝓣 κs qs bs start turn answer-of .Φ) (λ κs qs bs bd. d 𝓤 H A W 𝓣 κs qs bs start turn answer-of .typed) (Plain.Pre spec) (Plain.Post spec) asked
+  triple = t-fn-plain 𝓤 H A W 𝓣 6 ps r xs 2 (homesOf (code.function .locals)) (code.function .body) (λ κs qs bs. d 𝓤 H A W 𝓣 κs qs bs start turn finding-of .Φ) (λ κs qs bs bd. d 𝓤 H A W 𝓣 κs qs bs start turn finding-of .typed) (Plain.Pre spec) (Plain.Post spec) asked
 
 pub levels-spec : {M : Type 1} → stated.statement M
 unfolding code.routine tablesOf
@@ -100,4 +100,4 @@ levels-spec {M} 𝓤 H 𝓜 𝓖 𝓡 =
     (triple 𝓤 H (𝓖 .A) (givenOf 𝓤 H 𝓜 𝓖) (Over 𝓤 H 𝓜 𝓖 𝓡 code.env)
     (start-Reads.known w code.env start-Symbol.name start-Symbol.routine code.calls-search-course·start (start-Met.met 𝓤 H 𝓜 𝓖 𝓡))
     (Plain.known Turn.spec w code.env turn-Symbol.name turn-Symbol.routine code.calls-search-levels·turn (turn-Met.met 𝓤 H 𝓜 𝓖 𝓡))
-    (answer-of-Reads.known w code.env answer-of-Symbol.name answer-of-Symbol.routine code.calls-search-course·answer-of (answer-of-Met.met 𝓤 H 𝓜 𝓖 𝓡)))
+    (finding-of-Reads.known w code.env finding-of-Symbol.name finding-of-Symbol.routine code.calls-search-course·finding-of (finding-of-Met.met 𝓤 H 𝓜 𝓖 𝓡)))

@@ -11,18 +11,19 @@ use Rattle.kat.specs.Word.{end}
 use Rattle.kat.specs.Ring.{onto}
 use Rattle.claims.specs.Refusals.{spentAllowance, shortBuffer, Result, ok, refused, refuse}
 use Rattle.claims.specs.Calls.{Answer, provedWith, refutedBy, Given}
-use Rattle.search_places.specs.Store.{Room}
+use Rattle.search_store.specs.Store.{Room}
 use Rattle.search_sheet.specs.SheetWords.{Falling, prefixIn, provedSheet, refutedSheet}
-use Rattle.search_course.specs.declared.Answer.{Answer as Found}
-use Rattle.search_course.specs.declared.Answer.the-variants.{Proved, Refuted, Spent}
+use Rattle.search_course.specs.declared.Finding.{Finding as Found}
+use Rattle.search_course.specs.declared.Finding.the-variants.{Proved, Refuted, Spent}
+use Rattle.layout.specs.Layout.{MOST-STANDINGS}
 use Rattle.search_outcomes.specs.declared.Outcome.{Outcome}
-use Rattle.search_outcomes.specs.Outcomes.{Says}
+use Rattle.search_outcomes.specs.Outcomes.{Says, Sized}
 
 module _ (ring : Bool) (r : List (List ℕ)) (w : List ℕ) where
   -- the memory has what was found
   abbrev pub Reportable : Found → Type 0
-  Reportable (Proved n) = Room ring r w n × (n ≤ 4096)
-  Reportable (Refuted place a) = Room ring r w place × Falling ring r w place × (place ≤ 4096)
+  Reportable (Proved n) = Room ring r w n × (n ≤ MOST-STANDINGS)
+  Reportable (Refuted place a) = Room ring r w place × Falling ring r w place × (place ≤ MOST-STANDINGS)
   Reportable Spent = Unit {0}
 
   -- proved with n standings, and the sheet ("Sheet and graph bytes")
@@ -50,6 +51,6 @@ unfoldable pub put : Result Given → List ℕ → List ℕ
 put (refused r) b = b
 put (ok g) b = elim (leb (length (g .sheet)) (length b)) [ false ↦ b | true ↦ g .sheet ++ drop (length (g .sheet)) b ]
 
--- the outcome says what is told, and the buffer is as it is afterwards ("Refusals with an example each")
+-- the outcome says what is told, the buffer is as it is afterwards, and an answer has the bytes of its sheet ("Refusals with an example each")
 abbrev pub Reports : Result Given → List ℕ → Outcome → List ℕ → Type 0
-Reports g b o b′ = Says (told g b) o × (b′ ≡ put g b)
+Reports g b o b′ = Says (told g b) o × (b′ ≡ put g b) × Sized o g

@@ -2,7 +2,7 @@
 -- Assumes nothing.
 use mathlib.Core.Path.{_∙_, ap₂}
 use mathlib.Core.List.{[], _∷_}
-use Rattle.search_words.specs.PathWords.{pathBegin}
+use Rattle.search_standings.specs.PathWords.{pathBegin}
 use borrow.Author.Needs.{needs}
 use Rattle.search_path.proofs.begin.Statement.{statement}
 use Rattle.search_path.proofs.begin.Tie as tie

@@ -9,8 +9,8 @@ use lib.ListN.{getD, take}
 use Rattle.kat.specs.Lists.{filter}
 use Rattle.bits.specs.Sets.{members}
 use Rattle.bits.proofs.Lowest.{Lowest, lowest}
-use Rattle.search_words.specs.PathWords.{pathFinals}
-use Rattle.search_words.specs.First.{firstOr}
+use Rattle.search_standings.specs.PathWords.{pathFinals}
+use Rattle.search_standings.specs.First.{firstOr}
 use Rattle.search_path.proofs.Firsts.{first-end, first-hit, first-miss, refuting, finals-read}
 use borrow.Author.Needs.{needs}
 use Rattle.search_path.proofs.first_final.Statement.{statement}

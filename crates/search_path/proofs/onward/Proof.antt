@@ -3,7 +3,7 @@
 use mathlib.Core.Path.{sym, _∙_, ap, ap₂}
 use mathlib.Core.List.{[], _∷_}
 use Rattle.standings.specs.Steps.{stepSet}
-use Rattle.search_words.specs.PathWords.{pathOnward}
+use Rattle.search_standings.specs.PathWords.{pathOnward}
 use Rattle.search_path.proofs.Two.{first-read, second-read}
 use borrow.Author.Needs.{needs}
 use Rattle.search_path.proofs.onward.Statement.{statement}

@@ -6,8 +6,8 @@ use mathlib.Core.Path.{_≡_, _∙_, ap}
 use lib.ListN.{length}
 use Rattle.kat.specs.Lists.{upto}
 use Rattle.claims.specs.Standings.{Letter}
-use Rattle.search_words.specs.RingWords.{flag}
-use Rattle.search_columns.specs.inner.Columns.{spreadOver}
+use Rattle.search_standings.specs.RingWords.{flag}
+use Rattle.search_ring.specs.inner.Columns.{spreadOver}
 use Rattle.search_ring.proofs.Standing.{begin-laid}
 use borrow.Author.Needs.{needs}
 use Rattle.search_ring.proofs.begin.Statement.{statement}

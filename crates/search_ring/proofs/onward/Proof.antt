@@ -7,8 +7,8 @@ use lib.Dec.{eqb}
 use lib.ListN.{length, getD, take}
 use Rattle.kat.specs.Lists.{upto}
 use Rattle.claims.specs.Standings.{Letter}
-use Rattle.search_words.specs.RingWords.{flag}
-use Rattle.search_columns.specs.inner.Columns.{spreadOver}
+use Rattle.search_standings.specs.RingWords.{flag}
+use Rattle.search_ring.specs.inner.Columns.{spreadOver}
 use Rattle.search_ring.proofs.Standing.{onward-laid}
 use borrow.Author.Needs.{needs}
 use Rattle.search_ring.proofs.onward.Statement.{statement}

@@ -26,10 +26,10 @@ use Rattle.search_run.proofs.Contracts.Decide.{ps, r, spec}
 use Rattle.search_records.proofs.count.Met as count-Met
 use Rattle.search_records.proofs.count.Symbol as count-Symbol
 use Rattle.search_records.proofs.Contracts.Count as Count
-use Rattle.search_memory.proofs.enough.Kinds as enough-Kinds
-use Rattle.search_memory.proofs.enough.Met as enough-Met
-use Rattle.search_memory.proofs.enough.Reads as enough-Reads
-use Rattle.search_memory.proofs.enough.Symbol as enough-Symbol
+use Rattle.search_shape.proofs.enough.Kinds as enough-Kinds
+use Rattle.search_shape.proofs.enough.Met as enough-Met
+use Rattle.search_shape.proofs.enough.Reads as enough-Reads
+use Rattle.search_shape.proofs.enough.Symbol as enough-Symbol
 use Rattle.search_run.proofs.run.Met as run-Met
 use Rattle.search_run.proofs.run.Symbol as run-Symbol
 use Rattle.search_run.proofs.Contracts.Run as Run
@@ -110,5 +110,5 @@ decide-spec {M} 𝓤 H 𝓜 𝓖 𝓡 =
     Plain.close spec w code.env code.function (code.unfolded 𝓤 H 𝓜 𝓡)
     (triple 𝓤 H (𝓖 .A) (givenOf 𝓤 H 𝓜 𝓖) (Over 𝓤 H 𝓜 𝓖 𝓡 code.env)
     (Plain.known Count.spec w code.env count-Symbol.name count-Symbol.routine code.calls-search-records·count (count-Met.met 𝓤 H 𝓜 𝓖 𝓡))
-    (enough-Reads.known w code.env enough-Symbol.name enough-Symbol.routine code.calls-search-memory·enough (enough-Met.met 𝓤 H 𝓜 𝓖 𝓡))
+    (enough-Reads.known w code.env enough-Symbol.name enough-Symbol.routine code.calls-search-shape·enough (enough-Met.met 𝓤 H 𝓜 𝓖 𝓡))
     (Plain.known Run.spec w code.env run-Symbol.name run-Symbol.routine code.calls-search-run·run (run-Met.met 𝓤 H 𝓜 𝓖 𝓡)))

@@ -13,7 +13,7 @@ use denote.Triple.Statement.{Triple}
 use borrow.Fn.Any.{wantQ}
 use borrow.Fn.Function.{init}
 use borrow.Fn.Kinds.{Dens, GoodsP}
-use borrow.Fn.Plain.{Known, plainOf, t-fn-plain}
+use borrow.Fn.Plain.{plainOf, t-fn-plain}
 use borrow.Fn.Run.{Over}
 use borrow.Fn.World.{World}
 use Rattle.derivations.proofs.Derive.{fix, homesOf}

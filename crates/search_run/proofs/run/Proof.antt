@@ -23,35 +23,35 @@ use Rattle.search_run.proofs.OverRecords.{clear-asks, ran}
 use Rattle.derivations.proofs.Derive.{fix, homesOf}
 use Rattle.derivations.proofs.Plain as Plain
 use Rattle.search_run.proofs.Contracts.Run.{ps, r, spec}
-use Rattle.search_tried.proofs.letters_tried.Kinds as letters-tried-Kinds
-use Rattle.search_tried.proofs.letters_tried.Met as letters-tried-Met
-use Rattle.search_tried.proofs.letters_tried.Reads as letters-tried-Reads
-use Rattle.search_tried.proofs.letters_tried.Symbol as letters-tried-Symbol
-use Rattle.search_tried.proofs.shape_of.Kinds as shape-of-Kinds
-use Rattle.search_tried.proofs.shape_of.Met as shape-of-Met
-use Rattle.search_tried.proofs.shape_of.Reads as shape-of-Reads
-use Rattle.search_tried.proofs.shape_of.Symbol as shape-of-Symbol
+use Rattle.search_shape.proofs.letters_tried.Kinds as letters-tried-Kinds
+use Rattle.search_shape.proofs.letters_tried.Met as letters-tried-Met
+use Rattle.search_shape.proofs.letters_tried.Reads as letters-tried-Reads
+use Rattle.search_shape.proofs.letters_tried.Symbol as letters-tried-Symbol
+use Rattle.search_shape.proofs.shape_of.Kinds as shape-of-Kinds
+use Rattle.search_shape.proofs.shape_of.Met as shape-of-Met
+use Rattle.search_shape.proofs.shape_of.Reads as shape-of-Reads
+use Rattle.search_shape.proofs.shape_of.Symbol as shape-of-Symbol
 use Rattle.search_levels.proofs.levels.Met as levels-Met
 use Rattle.search_levels.proofs.levels.Symbol as levels-Symbol
 use Rattle.search_levels.proofs.Contracts.Levels as Levels
-use Rattle.search_report.proofs.report.Met as report-Met
-use Rattle.search_report.proofs.report.Symbol as report-Symbol
-use Rattle.search_report.proofs.Contracts.Report as Report
-use Rattle.search_memory.proofs.records_needed.Kinds as records-needed-Kinds
-use Rattle.search_memory.proofs.records_needed.Met as records-needed-Met
-use Rattle.search_memory.proofs.records_needed.Reads as records-needed-Reads
-use Rattle.search_memory.proofs.records_needed.Symbol as records-needed-Symbol
+use Rattle.search_outcomes.proofs.report.Met as report-Met
+use Rattle.search_outcomes.proofs.report.Symbol as report-Symbol
+use Rattle.search_outcomes.proofs.Contracts.Report as Report
+use Rattle.search_shape.proofs.records_needed.Kinds as records-needed-Kinds
+use Rattle.search_shape.proofs.records_needed.Met as records-needed-Met
+use Rattle.search_shape.proofs.records_needed.Reads as records-needed-Reads
+use Rattle.search_shape.proofs.records_needed.Symbol as records-needed-Symbol
 use Rattle.search_records.proofs.clear.Met as clear-Met
 use Rattle.search_records.proofs.clear.Symbol as clear-Symbol
 use Rattle.search_records.proofs.Contracts.Clear as Clear
-use Rattle.search_memory.proofs.words_needed.Kinds as words-needed-Kinds
-use Rattle.search_memory.proofs.words_needed.Met as words-needed-Met
-use Rattle.search_memory.proofs.words_needed.Reads as words-needed-Reads
-use Rattle.search_memory.proofs.words_needed.Symbol as words-needed-Symbol
-use Rattle.search_memory.proofs.clear_words.Kinds as clear-words-Kinds
-use Rattle.search_memory.proofs.clear_words.Met as clear-words-Met
-use Rattle.search_memory.proofs.clear_words.Reads as clear-words-Reads
-use Rattle.search_memory.proofs.clear_words.Symbol as clear-words-Symbol
+use Rattle.search_shape.proofs.words_needed.Kinds as words-needed-Kinds
+use Rattle.search_shape.proofs.words_needed.Met as words-needed-Met
+use Rattle.search_shape.proofs.words_needed.Reads as words-needed-Reads
+use Rattle.search_shape.proofs.words_needed.Symbol as words-needed-Symbol
+use Rattle.search_shape.proofs.clear_words.Kinds as clear-words-Kinds
+use Rattle.search_shape.proofs.clear_words.Met as clear-words-Met
+use Rattle.search_shape.proofs.clear_words.Reads as clear-words-Reads
+use Rattle.search_shape.proofs.clear_words.Symbol as clear-words-Symbol
 use Rattle.search_run.proofs.run.Code as code
 use Rattle.search_run.proofs.run.Proof.Steps.{xs, d}
 use Rattle.search_run.proofs.run.Statement as stated
@@ -149,11 +149,11 @@ run-spec {M} 𝓤 H 𝓜 𝓖 𝓡 =
     let w : World = record { M = M; 𝓤 = 𝓤; H = H; 𝓜 = 𝓜; 𝓖 = 𝓖; 𝓡 = 𝓡 } in
     Plain.close spec w code.env code.function (code.unfolded 𝓤 H 𝓜 𝓡)
     (triple 𝓤 H (𝓖 .A) (givenOf 𝓤 H 𝓜 𝓖) (Over 𝓤 H 𝓜 𝓖 𝓡 code.env)
-    (letters-tried-Reads.known w code.env letters-tried-Symbol.name letters-tried-Symbol.routine code.calls-search-tried·letters-tried (letters-tried-Met.met 𝓤 H 𝓜 𝓖 𝓡))
-    (shape-of-Reads.known w code.env shape-of-Symbol.name shape-of-Symbol.routine code.calls-search-tried·shape-of (shape-of-Met.met 𝓤 H 𝓜 𝓖 𝓡))
+    (letters-tried-Reads.known w code.env letters-tried-Symbol.name letters-tried-Symbol.routine code.calls-search-shape·letters-tried (letters-tried-Met.met 𝓤 H 𝓜 𝓖 𝓡))
+    (shape-of-Reads.known w code.env shape-of-Symbol.name shape-of-Symbol.routine code.calls-search-shape·shape-of (shape-of-Met.met 𝓤 H 𝓜 𝓖 𝓡))
     (Plain.known Levels.spec w code.env levels-Symbol.name levels-Symbol.routine code.calls-search-levels·levels (levels-Met.met 𝓤 H 𝓜 𝓖 𝓡))
-    (Plain.known Report.spec w code.env report-Symbol.name report-Symbol.routine code.calls-search-report·report (report-Met.met 𝓤 H 𝓜 𝓖 𝓡))
-    (records-needed-Reads.known w code.env records-needed-Symbol.name records-needed-Symbol.routine code.calls-search-memory·records-needed (records-needed-Met.met 𝓤 H 𝓜 𝓖 𝓡))
+    (Plain.known Report.spec w code.env report-Symbol.name report-Symbol.routine code.calls-search-outcomes·report (report-Met.met 𝓤 H 𝓜 𝓖 𝓡))
+    (records-needed-Reads.known w code.env records-needed-Symbol.name records-needed-Symbol.routine code.calls-search-shape·records-needed (records-needed-Met.met 𝓤 H 𝓜 𝓖 𝓡))
     (Plain.known Clear.spec w code.env clear-Symbol.name clear-Symbol.routine code.calls-search-records·clear (clear-Met.met 𝓤 H 𝓜 𝓖 𝓡))
-    (words-needed-Reads.known w code.env words-needed-Symbol.name words-needed-Symbol.routine code.calls-search-memory·words-needed (words-needed-Met.met 𝓤 H 𝓜 𝓖 𝓡))
-    (clear-words-Reads.known w code.env clear-words-Symbol.name clear-words-Symbol.routine code.calls-search-memory·clear-words (clear-words-Met.met 𝓤 H 𝓜 𝓖 𝓡)))
+    (words-needed-Reads.known w code.env words-needed-Symbol.name words-needed-Symbol.routine code.calls-search-shape·words-needed (words-needed-Met.met 𝓤 H 𝓜 𝓖 𝓡))
+    (clear-words-Reads.known w code.env clear-words-Symbol.name clear-words-Symbol.routine code.calls-search-shape·clear-words (clear-words-Met.met 𝓤 H 𝓜 𝓖 𝓡)))

@@ -6,6 +6,7 @@ use mathlib.Core.Path.{_∙_, ap, ap₂}
 use lib.Bits.{bitAnd}
 use Rattle.bits.specs.Sets.{unionRows}
 use Rattle.standings.specs.Steps.{readers, stepSet}
+use Rattle.side_tables.specs.Layout.{TABLE, ROW}
 use Rattle.standings.proofs.Places.{part-clipped}
 use borrow.Author.Needs.{needs}
 use Rattle.search_steps.proofs.step_set.Statement.{statement}
@@ -52,7 +53,7 @@ returns c =
     ap₂ bitAnd
     (c .before .union-rows .ensures
     ∙ ap (λ rows. unionRows rows (a .s))
-    (part-clipped (a .table .now) 4241 (omega arith) (65 * a .a + 1) 64 (b .before .least .result) (b .least2 .result) (omega arith) (omega arith)))
+    (part-clipped (a .table .now) TABLE (omega arith) (ROW * a .a + 1) 64 (b .before .least .result) (b .least2 .result) (omega arith) (omega arith)))
     (c .word-behind .ensures)
 
 pub step-set-spec : {M : Type 1} → statement M

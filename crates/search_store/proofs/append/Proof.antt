@@ -4,7 +4,7 @@ use native.Mathlib.Omega.{arith}
 use mathlib.Core.Path.{refl}
 use mathlib.Core.Bool.{true}
 use lib.ListN.{length-set}
-use Rattle.search_places.proofs.Standing.{words-ring}
+use Rattle.search_store.proofs.Standing.{words-ring}
 use borrow.Author.Needs.{needs}
 use Rattle.search_store.proofs.append.Statement.{statement}
 use Rattle.search_store.proofs.append.Tie as tie

@@ -5,8 +5,8 @@ use native.Mathlib.Omega.{arith}
 use mathlib.Core.Path.{_≡_}
 use mathlib.Core.Bool.{true}
 use mathlib.Core.List.{[]}
-use Rattle.search_places.specs.Store.{standingAt, standingIn}
-use Rattle.search_places.proofs.Standing.{found-here, found-none, none-below, ring-equal, ring-agree}
+use Rattle.search_store.specs.Store.{standingAt, standingIn}
+use Rattle.search_store.proofs.Standing.{found-here, found-none, none-below, ring-equal, ring-agree}
 use Rattle.search_store.proofs.find.Statement.{statement}
 use Rattle.search_store.proofs.find.Tie as tie
 

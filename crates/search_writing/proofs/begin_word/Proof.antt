@@ -10,8 +10,8 @@ use Rattle.search_writing.proofs.begin_word.Tie as tie
 sub-from : tie.Need-sub-from
 sub-from c = search needs
 
-put-number-requires : tie.Need-put-number-requires
-put-number-requires c κs = search needs
+put-big-endian-requires : tie.Need-put-big-endian-requires
+put-big-endian-requires c κs = search needs
 
 sub-end-word : tie.Need-sub-end-word
 sub-end-word c = search needs
@@ -33,7 +33,7 @@ same-length-2 c = search needs
 
 returns : tie.Need-returns
 returns c =
-    let put = c .before .before .before .before .before .before .before .before .before .put-number .ensures .1 in
+    let put = c .before .before .before .before .before .before .before .before .before .put-big-endian .ensures .1 in
     let alone = c .before .before .before .before .before .before .if1 .taken in
     λ ring r w room falls. atom-alone ring r w _ _ _ _ _ _ _ (omega arith) put _ _ refl alone (c .before .before .end-word .ensures)
 
@@ -48,7 +48,7 @@ same-length-3 c = search needs
 
 returns-2 : tie.Need-returns-2
 returns-2 c =
-    let put = c .before .before .before .before .put-number .ensures .1 in
+    let put = c .before .before .before .before .put-big-endian .ensures .1 in
     λ ring r w room falls.
     letters-begun ring r w _ _ _ _ _ _ _ (omega arith) put room falls (omega arith) (omega arith) (c .looking .ensures)
 
@@ -57,7 +57,7 @@ begin-word-spec =
     tie.close
     (tie.spec
     sub-from
-    put-number-requires
+    put-big-endian-requires
     sub-end-word
     part-end-word-start
     part-end-word-end

@@ -2,6 +2,7 @@
 -- verdict's.
 -- Assumes nothing.
 use native.Mathlib.Omega.{arith}
+use mathlib.Core.Path.{refl}
 use Rattle.claims.specs.Fields.{field}
 use Rattle.search_contents.proofs.Written.{part-written}
 use Rattle.search_writing.proofs.Turns.{word-short, word-put}
@@ -47,7 +48,7 @@ returns-2 c =
     let w = c .before .before .before .put-word in
     let at = v .result in
     let put = part-written at (field 2 (a .contents .now)) (v .last .0) (w .last .0) (omega (arith, v .ensures .0, v .kept .0)) (w .ensures .1) in
-    word-put _ _ _ at _ _ (s .if1 .left) (v .ensures) put (c .ended2 .ensures)
+    word-put _ _ _ at _ _ _ refl (s .if1 .left) (v .ensures) put (c .ended2 .ensures)
 
 pub end-word-spec : {M : Type 1} → statement M
 end-word-spec =

@@ -3,7 +3,7 @@
 use Prim.Native.Nat.{_-_}
 use native.Mathlib.Omega.{arith}
 use lib.ListN.{length, drop, length-take, length-drop}
-use Rattle.search_places.specs.Store.{standingAt}
+use Rattle.search_store.specs.Store.{standingAt}
 use Rattle.search_contents.specs.FieldWords.{fieldWords}
 use Rattle.search_contents.proofs.Written.{part-written}
 use Rattle.search_writing.proofs.Turns.{fields-next, fields-last}
@@ -52,6 +52,9 @@ returns c =
     let put = part-written (a .to) bs (a .buffer .now) (p .last .1 .1 .1 .1 .0) (omega arith) (p .ensures .1 r e) in
     fields-next _ r _ _ _ _ _ _ _ _ _ h (p .ensures .0) put (c .before .if1 .taken) (c .looking .ensures)
 
+add-ended : tie.Need-add-ended
+add-ended c = search needs
+
 ended-requires : tie.Need-ended-requires
 ended-requires c κs = search needs
 
@@ -81,6 +84,7 @@ next-field-spec =
     looking-requires
     same-length
     returns
+    add-ended
     ended-requires
     same-length-2
     returns-2)

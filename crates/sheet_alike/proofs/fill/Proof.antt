@@ -5,9 +5,9 @@ use native.Mathlib.Omega.{arith}
 use mathlib.Core.Path.{_≡_, refl, sym, _∙_}
 use borrow.Author.Needs.{needs}
 use lib.ListN.{length, length-set}
-use Rattle.words.specs.Memory.{words, changed}
-use Rattle.words.proofs.Words.{fill-begin, fill-more, fill-end}
-use Rattle.sheet_atoms.specs.Masks.{maskAt}
+use Rattle.memory.specs.Memory.{words, changed}
+use Rattle.memory.proofs.Words.{fill-begin, fill-more, fill-end}
+use Rattle.sheet_alike.specs.Masks.{maskAt}
 use Rattle.sheet_alike.proofs.fill.Statement.{statement}
 use Rattle.sheet_alike.proofs.fill.Tie as tie
 

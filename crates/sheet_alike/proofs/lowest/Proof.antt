@@ -12,7 +12,7 @@ use Rattle.kat.specs.Lists.{some}
 use Rattle.bits.specs.Sets.{members}
 use Rattle.bits.proofs.Lowest.{Lowest, lowest as lowest-member}
 use Rattle.bits.proofs.Walk.{some-end, some-hit, some-miss}
-use Rattle.sheet_atoms.specs.Masks.{alikeWords, lowestWords}
+use Rattle.sheet_alike.specs.Masks.{alikeWords, lowestWords}
 use Rattle.sheet_alike.proofs.lowest.Statement.{statement}
 use Rattle.sheet_alike.proofs.lowest.Tie as tie
 

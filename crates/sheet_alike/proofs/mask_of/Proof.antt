@@ -10,7 +10,7 @@ use lib.Count.{ones, trailing-le}
 use Rattle.bits.specs.Sets.{members}
 use Rattle.bits.proofs.Lowest.{Lowest, lowest as lowest-member}
 use Rattle.standings.specs.Alike.{gathered}
-use Rattle.sheet_atoms.specs.Masks.{lowestWords, maskOf}
+use Rattle.sheet_alike.specs.Masks.{lowestWords, maskOf}
 use Rattle.standings.proofs.Loops.{gathered-end, gathered-more}
 use Rattle.sheet_alike.proofs.mask_of.Statement.{statement}
 use Rattle.sheet_alike.proofs.mask_of.Tie as tie

@@ -3,9 +3,9 @@
 use native.Mathlib.Omega.{arith}
 use mathlib.Core.Path.{_≡_, _∙_, ap}
 use lib.ListN.{length}
-use Rattle.words.specs.Memory.{words}
+use Rattle.memory.specs.Memory.{words}
 use borrow.Author.Needs.{needs}
-use Rattle.sheet_atoms.specs.Masks.{maskAt, masksOf}
+use Rattle.sheet_alike.specs.Masks.{maskAt, masksOf}
 use Rattle.sheet_alike.proofs.masks.Statement.{statement}
 use Rattle.sheet_alike.proofs.masks.Tie as tie
 

@@ -4,7 +4,7 @@ use mathlib.Core.Path.{refl, sym, _∙_, ap}
 use mathlib.Core.Bool.{not, _&&_}
 use Rattle.claims.specs.Query.{bit}
 use Rattle.standings.specs.Steps.{endsSet}
-use Rattle.sheet_cells.specs.RingCells.{firstIn, ringCovered}
+use Rattle.sheet_standings.specs.RingCells.{firstIn, ringCovered}
 use Rattle.sheet_cover.proofs.Finals.{ring-completes}
 use borrow.Author.Needs.{needs}
 use Rattle.sheet_cover.proofs.completes.Statement.{statement}

@@ -1,7 +1,7 @@
 -- `sheet_cover::completes_with` meets its contract: another atom than the first completes nothing.
 -- Assumes nothing.
 use mathlib.Core.Path.{_∙_}
-use Rattle.sheet_cells.specs.RingCells.{firstIn}
+use Rattle.sheet_standings.specs.RingCells.{firstIn}
 use Rattle.sheet_cover.proofs.Finals.{with-first, with-other}
 use borrow.Author.Needs.{needs}
 use Rattle.sheet_cover.proofs.completes_with.Statement.{statement}

@@ -7,9 +7,9 @@ use mathlib.Core.Path.{sym, _∙_, subst⁻¹}
 use lib.ListN.{length}
 use borrow.Author.Tests.{not-true, not-false}
 use borrow.Author.Needs.{needs}
-use Rattle.sheet_cells.specs.Layout.{fieldLength}
-use Rattle.sheet_verdicts.proofs.Listable.{next-inside}
-use Rattle.sheet_verdicts.proofs.Verdicts.{all-bytes}
+use Rattle.sheet_standings.specs.Layout.{fieldLength}
+use Rattle.sheet_fits.proofs.Listable.{next-inside}
+use Rattle.sheet_fits.proofs.Verdicts.{all-bytes}
 use Rattle.sheet_fields.proofs.Whole.{whole-here, cut-here, sized-whole}
 use Rattle.sheet_fields.proofs.SoFar.{listable-sized, sized-room}
 use Rattle.sheet_fields.proofs.Going.{standing-end-goes, standing-cut-goes, standing-full-goes, standing-unsized-goes, standing-wrong-goes, standing-more-goes}

@@ -12,10 +12,11 @@ use Rattle.claims.specs.SheetReading.{standingsIn, wordFrom, partIn}
 use Rattle.claims.specs.Sides.{Decision}
 use Rattle.query.specs.Decided.{Decided}
 use Rattle.query.specs.declared.Facts.{Facts}
-use Rattle.sheet_cells.specs.CellSystem.{cellsShow}
-use Rattle.sheet_cells.specs.Good.{GoodCells}
-use Rattle.sheet_fields.specs.declared.Part.{Part}
-use Rattle.sheet_fields.specs.declared.Part.the-variants.{Proved, Refuted, Wrong}
+use Rattle.sheet_standings.specs.CellSystem.{cellsShow}
+use Rattle.sheet_standings.specs.Good.{GoodCells}
+use Rattle.layout.specs.Layout.{MOST-STANDINGS, VERDICT}
+use Rattle.sheet_fields.specs.declared.PartRead.{PartRead}
+use Rattle.sheet_fields.specs.declared.PartRead.the-variants.{Proved, Refuted, Wrong}
 use Rattle.sheet_fields.specs.declared.Reading.{Reading}
 use Rattle.sheet_fields.specs.Reads.{ListedAt, Empty, Inside, cellsListed, Reads}
 
@@ -24,19 +25,19 @@ abbrev pub wrongAfter : Reading → ℕ → Reading
 wrongAfter s good = record { going = false; awaited = 0; base = s .base; count = good; at = s .at }
 
 -- the answer of a reading that is over, by what it last awaited ("Sheet and graph bytes")
-abbrev pub answerBy : ℕ → ℕ → ℕ → ℕ → Part
+abbrev pub answerBy : ℕ → ℕ → ℕ → ℕ → PartRead
 answerBy zero base count at = Wrong count
 answerBy (suc zero) base count at = Proved base count at
 answerBy (suc (suc n)) base count at = Refuted base at
 
-unfoldable pub answerOf : Reading → Part
+unfoldable pub answerOf : Reading → PartRead
 answerOf s = answerBy (s .awaited) (s .base) (s .count) (s .at)
 
--- more than the fields that may still be read: 4,098 from the verdict on, and none where the reading is over ("Sheet and graph bytes")
+-- more than the fields that may still be read: the verdict, the standings and what is behind them from the verdict on, and none where the reading is over ("Sheet and graph bytes")
 abbrev pub leftBy : Bool → ℕ → ℕ → ℕ
 leftBy false awaited count = 0
-leftBy true zero count = 4099
-leftBy true (suc zero) count = 4098 - count
+leftBy true zero count = MOST-STANDINGS + 3
+leftBy true (suc zero) count = MOST-STANDINGS + 2 - count
 leftBy true (suc (suc n)) count = 1
 
 unfoldable pub fieldsLeft : Reading → ℕ
@@ -57,19 +58,19 @@ pub record AtVerdict (first : ℕ) (heads chain : List ℕ) (at : ℕ) : Type 0 
 -- a standing is awaited: those before it are in the index, and the rest of the part is what follows them ("Sheet and graph bytes")
 pub record AtStanding (f : Facts) (bs : List ℕ) (first : ℕ) (heads chain : List ℕ) (base n at : ℕ) : Type 0 where
   pub listed : ListedAt (f .ring) bs heads chain base n at
-  pub place : base ≡ first + 4
-  pub so-far : (left right : List ℕ) (D : Decision) → Decided f left right D → SoFar D bs base 4096 n at
-  pub part : (D : Decision) (k : ℕ) → partIn D k (drop first bs) ≡ standingsIn D 4096 (suc k) [] (drop base bs)
+  pub place : base ≡ first + VERDICT
+  pub so-far : (left right : List ℕ) (D : Decision) → Decided f left right D → SoFar D bs base MOST-STANDINGS n at
+  pub part : (D : Decision) (k : ℕ) → partIn D k (drop first bs) ≡ standingsIn D MOST-STANDINGS (suc k) [] (drop base bs)
 
 -- the word is awaited: it is the rest of the part ("Sheet and graph bytes")
 pub record AtWord (f : Facts) (bs : List ℕ) (first : ℕ) (heads chain : List ℕ) (at : ℕ) : Type 0 where
-  pub place : at ≡ first + 4
+  pub place : at ≡ first + VERDICT
   pub inside : at ≤ length bs
   pub index : Empty heads chain
   pub part : (D : Decision) (k : ℕ) → partIn D k (drop first bs) ≡ wordFrom D (suc k) (nextField (drop at bs))
 
 -- the part from place first on is answered ("Sheet and graph bytes")
-pub record Answered (f : Facts) (bs : List ℕ) (first : ℕ) (heads chain : List ℕ) (r : Part) : Type 0 where
+pub record Answered (f : Facts) (bs : List ℕ) (first : ℕ) (heads chain : List ℕ) (r : PartRead) : Type 0 where
   pub inside : Inside (f .ring) bs first heads chain r
   pub read : (left right : List ℕ) (D : Decision) → Decided f left right D → (k : ℕ) → Reads (f .ring) D bs k (partIn D k (drop first bs)) r
 

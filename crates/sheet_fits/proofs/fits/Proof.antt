@@ -2,8 +2,8 @@
 -- Assumes nothing.
 use mathlib.Core.Path.{sym, _∙_, ap, subst}
 use lib.ListN.{take}
-use Rattle.sheet_cells.specs.Layout.{cellCount}
-use Rattle.sheet_cells.specs.CellSystem.{cellsFit}
+use Rattle.sheet_standings.specs.Layout.{cellCount}
+use Rattle.sheet_standings.specs.CellSystem.{cellsFit}
 use Rattle.sheet_fits.specs.Small.{SmallCells}
 use Rattle.sheet_fits.proofs.fits.Statement.{statement}
 use Rattle.sheet_fits.proofs.fits.Tie as tie

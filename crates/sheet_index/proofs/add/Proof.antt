@@ -1,8 +1,8 @@
 -- `sheet_index::add` meets its contract: the slot's head goes behind the new standing, which becomes the head.
 -- Assumes nothing.
-use Rattle.sheet_slots.proofs.Kept.{indexed-more}
-use Rattle.sheet_slots.proofs.Listed.{cells-listed}
-use Rattle.sheet_slots.specs.Index.{slotOf}
+use Rattle.sheet_index.proofs.Kept.{indexed-more}
+use Rattle.sheet_index.proofs.Listed.{cells-listed}
+use Rattle.sheet_index.specs.Index.{slotOf}
 use mathlib.Core.Path.{_∙_, ap}
 use native.Mathlib.Omega.{arith}
 use borrow.Author.Needs.{needs}

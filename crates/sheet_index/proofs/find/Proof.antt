@@ -1,12 +1,12 @@
 -- `sheet_index::find` meets its contract. The invariant: the place is in the slot of the cells, and up to it the last
 -- standing that has them is that of all.
 -- Assumes nothing.
-use Rattle.sheet_slots.proofs.Kept.{Followed, follow-begin, follow-lower, follow-more, follow-found, follow-none}
-use Rattle.sheet_slots.proofs.Listed.{below-fits, equal-listed}
-use Rattle.sheet_slots.specs.Index.{slotOf}
-use Rattle.sheet_cells.specs.Layout.{cellCount, listedCells}
+use Rattle.sheet_index.proofs.Kept.{Followed, follow-begin, follow-lower, follow-more, follow-found, follow-none}
+use Rattle.sheet_index.proofs.Listed.{below-fits, equal-listed}
+use Rattle.sheet_index.specs.Index.{slotOf}
+use Rattle.sheet_standings.specs.Layout.{cellCount, listedCells}
 use lib.ListN.{take}
-use mathlib.Core.Path.{_≡_, refl, sym, _∙_, ap}
+use mathlib.Core.Path.{refl, _∙_, ap}
 use Prim.Native.Nat.{_-_}
 use native.Mathlib.Omega.{arith}
 use borrow.Author.Needs.{needs}

@@ -10,19 +10,24 @@ use Rattle.kat.specs.Lists.{every}
 use Rattle.bits.specs.Sets.{members}
 use Rattle.bits.proofs.Lowest.{Lowest, lowest}
 use Rattle.standings.proofs.Loops.{all-end, all-fails, all-passes}
-use Rattle.sheet_cells.specs.Layout.{cellCount}
+use Rattle.sheet_standings.specs.Layout.{cellCount}
 use Rattle.sheet_listed.specs.Listed.{partCells, letterListed, atomsListed}
+use Rattle.sheet_listed.proofs.Ways.{letter-passes}
 use Rattle.sheet_listed.proofs.atoms_listed.Statement.{statement}
 use Rattle.sheet_listed.proofs.atoms_listed.Tie as tie
 
 abbrev Inv-loop : tie.InvT-loop
-Inv-loop ring left right sheet base n heads chain first from mask r rest₀ rest =
+Inv-loop l left right sheet heads chain from rest₀ to₀ rest to =
     (rest < 2 ^ 64)
-    × (every (letterListed ring left right (partCells ring sheet base n) first (take (cellCount ring) from) r) (members rest)
-    ≡ atomsListed ring left right (partCells ring sheet base n) first (take (cellCount ring) from) r mask)
+    × (every
+    (letterListed (l .of .facts .ring) left right (partCells (l .of .facts .ring) sheet (l .of .base) (l .of .count)) (l .first)
+    (take (cellCount (l .of .facts .ring)) from) (l .relation))
+    (members rest)
+    ≡ atomsListed (l .of .facts .ring) left right (partCells (l .of .facts .ring) sheet (l .of .base) (l .of .count)) (l .first)
+    (take (cellCount (l .of .facts .ring)) from) (l .relation) (l .atoms))
 
 abbrev μ-loop : tie.MeasureT-loop
-μ-loop ring left right sheet base n heads chain first from mask r rest₀ rest = ones rest
+μ-loop l left right sheet heads chain from rest₀ to₀ rest to = ones rest
 
 -- in a turn the set left has a lowest member
 low : (c : tie.In-loop Inv-loop μ-loop) → Lowest 64 (c .before .loop .rest)
@@ -35,46 +40,54 @@ loop-holds c = (omega arith, refl)
 cast-a : tie.Need-cast-a Inv-loop μ-loop
 cast-a c = omega (arith, trailing-le 64 (c .before .loop .rest))
 
-letter-listed-requires : tie.Need-letter-listed-requires Inv-loop μ-loop
-letter-listed-requires c κs =
-    let p = c .before .before .before .pre in
-    (p .0, p .1, omega (arith, low c .inside))
+step-requires : tie.Need-step-requires Inv-loop μ-loop
+step-requires c κs = (c .before .before .before .before .pre .1, omega (arith, low (c .before) .inside))
+
+listed-requires : tie.Need-listed-requires Inv-loop μ-loop
+listed-requires c κs = c .before .before .before .before .before .before .pre .0
 
 returns : tie.Need-returns Inv-loop μ-loop
 returns c =
-    let a = c .before .before .before .before .before .args in
+    let a = c .before .before .before .before .before .before .before .before .args in
+    let l = a .l in
     sym
     (all-fails
-    (letterListed (a .ring) (a .left .now) (a .right .now) (partCells (a .ring) (a .sheet .now) (a .base) (a .n)) (a .first)
-    (take (cellCount (a .ring)) (a .from .now)) (a .r))
-    64 (low (c .before .before)) _ (c .before .letter-listed .ensures) (c .if1 .taken))
-    ∙ c .before .before .before .loop .inv .1
+    (letterListed (l .of .facts .ring) (a .left .now) (a .right .now)
+    (partCells (l .of .facts .ring) (a .sheet .now) (l .of .base) (l .of .count)) (l .first)
+    (take (cellCount (l .of .facts .ring)) (a .from .now)) (l .relation))
+    64 (low (c .before .before .before .before .before)) _
+    (letter-passes _ _ _ _ _ _ _ _ _ _ (c .before .before .before .step .ensures) (c .before .listed .ensures)) (c .if1 .taken))
+    ∙ c .before .before .before .before .before .before .loop .inv .1
 
 sub-rest : tie.Need-sub-rest Inv-loop μ-loop
 sub-rest c = omega arith
 
 loop-less : tie.Need-loop-less Inv-loop μ-loop
-loop-less c = omega (arith, low (c .before .before) .count)
+loop-less c = omega (arith, low (c .before .before .before .before .before) .count)
 
 loop-again : tie.Need-loop-again Inv-loop μ-loop
 loop-again c =
-    let l = low (c .before .before) in
-    let a = c .before .before .before .before .before .args in (
-      omega (arith, l .less),
+    let x = low (c .before .before .before .before .before) in
+    let a = c .before .before .before .before .before .before .before .before .args in
+    let l = a .l in (
+      omega (arith, x .less),
       all-passes
-          (letterListed (a .ring) (a .left .now) (a .right .now) (partCells (a .ring) (a .sheet .now) (a .base) (a .n)) (a .first)
-          (take (cellCount (a .ring)) (a .from .now)) (a .r))
-          64 l _ (c .before .letter-listed .ensures) (c .if1 .left)
-          ∙ c .before .before .before .loop .inv .1,
+          (letterListed (l .of .facts .ring) (a .left .now) (a .right .now)
+          (partCells (l .of .facts .ring) (a .sheet .now) (l .of .base) (l .of .count)) (l .first)
+          (take (cellCount (l .of .facts .ring)) (a .from .now)) (l .relation))
+          64 x _ (letter-passes _ _ _ _ _ _ _ _ _ _ (c .before .before .before .step .ensures) (c .before .listed .ensures)) (c .if1 .left)
+          ∙ c .before .before .before .before .before .before .loop .inv .1,
     )
 
 returns-2 : tie.Need-returns-2 Inv-loop μ-loop
 returns-2 c =
     let a = c .before .before .before .args in
+    let l = a .l in
     sym
     (all-end
-    (letterListed (a .ring) (a .left .now) (a .right .now) (partCells (a .ring) (a .sheet .now) (a .base) (a .n)) (a .first)
-    (take (cellCount (a .ring)) (a .from .now)) (a .r))
+    (letterListed (l .of .facts .ring) (a .left .now) (a .right .now)
+    (partCells (l .of .facts .ring) (a .sheet .now) (l .of .base) (l .of .count)) (l .first)
+    (take (cellCount (l .of .facts .ring)) (a .from .now)) (l .relation))
     64 (c .before .loop .rest) (c .loop-test .left))
     ∙ c .before .loop .inv .1
 
@@ -86,7 +99,8 @@ atoms-listed-spec =
     μ-loop
     loop-holds
     cast-a
-    letter-listed-requires
+    step-requires
+    listed-requires
     returns
     sub-rest
     loop-less

@@ -11,7 +11,7 @@ word-requires : tie.Need-word-requires
 word-requires c κs = search needs
 
 returns : tie.Need-returns
-returns c = later-tried _ _ _ _ (not-true-false _ (c .before .before .if1 .taken)) _ (c .word .ensures)
+returns c = later-tried _ _ _ _ (not-true-false _ (c .before .before .before .before .if1 .taken)) _ (c .word .ensures)
 
 returns-2 : tie.Need-returns-2
 returns-2 c = all-tried _ _ _ _ (not-false-true _ (c .before .if1 .left)) (c .if2 .taken)
@@ -21,7 +21,7 @@ word-requires-2 c κs = search needs
 
 returns-3 : tie.Need-returns-3
 returns-3 c =
-    let at = c .before .before in
+    let at = c .before .before .before .before in
     first-tried _ _ _ _ (not-false-true _ (at .before .if1 .left)) (at .if2 .left) _ (c .word2 .ensures)
 
 pub atoms-tried-spec : {M : Type 1} → statement M

@@ -4,9 +4,9 @@ use Prim.Native.Nat.{_+_, _*_, _-_}
 use native.Mathlib.Omega.{arith}
 use mathlib.Core.Path.{_≡_, refl, sym, _∙_}
 use lib.ListN.{length, length-set}
-use Rattle.words.proofs.Words.{fill-begin, fill-more, fill-end}
+use Rattle.memory.proofs.Words.{fill-begin, fill-more, fill-end}
 use Rattle.fields.specs.Places.{cellAt, cellsAt}
-use Rattle.words.specs.Memory.{words, changed}
+use Rattle.memory.specs.Memory.{words, changed}
 use borrow.Author.Needs.{needs}
 use Rattle.sheet_load.proofs.fill.Statement.{statement}
 use Rattle.sheet_load.proofs.fill.Tie as tie

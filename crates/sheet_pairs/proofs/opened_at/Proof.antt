@@ -7,7 +7,7 @@ use native.Mathlib.Omega.{arith}
 use mathlib.Core.Path.{_≡_, sym, _∙_}
 use mathlib.Core.Bool.{cond}
 use Rattle.standings.specs.Steps.{enders}
-use Rattle.sheet_cells.specs.RingCells.{rowM, opened}
+use Rattle.sheet_standings.specs.RingCells.{rowM, opened}
 use Rattle.sheet_pairs.proofs.Opened.{passing, passing-more, passing-end, sum-small, rowEnds, opened-all, row-opens}
 use borrow.Author.Needs.{needs}
 use Rattle.sheet_pairs.proofs.opened_at.Statement.{statement}

@@ -7,9 +7,9 @@ use mathlib.Core.Bool.{cond}
 use borrow.Author.Tests.{ne-eqb}
 use Rattle.kat.specs.Lists.{upto}
 use Rattle.claims.specs.Standings.{Letter}
-use Rattle.words.specs.Memory.{zeros}
+use Rattle.memory.specs.Memory.{zeros}
 use Rattle.standings.specs.Steps.{stepFrom}
-use Rattle.sheet_cells.specs.RingCells.{rowN, opened, sent}
+use Rattle.sheet_standings.specs.RingCells.{rowN, opened, sent}
 use Rattle.sheet_pairs.specs.inner.Rows.{pushed, spreadOver}
 use Rattle.sheet_pairs.proofs.Rows.{spread-all, spread-clear}
 use borrow.Author.Needs.{needs}

@@ -8,7 +8,7 @@ use lib.ListN.{length}
 use Rattle.kat.specs.Lists.{upto}
 use Rattle.claims.specs.Standings.{Letter}
 use Rattle.standings.proofs.Upto.{upto-none}
-use Rattle.sheet_cells.specs.RingCells.{rowN}
+use Rattle.sheet_standings.specs.RingCells.{rowN}
 use Rattle.sheet_pairs.specs.inner.Rows.{spreadOver}
 use Rattle.sheet_pairs.proofs.Rows.{spread-more, spread-end}
 use borrow.Author.Needs.{needs}

@@ -5,7 +5,7 @@ use mathlib.Core.Path.{refl}
 use mathlib.Core.List.{[]}
 use lib.ListN.{drop}
 use Rattle.claims.specs.SheetReading.{partIn}
-use Rattle.words.specs.Memory.{zeros}
+use Rattle.memory.specs.Memory.{zeros}
 use Rattle.sheet_part.proofs.Answers.{listed-ready, listed-few, word-inside, wrong-few, proved-tests, refuted-tests, wrong-tests}
 use borrow.Author.Needs.{needs}
 use Rattle.sheet_part.proofs.part.Statement.{statement}
@@ -23,8 +23,8 @@ proves-requires c κs =
     let x = c .before .before .before .before .before in
     listed-ready _ _ _ _ _ (x .part-at .result) (x .part-at .ensures .0) _ _ _ (c .before .before .before .p .given .1)
 
-add-t22 : tie.Need-add-t22
-add-t22 c =
+add-fields : tie.Need-add-fields
+add-fields c =
     let x = c .before .before .before .before .before .before in
     search (needs, listed-few _ _ _ _ _ (x .part-at .result) (x .part-at .ensures .0) _ _ _ (c .before .before .before .before .p .given .1))
 
@@ -76,7 +76,7 @@ part-spec =
     part-at-requires
     enum-known-p
     proves-requires
-    add-t22
+    add-fields
     enum-known-p-2
     word-refutes-requires
     enum-known-p-3

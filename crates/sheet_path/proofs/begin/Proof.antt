@@ -1,7 +1,7 @@
 -- `sheet_path::begin` meets its contract: the first four cells are P and S.
 -- Assumes nothing.
 use mathlib.Core.Path.{_∙_, ap₂}
-use Rattle.sheet_cells.specs.PathCells.{pathCells, pathBegin}
+use Rattle.sheet_standings.specs.PathCells.{pathCells, pathBegin}
 use borrow.Author.Needs.{needs}
 use Rattle.sheet_path.proofs.begin.Statement.{statement}
 use Rattle.sheet_path.proofs.begin.Tie as tie

@@ -3,7 +3,7 @@
 use native.Mathlib.Omega.{arith}
 use mathlib.Core.Path.{refl, sym, _∙_, ap}
 use mathlib.Core.Bool.{_&&_}
-use Rattle.sheet_cells.specs.Layout.{wide}
+use Rattle.sheet_standings.specs.Layout.{wide}
 use lib.ListN.{take}
 use Rattle.sheet_path.proofs.Finals.{refuting, finals-member}
 use borrow.Author.Needs.{needs}

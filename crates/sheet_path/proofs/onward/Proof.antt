@@ -2,7 +2,7 @@
 -- Assumes nothing.
 use mathlib.Core.Path.{_∙_, ap, ap₂}
 use Rattle.standings.specs.Steps.{stepSet}
-use Rattle.sheet_cells.specs.PathCells.{pathCells, pathOnward}
+use Rattle.sheet_standings.specs.PathCells.{pathCells, pathOnward}
 use borrow.Author.Needs.{needs}
 use Rattle.sheet_path.proofs.onward.Statement.{statement}
 use Rattle.sheet_path.proofs.onward.Tie as tie

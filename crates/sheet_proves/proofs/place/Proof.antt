@@ -2,7 +2,7 @@
 -- Assumes nothing.
 use native.Mathlib.Omega.{arith}
 use mathlib.Core.Path.{sym}
-use Rattle.sheet_passing.proofs.Places.{ring-place, path-place}
+use Rattle.sheet_proves.proofs.Places.{ring-place, path-place}
 use Rattle.sheet_proves.proofs.place.Statement.{statement}
 use Rattle.sheet_proves.proofs.place.Tie as tie
 

@@ -4,7 +4,7 @@ use native.Mathlib.Omega.{arith}
 use mathlib.Core.Path.{_≡_, _∙_, ap}
 use lib.ListN.{length}
 use Rattle.claims.specs.Standings.{Letter}
-use Rattle.sheet_cells.specs.RingCells.{flag}
+use Rattle.sheet_standings.specs.RingCells.{flag}
 use Rattle.sheet_ring.proofs.Standing.{begun}
 use borrow.Author.Needs.{needs}
 use Rattle.sheet_ring.proofs.begin.Statement.{statement}

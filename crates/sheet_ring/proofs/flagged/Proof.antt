@@ -4,7 +4,7 @@ use native.Mathlib.Omega.{arith}
 use mathlib.Core.Path.{sym, ap, ap₂}
 use mathlib.Core.Bool.{not, _||_}
 use borrow.Author.Tests.{eq-eqb, ne-eqb}
-use Rattle.sheet_cells.specs.RingCells.{flag}
+use Rattle.sheet_standings.specs.RingCells.{flag}
 use Rattle.sheet_ring.proofs.flagged.Statement.{statement}
 use Rattle.sheet_ring.proofs.flagged.Tie as tie
 

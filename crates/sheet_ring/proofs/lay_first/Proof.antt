@@ -3,8 +3,8 @@
 use native.Mathlib.Omega.{arith}
 use mathlib.Core.Path.{_≡_, _∙_, ap}
 use lib.ListN.{length}
-use Rattle.words.specs.Memory.{zeros}
-use Rattle.words.proofs.Words.{words-length}
+use Rattle.memory.specs.Memory.{zeros}
+use Rattle.memory.proofs.Words.{words-length}
 use Rattle.sheet_ring.proofs.Standing.{rows-laid, cleared-length}
 use borrow.Author.Needs.{needs}
 use Rattle.sheet_ring.proofs.lay_first.Statement.{statement}

@@ -3,7 +3,7 @@
 use native.Mathlib.Omega.{arith}
 use mathlib.Core.Path.{_≡_}
 use lib.ListN.{length}
-use Rattle.words.proofs.Words.{words-length}
+use Rattle.memory.proofs.Words.{words-length}
 use Rattle.sheet_ring.proofs.Standing.{rows-laid}
 use borrow.Author.Needs.{needs}
 use Rattle.sheet_ring.proofs.lay_on.Statement.{statement}

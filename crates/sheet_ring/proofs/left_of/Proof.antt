@@ -1,6 +1,6 @@
 -- `sheet_ring::left_of` meets its contract: P is cells 1 and 2.
 -- Assumes nothing.
-use Rattle.sheet_cells.specs.Layout.{wide}
+use Rattle.sheet_standings.specs.Layout.{wide}
 use borrow.Author.Needs.{needs}
 use Rattle.sheet_ring.proofs.left_of.Statement.{statement}
 use Rattle.sheet_ring.proofs.left_of.Tie as tie

@@ -7,7 +7,7 @@ use lib.Dec.{eqb}
 use lib.ListN.{length}
 use Rattle.claims.specs.Standings.{Letter}
 use Rattle.standings.specs.Steps.{stepSet}
-use Rattle.sheet_cells.specs.RingCells.{firstIn, flagIn, flag}
+use Rattle.sheet_standings.specs.RingCells.{firstIn, flagIn, flag}
 use Rattle.sheet_ring.proofs.Standing.{gone-on}
 use borrow.Author.Needs.{needs}
 use Rattle.sheet_ring.proofs.onward.Statement.{statement}

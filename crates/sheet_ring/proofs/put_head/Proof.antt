@@ -3,7 +3,7 @@
 use native.Mathlib.Omega.{arith}
 use mathlib.Core.Path.{refl}
 use lib.ListN.{length-set}
-use Rattle.sheet_cells.specs.RingCells.{headCell}
+use Rattle.sheet_standings.specs.RingCells.{headCell}
 use Rattle.sheet_ring.specs.inner.Head.{headed}
 use borrow.Author.Needs.{needs}
 use Rattle.sheet_ring.proofs.put_head.Statement.{statement}

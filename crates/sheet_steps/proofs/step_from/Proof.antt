@@ -5,6 +5,7 @@ use native.Mathlib.Omega.{arith}
 use mathlib.Core.Path.{_∙_, ap₂}
 use lib.Bits.{bitAnd}
 use Rattle.standings.specs.Steps.{nextSet, readers, stepFrom}
+use Rattle.side_tables.specs.Layout.{TABLE, ROW}
 use Rattle.standings.proofs.Places.{place-clipped}
 use borrow.Author.Needs.{needs}
 use Rattle.sheet_steps.proofs.step_from.Statement.{statement}
@@ -26,7 +27,7 @@ returns c =
     let from = c .before .before .before .before .steps-at in
     ap₂ bitAnd
     (c .before .before .word-behind .ensures
-    ∙ place-clipped (a .table .now) 4241 (omega arith) (65 * a .a) (a .p) (from .result) (from .ensures))
+    ∙ place-clipped (a .table .now) TABLE (omega arith) (ROW * a .a) (a .p) (from .result) (from .ensures))
     (c .word-behind2 .ensures)
 
 pub step-from-spec : {M : Type 1} → statement M

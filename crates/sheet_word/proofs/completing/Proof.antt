@@ -10,9 +10,9 @@ use borrow.Author.Tests.{not-true, not-false}
 use Rattle.kat.specs.Lists.{member}
 use Rattle.claims.specs.Query.{bit}
 use Rattle.claims.specs.Passing.{completes}
-use Rattle.sheet_cells.specs.Layout.{cellCount}
-use Rattle.sheet_cells.specs.CellSystem.{onwardCells, finalsCells, cellSystem}
-use Rattle.sheet_letters.specs.ByteWords.{wordRead}
+use Rattle.sheet_standings.specs.Layout.{cellCount}
+use Rattle.sheet_standings.specs.CellSystem.{onwardCells, finalsCells, cellSystem}
+use Rattle.sheet_word.specs.ByteWords.{wordRead}
 use Rattle.sheet_word.proofs.Steps.{dead-stops, live-goes-on, last-decides}
 use Rattle.sheet_word.proofs.completing.Statement.{statement}
 use Rattle.sheet_word.proofs.completing.Tie as tie

@@ -9,8 +9,8 @@ use borrow.Author.Needs.{needs}
 use Rattle.kat.specs.Lists.{member}
 use Rattle.claims.specs.Query.{bit}
 use Rattle.standings.specs.Steps.{aloneWords}
-use Rattle.sheet_cells.specs.Layout.{cellCount}
-use Rattle.sheet_cells.specs.CellSystem.{beginCells}
+use Rattle.sheet_standings.specs.Layout.{cellCount}
+use Rattle.sheet_standings.specs.CellSystem.{beginCells}
 use Rattle.sheet_word.proofs.Steps.{atom-refutes, dead-refutes, live-refutes}
 use Rattle.sheet_word.proofs.refutes.Statement.{statement}
 use Rattle.sheet_word.proofs.refutes.Tie as tie

@@ -1,7 +1,7 @@
 -- `side_atoms::test_atoms` meets its contract: with room for as many sets as there are codes, more room would change nothing.
 -- Assumes nothing.
 use Rattle.side_atoms.proofs.Room.{run-alike}
-use Rattle.words.specs.Memory.{zeros}
+use Rattle.memory.specs.Memory.{zeros}
 use Rattle.side_atoms.specs.Tests.{top, testSet}
 use lib.ListN.{length}
 use lib.Seq.{slice}

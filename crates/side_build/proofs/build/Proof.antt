@@ -13,7 +13,7 @@ use Rattle.side_build.proofs.build.Reads as reads
 use Rattle.side_build.proofs.build.Lts as lts
 use Rattle.side_build.proofs.build_long.Reads as build-long-reads
 use Rattle.side_build.proofs.build_short.Reads as build-short-reads
-use Rattle.words.proofs.least.Reads as least-reads
+use Rattle.memory.proofs.least.Reads as least-reads
 
 least-requires : tie.Need-least-requires
 least-requires c κs = search needs

@@ -1,6 +1,6 @@
 -- `side_build::build_sides` meets its contract.
 -- Assumes nothing.
-use Rattle.words.specs.Memory.{zeros}
+use Rattle.memory.specs.Memory.{zeros}
 use mathlib.Core.Path.{_∙_, ap}
 use native.Mathlib.Omega.{arith}
 use borrow.Author.Needs.{needs}
@@ -9,7 +9,7 @@ use Rattle.side_build.proofs.build_sides.Tie as tie
 use Rattle.side_build.proofs.build_sides.Reads as reads
 use Rattle.side_build.proofs.build_sides.Lts as lts
 use Rattle.side_build.proofs.fill_sides.Reads as fill-sides-reads
-use Rattle.words.proofs.clear.Reads as clear-reads
+use Rattle.memory.proofs.clear.Reads as clear-reads
 
 clear-requires : tie.Need-clear-requires
 clear-requires c κs = search needs

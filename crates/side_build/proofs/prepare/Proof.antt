@@ -3,7 +3,7 @@
 use Rattle.side_build.proofs.Assembled.{half-length, half-args, args-length, sets-length, prepared, prepared-length}
 use lib.ListN.{length}
 use lib.Seq.{length-take-le}
-use mathlib.Core.Path.{sym, refl, ap, _∙_}
+use mathlib.Core.Path.{sym, ap, _∙_}
 use native.Mathlib.Omega.{arith}
 use borrow.Author.Needs.{needs}
 use Rattle.side_build.proofs.prepare.Statement.{statement}
@@ -12,7 +12,7 @@ use Rattle.side_build.proofs.prepare.Reads as reads
 use Rattle.side_build.proofs.prepare.Lts as lts
 use Rattle.side_items.proofs.find_args.Reads as find-args-reads
 use Rattle.side_relations.proofs.relation_sets.Reads as relation-sets-reads
-use Rattle.words.proofs.copy.Reads as copy-reads
+use Rattle.memory.proofs.copy.Reads as copy-reads
 
 slice-relend-prefix-find-args : tie.Need-slice-relend-prefix-find-args
 slice-relend-prefix-find-args c = search needs

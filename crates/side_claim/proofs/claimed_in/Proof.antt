@@ -1,6 +1,6 @@
 -- `side_claim::claimed_in` meets its contract.
 -- Assumes nothing.
-use Rattle.side_claim.specs.Sides.{startOf, leftEnd, claimed}
+use Rattle.side_claim.specs.Sides.{claimed}
 use mathlib.Core.Path.{refl}
 use borrow.Author.Needs.{needs}
 use Rattle.side_claim.proofs.claimed_in.Statement.{statement}

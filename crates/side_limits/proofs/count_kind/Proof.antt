@@ -7,6 +7,7 @@ use mathlib.Core.Path.{sym, _∙_}
 use lib.ListN.{length}
 use borrow.Author.Needs.{needs}
 use Rattle.side_runs.proofs.RunningAll.{is-test, is-none}
+use Rattle.side_limits.specs.Places.{notOut}
 use Rattle.side_limits.specs.inner.CappedSums.{inTable}
 use Rattle.side_limits.proofs.PlaceSums.{SummedKind, kind-start, kind-inside, kind-other, kind-found, kind-all}
 use Rattle.side_limits.proofs.count_kind.Statement.{statement}
@@ -43,7 +44,7 @@ loop-again c =
     )
 
 is-one-requires : tie.Need-is-one-requires Inv-loop μ-loop
-is-one-requires c κs = search needs
+is-one-requires c κs = omega (arith, c .before .before .before .loop .inv .1, c .before .before .before .loop .inv .0)
 
 add-line : tie.Need-add-line Inv-loop μ-loop
 add-line c = omega (arith, c .before .before .before .before .loop .inv .1, c .before .before .before .before .loop .inv .0)
@@ -52,6 +53,7 @@ loop-less-2 : tie.Need-loop-less-2 Inv-loop μ-loop
 loop-less-2 c = omega (arith, c .before .before .before .before .loop-test .taken)
 
 loop-again-2 : tie.Need-loop-again-2 Inv-loop μ-loop
+unfolding notOut
 loop-again-2 c =
     let at = c .before .before .before .before .before .loop in (
       omega (arith, c .before .before .before .before .loop-test .taken),
@@ -69,6 +71,7 @@ loop-less-3 : tie.Need-loop-less-3 Inv-loop μ-loop
 loop-less-3 c = omega (arith, c .before .before .before .before .before .before .loop-test .taken)
 
 loop-again-3 : tie.Need-loop-again-3 Inv-loop μ-loop
+unfolding notOut
 loop-again-3 c =
     let at = c .before .before .before .before .before .before .before .loop in (
       omega (arith, c .before .before .before .before .before .before .loop-test .taken),

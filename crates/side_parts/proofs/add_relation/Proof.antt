@@ -8,7 +8,7 @@ use Rattle.side_parts.proofs.add_relation.Reads as reads
 use Rattle.side_parts.proofs.add_relation.Lts as lts
 use Rattle.bits.proofs.with.Reads as with-reads
 use Rattle.side_parts.proofs.add_fresh.Reads as add-fresh-reads
-use Rattle.words.proofs.word.Reads as word-reads
+use Rattle.memory.proofs.word.Reads as word-reads
 
 word-requires : tie.Need-word-requires
 word-requires c κs = search needs

@@ -8,7 +8,7 @@ use Rattle.side_parts.proofs.nothing.Tie as tie
 use Rattle.side_parts.proofs.nothing.Reads as reads
 use Rattle.side_parts.proofs.nothing.Lts as lts
 use Rattle.side_stack.proofs.empty.Reads as empty-reads
-use Rattle.words.proofs.clear.Reads as clear-reads
+use Rattle.memory.proofs.clear.Reads as clear-reads
 
 clear-requires : tie.Need-clear-requires
 clear-requires c κs = search needs

@@ -5,8 +5,8 @@ use native.Mathlib.Omega.{arith}
 use mathlib.Core.Path.{_≡_, refl, sym, _∙_}
 use lib.ListN.{length, length-set}
 use Rattle.claims.specs.Query.{bit}
-use Rattle.words.specs.Memory.{words, changed}
-use Rattle.words.proofs.Words.{fill-begin, fill-more, fill-end}
+use Rattle.memory.specs.Memory.{words, changed}
+use Rattle.memory.proofs.Words.{fill-begin, fill-more, fill-end}
 use Rattle.side_relations.specs.Relations.{relationAt}
 use borrow.Author.Needs.{needs}
 use Rattle.side_relations.proofs.relation_words.Statement.{statement}

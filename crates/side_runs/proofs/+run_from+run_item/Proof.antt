@@ -1,10 +1,10 @@
 -- The proof of running a line of items and of one item, which call each other for a let. The measure is the place where the line starts,
 -- and then which of the two it is: a let is entered only at a place before. The laws are those of `Running`; here they are cited.
 -- Assumes nothing.
-use Rattle.side_runs.proofs.Running.{Left, left-all, left-next, left-end, left-none, sets-part, item-below, item-above, item-let, item-late, step-args}
-use Rattle.side_parts.specs.Machine.{machineIn, stepped}
+use Rattle.side_runs.proofs.Running.{Left, left-all, left-next, left-end, left-none, item-below, item-above, item-let, item-late, step-args}
+use Rattle.side_parts.specs.Machine.{machineIn}
 use lib.ListN.{length, getD}
-use mathlib.Core.Path.{refl, _∙_, ap}
+use mathlib.Core.Path.{refl, _∙_}
 use native.Mathlib.Omega.{arith}
 use borrow.Author.Needs.{needs}
 use Prim.Native.Nat.{ℕ, _<_, _+_, _-_, _*_}
@@ -18,8 +18,8 @@ use Rattle.side_runs.proofs.run_item.Kinds as run-item-kinds
 use Rattle.side_runs.proofs.+run_from+run_item.Lts-run_item as run-item-lts
 use Rattle.side_parts.proofs.step.Reads as step-reads
 use Rattle.side_runs.proofs.skip_tests.Reads as skip-tests-reads
-use Rattle.words.proofs.least.Reads as least-reads
-use Rattle.words.proofs.word.Reads as word-reads
+use Rattle.memory.proofs.least.Reads as least-reads
+use Rattle.memory.proofs.word.Reads as word-reads
 use Rattle.side_runs.proofs.+run_from+run_item.{statement}
 use Rattle.side_runs.proofs.+run_from+run_item.Tie.{close}
 

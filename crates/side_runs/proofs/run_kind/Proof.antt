@@ -2,6 +2,7 @@
 -- machine at the start. The measure is what is left of the codes.
 -- Assumes nothing.
 use Rattle.side_runs.proofs.RunningAll.{Rest, rest-all, rest-inside, rest-other, rest-found, rest-count, rest-done, is-test, is-none}
+use Rattle.side_runs.specs.Program.{countsIn}
 use Rattle.side_parts.specs.Machine.{machineIn}
 use lib.ListN.{length}
 use mathlib.Core.Path.{sym, _∙_}
@@ -40,6 +41,9 @@ loop-again : tie.Need-loop-again Inv-loop μ-loop
 loop-again c =
     (omega (arith, c .before .before .loop-test .taken), omega (arith, c .before .before .before .loop .inv .1), omega (arith, c .before .before .before .loop .inv .2), rest-inside _ _ _ _ _ _ _ _ _ (c .before .before .before .loop .inv .3) (c .before .before .loop-test .taken) (c .if1 .taken))
 
+add-is-one : tie.Need-add-is-one Inv-loop μ-loop
+add-is-one c = omega arith
+
 is-one-requires : tie.Need-is-one-requires Inv-loop μ-loop
 is-one-requires c κs = omega (arith, c .before .before .before .loop .inv .1, c .before .before .before .loop .inv .0)
 
@@ -50,6 +54,7 @@ loop-less-2 : tie.Need-loop-less-2 Inv-loop μ-loop
 loop-less-2 c = omega (arith, c .before .before .before .before .loop-test .taken)
 
 loop-again-2 : tie.Need-loop-again-2 Inv-loop μ-loop
+unfolding countsIn
 loop-again-2 c = (
   omega (arith, c .before .before .before .before .loop-test .taken),
   omega (arith, c .before .before .before .before .before .loop .inv .1),
@@ -67,6 +72,7 @@ loop-less-3 : tie.Need-loop-less-3 Inv-loop μ-loop
 loop-less-3 c = omega (arith, c .before .before .before .before .before .before .before .loop-test .taken)
 
 loop-again-3 : tie.Need-loop-again-3 Inv-loop μ-loop
+unfolding countsIn
 loop-again-3 c = (
   omega (arith, c .before .before .before .before .before .before .before .loop-test .taken),
   omega (arith, c .before .before .before .before .before .before .before .before .loop .inv .1),
@@ -89,6 +95,7 @@ run-kind-spec =
     add-i
     loop-less
     loop-again
+    add-is-one
     is-one-requires
     add-line
     loop-less-2

@@ -4,7 +4,7 @@ use Rattle.side_runs.proofs.RunningAll.{skip-operator}
 use Rattle.side_runs.specs.inner.Running.{Skipped}
 use lib.ListN.{length}
 use native.Mathlib.Omega.{arith}
-use Prim.Native.Nat.{_-_, _+_}
+use Prim.Native.Nat.{_-_}
 use borrow.Author.Needs.{needs}
 use Rattle.side_runs.proofs.skip_operators.Statement.{statement}
 use Rattle.side_runs.proofs.skip_operators.Tie as tie

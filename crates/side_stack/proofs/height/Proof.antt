@@ -8,8 +8,8 @@ use Rattle.side_stack.proofs.height.Statement.{statement}
 use Rattle.side_stack.proofs.height.Tie as tie
 use Rattle.side_stack.proofs.height.Reads as reads
 use Rattle.side_stack.proofs.height.Lts as lts
-use Rattle.words.proofs.least.Reads as least-reads
-use Rattle.words.proofs.word.Reads as word-reads
+use Rattle.memory.proofs.least.Reads as least-reads
+use Rattle.memory.proofs.word.Reads as word-reads
 
 word-requires : tie.Need-word-requires
 word-requires c κs = search needs

@@ -11,7 +11,7 @@ use Rattle.side_stack.proofs.one_more.Tie as tie
 use Rattle.side_stack.proofs.one_more.Reads as reads
 use Rattle.side_stack.proofs.one_more.Lts as lts
 use Rattle.side_stack.proofs.used.Reads as used-reads
-use Rattle.words.proofs.store.Reads as store-reads
+use Rattle.memory.proofs.store.Reads as store-reads
 
 used-requires : tie.Need-used-requires
 used-requires c κs = search needs

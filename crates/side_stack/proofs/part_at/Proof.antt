@@ -7,7 +7,7 @@ use Rattle.side_stack.proofs.part_at.Statement.{statement}
 use Rattle.side_stack.proofs.part_at.Tie as tie
 use Rattle.side_stack.proofs.part_at.Reads as reads
 use Rattle.side_stack.proofs.part_at.Lts as lts
-use Rattle.words.proofs.word.Reads as word-reads
+use Rattle.memory.proofs.word.Reads as word-reads
 
 mul-word : tie.Need-mul-word
 mul-word c = search needs

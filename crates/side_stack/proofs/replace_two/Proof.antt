@@ -12,7 +12,7 @@ use Rattle.side_stack.proofs.replace_two.Reads as reads
 use Rattle.side_stack.proofs.replace_two.Lts as lts
 use Rattle.side_stack.proofs.height.Reads as height-reads
 use Rattle.side_stack.proofs.put.Reads as put-reads
-use Rattle.words.proofs.less.Reads as less-reads
+use Rattle.memory.proofs.less.Reads as less-reads
 
 height-requires : tie.Need-height-requires
 height-requires c κs = search needs

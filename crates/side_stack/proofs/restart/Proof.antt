@@ -12,7 +12,7 @@ use Rattle.side_stack.proofs.restart.Statement.{statement}
 use Rattle.side_stack.proofs.restart.Tie as tie
 use Rattle.side_stack.proofs.restart.Reads as reads
 use Rattle.side_stack.proofs.restart.Lts as lts
-use Rattle.words.proofs.store.Reads as store-reads
+use Rattle.memory.proofs.store.Reads as store-reads
 
 store-requires : tie.Need-store-requires
 store-requires c κs = search needs

@@ -2,7 +2,6 @@
 -- Assumes nothing.
 use Rattle.side_tables.proofs.Walks.{added-made}
 use native.Mathlib.Omega.{arith}
-use mathlib.Core.Path.{_∙_, ap, sym, refl}
 use borrow.Author.Needs.{needs}
 use Rattle.side_tables.proofs.add.Statement.{statement}
 use Rattle.side_tables.proofs.add.Tie as tie

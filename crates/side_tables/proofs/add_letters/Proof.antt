@@ -3,8 +3,8 @@
 -- Assumes nothing.
 use Rattle.side_tables.proofs.Walks.{lettered-made}
 use Rattle.side_tables.specs.InPlace.{letteredAt}
-use Rattle.words.proofs.Walks.{each-more, each-end}
-use Rattle.words.specs.Memory.{forEach}
+use Rattle.memory.proofs.Walks.{each-more, each-end}
+use Rattle.memory.specs.Memory.{forEach}
 use Rattle.kat.specs.Lists.{upto}
 use lib.ListN.{length}
 use mathlib.Core.Path.{_≡_, refl, sym, _∙_, ap}

@@ -4,7 +4,6 @@ use Prim.Native.Nat.{_+_, _*_}
 use Rattle.side_tables.proofs.Walks.{cut-made, set-twice-length}
 use native.Mathlib.Omega.{arith}
 use lib.ListN.{length-set}
-use mathlib.Core.Path.{_∙_, ap, ap₂}
 use borrow.Author.Needs.{needs}
 use Rattle.side_tables.proofs.cut_at.Statement.{statement}
 use Rattle.side_tables.proofs.cut_at.Tie as tie
@@ -12,6 +11,7 @@ use Rattle.side_tables.proofs.cut_at.Reads as reads
 use Rattle.side_tables.proofs.cut_at.Lts as lts
 use Rattle.bits.proofs.member.Reads as member-reads
 use Rattle.side_tables.proofs.kept_if.Reads as kept-if-reads
+use Rattle.side_tables.specs.Layout.{ENDS, ROW}
 
 member-requires : tie.Need-member-requires
 member-requires c κs = search needs
@@ -62,7 +62,7 @@ slice-write-table-2 : tie.Need-slice-write-table-2
 slice-write-table-2 c = simp length-set (omega (arith, c .before .before .before .before .before .before .before .pre .1))
 
 same-length : tie.Need-same-length
-same-length c = set-twice-length (c .before .before .before .before .before .before .before .args .table .now) (65 * c .before .before .before .before .before .before .before .args .a) (4160 + c .before .before .before .before .before .before .before .args .a) (c .before .before .before .kept-if .result) (c .kept-if2 .result)
+same-length c = set-twice-length (c .before .before .before .before .before .before .before .args .table .now) (ROW * c .before .before .before .before .before .before .before .args .a) (ENDS + c .before .before .before .before .before .before .before .args .a) (c .before .before .before .kept-if .result) (c .kept-if2 .result)
 
 returns : tie.Need-returns
 returns c = cut-made (c .before .before .before .before .before .before .before .args .from) (c .before .before .before .before .before .before .before .args .to) (c .before .before .before .before .before .before .before .args .x) (c .before .before .before .before .before .before .before .args .y) (c .before .before .before .before .before .before .before .args .a) (c .before .before .before .before .before .before .before .args .table .now) _ _ _ _ (c .before .before .before .before .before .member .ensures) (c .before .before .before .kept-if .ensures) (c .before .before .member2 .ensures) (c .kept-if2 .ensures)

@@ -2,9 +2,10 @@
 -- table at the start. The measure is what is left of the atoms.
 -- Assumes nothing.
 use Rattle.side_tables.specs.InPlace.{cutAt, cut}
-use Rattle.words.proofs.Walks.{each-more, each-end}
-use Rattle.words.specs.Memory.{forEach}
+use Rattle.memory.proofs.Walks.{each-more, each-end}
+use Rattle.memory.specs.Memory.{forEach}
 use Rattle.kat.specs.Lists.{upto}
+use Rattle.side_tables.specs.Layout.{TABLE}
 use lib.ListN.{length}
 use mathlib.Core.Path.{_≡_, refl, sym, _∙_, ap}
 use native.Mathlib.Omega.{arith}
@@ -17,7 +18,7 @@ use Rattle.side_tables.proofs.cut_ends.Lts as lts
 use Rattle.side_tables.proofs.cut_at.Reads as cut-at-reads
 
 abbrev Inv-loop : tie.InvT-loop
-Inv-loop table₀ from to x y a₀ table a = (a ≤ 64) × (length table ≡ 4241) × (forEach (cutAt from to x y) (upto a 64) table ≡ cut from to x y table₀)
+Inv-loop table₀ from to x y a₀ table a = (a ≤ 64) × (length table ≡ TABLE) × (forEach (cutAt from to x y) (upto a 64) table ≡ cut from to x y table₀)
 
 abbrev μ-loop : tie.MeasureT-loop
 μ-loop table₀ from to x y a₀ table a = 64 - a

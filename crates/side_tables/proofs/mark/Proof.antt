@@ -7,8 +7,8 @@ use Rattle.side_tables.proofs.mark.Tie as tie
 use Rattle.side_tables.proofs.mark.Reads as reads
 use Rattle.side_tables.proofs.mark.Lts as lts
 use Rattle.bits.proofs.marked.Reads as marked-reads
-use Rattle.words.proofs.store.Reads as store-reads
-use Rattle.words.proofs.word.Reads as word-reads
+use Rattle.memory.proofs.store.Reads as store-reads
+use Rattle.memory.proofs.word.Reads as word-reads
 
 word-requires : tie.Need-word-requires
 word-requires c κs = search needs

@@ -3,14 +3,14 @@
 -- Assumes nothing.
 use Rattle.side_tables.proofs.Walks.{members-more, members-end}
 use Rattle.side_tables.specs.InPlace.{putInto}
-use Rattle.words.specs.Memory.{forEach}
+use Rattle.memory.specs.Memory.{forEach}
 use Rattle.bits.proofs.Lowest.{Lowest, lowest}
 use Rattle.bits.specs.Sets.{members}
 use lib.ListN.{length, length-set}
 use lib.Count.{ones, trailing-le}
 use mathlib.Core.Path.{_≡_, refl, sym, _∙_}
 use native.Mathlib.Omega.{arith}
-use Prim.Native.Nat.{_^_, _<_, _+_}
+use Prim.Native.Nat.{_^_, _<_}
 use borrow.Author.Needs.{needs}
 use Rattle.side_tables.proofs.put_into.Statement.{statement}
 use Rattle.side_tables.proofs.put_into.Tie as tie

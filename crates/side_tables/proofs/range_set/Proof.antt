@@ -6,7 +6,7 @@ use Rattle.bits.proofs.Rows.{all-below}
 use lib.Bits.{bitAnd}
 use Prim.Native.Nat.{_-_}
 use native.Mathlib.Omega.{arith}
-use mathlib.Core.Path.{refl, ap₂}
+use mathlib.Core.Path.{ap₂}
 use borrow.Author.Needs.{needs}
 use Rattle.side_tables.proofs.range_set.Statement.{statement}
 use Rattle.side_tables.proofs.range_set.Tie as tie

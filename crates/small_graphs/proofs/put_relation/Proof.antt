@@ -1,38 +1,44 @@
--- `small_graphs::put_relation` is safe and ends: it goes once over the bits.
+-- `small_graphs::put_relation` meets its contract. It goes once over the bits, and what is left to put is the whole.
 -- Assumes nothing.
 use Prim.Native.Nat.{_-_, _≤_}
+use native.Mathlib.Omega.{arith}
 use mathlib.Core.Path.{_≡_}
 use lib.ListN.{length}
+use Rattle.small_graphs.specs.Graphs.{counted, edgesAmong, edgeFields}
+use Rattle.small_graphs.proofs.Fields.{edges-more, edges-none}
+use Rattle.case_lines.proofs.Putting.{Left, left-more, left-none}
 use borrow.Author.Needs.{needs}
 use Rattle.small_graphs.proofs.put_relation.Statement.{statement}
 use Rattle.small_graphs.proofs.put_relation.Tie as tie
 
 abbrev Inv-loop : tie.InvT-loop
-Inv-loop r relation from to₀ at₀ bit₀ to at bit = (bit ≤ 64) × (length to ≡ length to₀)
+Inv-loop r relation from to₀ at₀ place₀ to at place =
+    (place ≤ 64) × (length to ≡ length to₀) × Left to₀ from (edgeFields relation r) to at (edgesAmong relation r (counted place (64 - place)))
 
 abbrev μ-loop : tie.MeasureT-loop
-μ-loop r relation from to₀ at₀ bit₀ to at bit = 64 - bit
+μ-loop r relation from to₀ at₀ place₀ to at place = 64 - place
 
 loop-holds : tie.Need-loop-holds Inv-loop μ-loop
-loop-holds c = search needs
+loop-holds c = (omega arith, search needs, λ r n p. p)
 
 put-bit-requires : tie.Need-put-bit-requires Inv-loop μ-loop
 put-bit-requires c κs = search needs
 
-add-bit : tie.Need-add-bit Inv-loop μ-loop
-add-bit c = search needs
+add-place : tie.Need-add-place Inv-loop μ-loop
+add-place c = search needs
 
 loop-less : tie.Need-loop-less Inv-loop μ-loop
 loop-less c = search needs
 
 loop-again : tie.Need-loop-again Inv-loop μ-loop
-loop-again c = search needs
+loop-again c =
+    (omega arith, search needs, left-more _ _ (edges-more _ _ _ (c .before .before .before .before .loop-test .taken)) (c .before .before .before .before .before .loop .inv .2) (c .before .before .put-bit .ensures))
 
 same-length : tie.Need-same-length Inv-loop μ-loop
 same-length c = search needs
 
 returns : tie.Need-returns Inv-loop μ-loop
-returns c = search needs
+returns c = left-none (edges-none _ _ _ (c .loop-test .left)) (c .before .loop .inv .2)
 
 pub put-relation-spec : {M : Type 1} → statement M
 put-relation-spec =
@@ -42,7 +48,7 @@ put-relation-spec =
     μ-loop
     loop-holds
     put-bit-requires
-    add-bit
+    add-place
     loop-less
     loop-again
     same-length

@@ -1,18 +1,18 @@
--- `small_graphs::through` is safe and ends: it goes once over the events.
--- Assumes nothing.
 use Prim.Native.Nat.{_-_, _≤_}
+use native.Mathlib.Omega.{arith}
+use mathlib.Core.Path.{sym, _∙_}
+use mathlib.Core.Logic.{⊎-elim}
+use Rattle.small_graphs.specs.Relations.{Edges}
+use Rattle.small_graphs.proofs.Rounds.{Sofar, round-start, round-with, round-without, round-end}
 use borrow.Author.Needs.{needs}
 use Rattle.small_graphs.proofs.through.Statement.{statement}
 use Rattle.small_graphs.proofs.through.Tie as tie
 
 abbrev Inv-loop : tie.InvT-loop
-Inv-loop r middle row all₀ from₀ all from = from ≤ 8
+Inv-loop r middle row all₀ from₀ all from = (from ≤ 8) × Edges all (Sofar r middle from)
 
 abbrev μ-loop : tie.MeasureT-loop
 μ-loop r middle row all₀ from₀ all from = 8 - from
-
-returns : tie.Need-returns Inv-loop μ-loop
-returns c = search needs
 
 mul-row : tie.Need-mul-row Inv-loop μ-loop
 mul-row c = search needs
@@ -21,7 +21,7 @@ shr-row : tie.Need-shr-row Inv-loop μ-loop
 shr-row c = search needs
 
 loop-holds : tie.Need-loop-holds Inv-loop μ-loop
-loop-holds c = search needs
+loop-holds c = (omega arith, round-start _ _)
 
 mul-has : tie.Need-mul-has Inv-loop μ-loop
 mul-has c = search needs
@@ -45,10 +45,14 @@ loop-less : tie.Need-loop-less Inv-loop μ-loop
 loop-less c = search needs
 
 loop-again : tie.Need-loop-again Inv-loop μ-loop
-loop-again c = search needs
+loop-again c =
+    let at = c .before .before .before .loop in
+    let a = c .before .before .before .before .args in
+    let e = c .before .has .ensures in
+    (omega arith, ⊎-elim (λ w. round-with (a .r) (a .middle) (at .all) (at .from) _ (w .1) (sym e ∙ w .0 .taken) (at .inv .1)) (λ w. round-without (a .r) (a .middle) (at .all) (at .from) _ (w .1) (sym e ∙ w .0 .left) (at .inv .1)) (c .if1 .came))
 
-returns-2 : tie.Need-returns-2 Inv-loop μ-loop
-returns-2 c = search needs
+returns : tie.Need-returns Inv-loop μ-loop
+returns c = round-end _ _ _ _ (c .loop-test .left) (c .before .loop .inv .1)
 
 pub through-spec : {M : Type 1} → statement M
 through-spec =
@@ -56,7 +60,6 @@ through-spec =
     (tie.spec
     Inv-loop
     μ-loop
-    returns
     mul-row
     shr-row
     loop-holds
@@ -68,4 +71,4 @@ through-spec =
     add-from
     loop-less
     loop-again
-    returns-2)
+    returns)

@@ -2,17 +2,16 @@
 -- Assumes nothing.
 use Prim.Native.Nat.{ℕ}
 use mathlib.Core.Path.{_≡_, sym, _∙_, ap}
-use mathlib.Core.Bool.{Bool}
 use borrow.Author.Needs.{needs}
-use Rattle.texts.specs.declared.Part.{Part}
-use Rattle.texts.specs.declared.Part.the-variants.{Line, Spaces, Word}
+use Rattle.texts.specs.declared.PartKind.{PartKind}
+use Rattle.texts.specs.declared.PartKind.the-variants.{Line, Spaces, Word}
 use Rattle.texts.specs.inner.Parts.{ofPart}
 use Rattle.texts.proofs.belongs.Statement.{statement}
 use Rattle.texts.proofs.belongs.Tie as tie
 
 -- the test of a kind that is known
-known : (kind k : Part) (b : ℕ) → kind ≡ k → ofPart k b ≡ ofPart kind b
-known kind k b e = ap (λ (x : Part). ofPart x b) (sym e)
+known : (kind k : PartKind) (b : ℕ) → kind ≡ k → ofPart k b ≡ ofPart kind b
+known kind k b e = ap (λ (x : PartKind). ofPart x b) (sym e)
 
 enum-told : tie.Need-enum-told
 enum-told c = search needs

@@ -1,4 +1,4 @@
--- The derivation of `evidence::search_and_check`, a line for each step of its MIR: the borrow checker's own rules, in the order in which it applies them to the same code
+-- The derivation of `confirmed_search::search_and_check`, a line for each step of its MIR: the borrow checker's own rules, in the order in which it applies them to the same code
 -- over rows of four numbers (`derivations`).
 -- Assumes nothing.
 use Prim.Native.Nat.{suc, ℕ}

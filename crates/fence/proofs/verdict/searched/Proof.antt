@@ -17,7 +17,7 @@ slice-aggregate-search-into-2 : tie.Need-slice-aggregate-search-into-2
 slice-aggregate-search-into-2 c = sym (length-replicate {A = ℕ} 163840 0)
 
 slice-aggregate-search-into-3 : tie.Need-slice-aggregate-search-into-3
-slice-aggregate-search-into-3 c = sym (length-replicate {A = ℕ} 1102097 0)
+slice-aggregate-search-into-3 c = sym (length-replicate {A = ℕ} 1101828 0)
 
 slice-aggregate-search-into-4 : tie.Need-slice-aggregate-search-into-4
 slice-aggregate-search-into-4 c = sym (length-replicate {A = ℕ} _ 0)

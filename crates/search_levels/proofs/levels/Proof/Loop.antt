@@ -3,7 +3,7 @@
 -- Assumes nothing.
 use Prim.Native.Nat.{ℕ}
 use mathlib.Core.List.{List}
-use Rattle.search_words.specs.declared.Shape.{Shape}
+use Rattle.search_standings.specs.declared.Shape.{Shape}
 use Rattle.search_records.specs.declared.Record.{Record}
 use Rattle.search_records.specs.Rows.{rows}
 use Rattle.search_grow.specs.Kept.{state, Inside}

@@ -38,15 +38,15 @@ use Rattle.search_course.proofs.start.Kinds as start-Kinds
 use Rattle.search_course.proofs.start.Reads as start-Reads
 use Rattle.search_course.proofs.start.Symbol as start-Symbol
 use Rattle.search_levels.proofs.Contracts.Turn as Turn
-use Rattle.search_course.proofs.answer_of.Kinds as answer-of-Kinds
-use Rattle.search_course.proofs.answer_of.Reads as answer-of-Reads
-use Rattle.search_course.proofs.answer_of.Symbol as answer-of-Symbol
-use Rattle.search_course.proofs.Answer.Laws as Answer′
+use Rattle.search_course.proofs.finding_of.Kinds as finding-of-Kinds
+use Rattle.search_course.proofs.finding_of.Reads as finding-of-Reads
+use Rattle.search_course.proofs.finding_of.Symbol as finding-of-Symbol
+use Rattle.search_course.proofs.Finding.Laws as Finding′
 use Rattle.search_course.proofs.Course.Laws as Course′
-use Rattle.search_words.proofs.Shape.Laws as Shape′
+use Rattle.search_standings.proofs.Shape.Laws as Shape′
 use Rattle.search_course.proofs.Course
 use Rattle.search_records.proofs.Record
-use Rattle.search_words.proofs.Shape
+use Rattle.search_standings.proofs.Shape
 use Rattle.search_levels.proofs.levels.Code as code
 use Rattle.search_levels.proofs.levels.Proof.Loop.{Inv0, μ0}
 
@@ -95,15 +95,15 @@ module _ {M : Type 1} (𝓤 : URA M) (H : Heap 𝓤) (A : Atoms 𝓤) (W : Given
 
   module _ (start·k : Known· 𝓤 H A W 𝓣 2 start-Kinds.ps start-Kinds.r start-Reads.Asked start-Reads.Learnt start-Symbol.name)
       (turn·k : Plain.Knows Turn.spec 𝓤 H A W 𝓣)
-      (answer-of·k : Known· 𝓤 H A W 𝓣 0 answer-of-Kinds.ps answer-of-Kinds.r answer-of-Reads.Asked answer-of-Reads.Learnt answer-of-Symbol.name) where
+      (finding-of·k : Known· 𝓤 H A W 𝓣 0 finding-of-Kinds.ps finding-of-Kinds.r finding-of-Reads.Asked finding-of-Reads.Learnt finding-of-Symbol.name) where
     abbrev start· : Callee K
     start· = record { n = 2; ps = start-Kinds.ps; r = start-Kinds.r; P = start-Reads.Asked; Q = start-Reads.Learnt; name = start-Symbol.name; known = start·k }
 
     abbrev turn· : Callee K
     turn· = Plain.callee Turn.spec turn·k
 
-    abbrev answer-of· : Callee K
-    answer-of· = record { n = 0; ps = answer-of-Kinds.ps; r = answer-of-Kinds.r; P = answer-of-Reads.Asked; Q = answer-of-Reads.Learnt; name = answer-of-Symbol.name; known = answer-of·k }
+    abbrev finding-of· : Callee K
+    finding-of· = record { n = 0; ps = finding-of-Kinds.ps; r = finding-of-Kinds.r; P = finding-of-Reads.Asked; Q = finding-of-Reads.Learnt; name = finding-of-Symbol.name; known = finding-of·k }
 
     abbrev pub d : Der K (Γin 6 ps r xs 2 κs qs) (code.function .body) (Δret 6 ps r xs 2 κs qs)
     d =
@@ -134,7 +134,7 @@ module _ {M : Type 1} (𝓤 : URA M) (H : Heap 𝓤) (A : Atoms 𝓤) (W : Given
         (back U 14 8 5 7 m5·I me·I l5 (λ x. x) (λ x. x) (is K (msleft U me·I)) (is K (mslice-owed U m5·I 5 7 l5)) refl refl
         (forget 7 dead refl
         (skips tt)))))))))))))))))))
-        (calls answer-of· (record { pos = 9; st = []; d = 0; at = λ x. x }, tt) 0 [] ((copied K Course.the-type Course′.the-laws Course′.the-copy, refl), tt) (gone K Answer′.mir) tt refl
+        (calls finding-of· (record { pos = 9; st = []; d = 0; at = λ x. x }, tt) 0 [] ((copied K Course.the-type Course′.the-laws Course′.the-copy, refl), tt) (gone K Finding′.mir) tt refl
         (room 9 Course′.mir (let-go K Course.the-row)
         (room 2 I (room-sc 𝓤 H A W sI)
         (ret tt))))))

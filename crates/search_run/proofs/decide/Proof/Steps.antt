@@ -45,9 +45,9 @@ use types.Kit.{Given}
 use Rattle.derivations.proofs.Plain as Plain
 use Rattle.search_run.proofs.Contracts.Decide.{ps, r}
 use Rattle.search_records.proofs.Contracts.Count as Count
-use Rattle.search_memory.proofs.enough.Kinds as enough-Kinds
-use Rattle.search_memory.proofs.enough.Reads as enough-Reads
-use Rattle.search_memory.proofs.enough.Symbol as enough-Symbol
+use Rattle.search_shape.proofs.enough.Kinds as enough-Kinds
+use Rattle.search_shape.proofs.enough.Reads as enough-Reads
+use Rattle.search_shape.proofs.enough.Symbol as enough-Symbol
 use Rattle.search_run.proofs.Contracts.Run as Run
 use Rattle.query.proofs.Facts.Laws as Facts′
 use Rattle.search_outcomes.proofs.Outcome.Laws as Outcome′

@@ -47,33 +47,33 @@ use prog.Wp.{Env, Heap, Tables}
 use types.Kit.{Given}
 use Rattle.derivations.proofs.Plain as Plain
 use Rattle.search_run.proofs.Contracts.Run.{ps, r}
-use Rattle.search_tried.proofs.letters_tried.Kinds as letters-tried-Kinds
-use Rattle.search_tried.proofs.letters_tried.Reads as letters-tried-Reads
-use Rattle.search_tried.proofs.letters_tried.Symbol as letters-tried-Symbol
-use Rattle.search_tried.proofs.shape_of.Kinds as shape-of-Kinds
-use Rattle.search_tried.proofs.shape_of.Reads as shape-of-Reads
-use Rattle.search_tried.proofs.shape_of.Symbol as shape-of-Symbol
+use Rattle.search_shape.proofs.letters_tried.Kinds as letters-tried-Kinds
+use Rattle.search_shape.proofs.letters_tried.Reads as letters-tried-Reads
+use Rattle.search_shape.proofs.letters_tried.Symbol as letters-tried-Symbol
+use Rattle.search_shape.proofs.shape_of.Kinds as shape-of-Kinds
+use Rattle.search_shape.proofs.shape_of.Reads as shape-of-Reads
+use Rattle.search_shape.proofs.shape_of.Symbol as shape-of-Symbol
 use Rattle.search_levels.proofs.Contracts.Levels as Levels
-use Rattle.search_report.proofs.Contracts.Report as Report
-use Rattle.search_memory.proofs.records_needed.Kinds as records-needed-Kinds
-use Rattle.search_memory.proofs.records_needed.Reads as records-needed-Reads
-use Rattle.search_memory.proofs.records_needed.Symbol as records-needed-Symbol
+use Rattle.search_outcomes.proofs.Contracts.Report as Report
+use Rattle.search_shape.proofs.records_needed.Kinds as records-needed-Kinds
+use Rattle.search_shape.proofs.records_needed.Reads as records-needed-Reads
+use Rattle.search_shape.proofs.records_needed.Symbol as records-needed-Symbol
 use Rattle.search_records.proofs.Contracts.Clear as Clear
-use Rattle.search_memory.proofs.words_needed.Kinds as words-needed-Kinds
-use Rattle.search_memory.proofs.words_needed.Reads as words-needed-Reads
-use Rattle.search_memory.proofs.words_needed.Symbol as words-needed-Symbol
-use Rattle.search_memory.proofs.clear_words.Kinds as clear-words-Kinds
-use Rattle.search_memory.proofs.clear_words.Reads as clear-words-Reads
-use Rattle.search_memory.proofs.clear_words.Symbol as clear-words-Symbol
-use Rattle.search_course.proofs.Answer.Laws as Answer′
+use Rattle.search_shape.proofs.words_needed.Kinds as words-needed-Kinds
+use Rattle.search_shape.proofs.words_needed.Reads as words-needed-Reads
+use Rattle.search_shape.proofs.words_needed.Symbol as words-needed-Symbol
+use Rattle.search_shape.proofs.clear_words.Kinds as clear-words-Kinds
+use Rattle.search_shape.proofs.clear_words.Reads as clear-words-Reads
+use Rattle.search_shape.proofs.clear_words.Symbol as clear-words-Symbol
+use Rattle.search_course.proofs.Finding.Laws as Finding′
 use Rattle.query.proofs.Facts.Laws as Facts′
 use Rattle.search_outcomes.proofs.Outcome.Laws as Outcome′
-use Rattle.search_words.proofs.Shape.Laws as Shape′
-use Rattle.search_course.proofs.Answer
+use Rattle.search_standings.proofs.Shape.Laws as Shape′
+use Rattle.search_course.proofs.Finding
 use Rattle.query.proofs.Facts
 use Rattle.search_outcomes.proofs.Outcome
 use Rattle.search_records.proofs.Record
-use Rattle.search_words.proofs.Shape
+use Rattle.search_standings.proofs.Shape
 use Rattle.search_run.proofs.run.Code as code
 
 abbrev pub xs : List Ty
@@ -183,7 +183,7 @@ module _ {M : Type 1} (𝓤 : URA M) (H : Heap 𝓤) (A : Atoms 𝓤) (W : Given
           (8, any-gone (tyArray I 16)) ∷
           (9, any-gone (tyArray I 16)) ∷
           (10, any-gone Shape′.mir) ∷
-          (11, whole Answer.the-row) ∷
+          (11, whole Finding.the-row) ∷
           (12, whole Outcome.the-row) ∷
           (13, any-gone I) ∷
           (14, any-gone I) ∷
@@ -213,7 +213,7 @@ module _ {M : Type 1} (𝓤 : URA M) (H : Heap 𝓤) (A : Atoms 𝓤) (W : Given
     d2 =
         (room 25 (sliceTy se·R) (room-sslice 𝓤 H A W Record.the-row se·R 11)
         (room 27 (sliceTy se·I) (room-sslice 𝓤 H A W U se·I 12)
-        (room 11 Answer′.mir (let-go K Answer.the-row)
+        (room 11 Finding′.mir (let-go K Finding.the-row)
         (end 11 refl
         (backS Record.the-row 5 2 11 m2·R l2 (λ x. x) (is K (mslice-owedS Record.the-row m2·R 2 11 l2)) refl refl
         (forget 11 dead refl
@@ -263,7 +263,7 @@ module _ {M : Type 1} (𝓤 : URA M) (H : Heap 𝓤) (A : Atoms 𝓤) (W : Given
           (8, sc-shr (arrF U 16 0) (Array U 16) (λ x. x) 7) ∷
           (9, sc-shr (arrF U 16 0) (Array U 16) (λ x. x) 8) ∷
           (10, whole Shape.the-row) ∷
-          (11, whole Answer.the-row) ∷
+          (11, whole Finding.the-row) ∷
           (12, any-gone Outcome′.mir) ∷
           (13, any-gone I) ∷
           (14, any-gone I) ∷
@@ -317,7 +317,7 @@ module _ {M : Type 1} (𝓤 : URA M) (H : Heap 𝓤) (A : Atoms 𝓤) (W : Given
         (begin 13 fresh′′
         (relend (rtF (fInt w8)) 7 28 4 13 (tyRef (named 4) mut (tyInt w8)) (tyRef erased mut (tyInt w8)) l4 (λ x. x) (is K (mslice (rtF (fInt w8)) (tyRef (named 4) mut (tyInt w8)) 4)) (gone K (tyRef erased mut (tyInt w8))) (refl, tt, refl, refl, refl, λ b o. tt)
         (slice (rtF (fInt w8)) (asMut (rtF (fInt w8))) 28 29 13 (tyRef erased mut (tyInt w8)) (tyRef erased mut (tyInt w8)) (λ x. x) (oFld 7 ((field 1) ∷ []) I 8 λ v. lenV (v .0)) (is K (msptr (rtF (fInt w8)) (tyRef erased mut (tyInt w8)) 13)) (gone K (sliceTy (tyRef erased mut (tyInt w8)))) (reads-owed-len 𝓤 H A W (rtF (fInt w8)) (tyRef (named 4) mut (tyInt w8)) 4 13 l4 8 refl, refl) (refl, refl, λ b o k. tt)
-        (calls report· (bFld 1 ((field 1) ∷ []) 8 λ x. Facts.struct .as-values x .1 .0, (record { pos = 25; ty = se·R; ref = λ x. x }, (record { pos = 27; ty = se·I; ref = λ x. x }, (record { pos = 11; st = []; d = 0; at = λ x. x }, (record { pos = 29; ty = tyRef erased mut (tyInt w8); ref = λ x. x }, tt))))) 12 (11 ∷ 12 ∷ 13 ∷ []) ((reads-field 𝓤 H A W Facts.the-type Facts′.the-laws 1 tyBool 8 refl, refl), (spares-sslice 𝓤 H A W Record.the-row se·R 11, reads-sslice 𝓤 H A W Record.the-row se·R 11, refl, (spares-sslice 𝓤 H A W U se·I 12, reads-sslice 𝓤 H A W U se·I 12, refl, ((copied-enum K Answer.the-type Answer′.the-laws Answer′.the-copy, refl), (is K (mslice (rtF (fInt w8)) (tyRef erased mut (tyInt w8)) 13), reads-mslice 𝓤 H A W (rtF (fInt w8)) (tyRef erased mut (tyInt w8)) 13, refl, tt))))) (gone K Outcome′.mir) (tt, (tt, (tt, tt))) refl
+        (calls report· (bFld 1 ((field 1) ∷ []) 8 λ x. Facts.struct .as-values x .1 .0, (record { pos = 25; ty = se·R; ref = λ x. x }, (record { pos = 27; ty = se·I; ref = λ x. x }, (record { pos = 11; st = []; d = 0; at = λ x. x }, (record { pos = 29; ty = tyRef erased mut (tyInt w8); ref = λ x. x }, tt))))) 12 (11 ∷ 12 ∷ 13 ∷ []) ((reads-field 𝓤 H A W Facts.the-type Facts′.the-laws 1 tyBool 8 refl, refl), (spares-sslice 𝓤 H A W Record.the-row se·R 11, reads-sslice 𝓤 H A W Record.the-row se·R 11, refl, (spares-sslice 𝓤 H A W U se·I 12, reads-sslice 𝓤 H A W U se·I 12, refl, ((copied-enum K Finding.the-type Finding′.the-laws Finding′.the-copy, refl), (is K (mslice (rtF (fInt w8)) (tyRef erased mut (tyInt w8)) 13), reads-mslice 𝓤 H A W (rtF (fInt w8)) (tyRef erased mut (tyInt w8)) 13, refl, tt))))) (gone K Outcome′.mir) (tt, (tt, (tt, tt))) refl
         d2)))))))))))))))))))))))))))
 
     abbrev pub d : Der K (Γin 5 ps r xs 11 κs qs) (code.function .body) (Δret 5 ps r xs 11 κs qs)
@@ -349,5 +349,5 @@ module _ {M : Type 1} (𝓤 : URA M) (H : Heap 𝓤) (A : Atoms 𝓤) (W : Given
         (begin 10 fresh′
         (relend U 6 22 3 10 m3·I me·I l3 (λ x. x) (is K (mslice U m3·I 3)) (gone K me·I) (refl, tt, refl, refl, refl, λ b o. tt)
         (slice U (asMut U) 22 23 10 me·I me·I (λ x. x) (oFld 6 ((field 1) ∷ []) I 8 λ v. lenV (v .0)) (is K (msptr U me·I 10)) (gone K (sliceTy me·I)) (reads-owed-len 𝓤 H A W U m3·I 3 10 l3 8 refl, refl) (refl, refl, λ b o k. tt)
-        (calls levels· (record { pos = 10; st = []; d = 0; at = λ x. x }, (vAt 4 λ x. x, (record { pos = 2; ty = tyRef (named 0) imm (tyArray I 4241); ref = λ x. x }, (record { pos = 3; ty = tyRef (named 1) imm (tyArray I 4241); ref = λ x. x }, (record { pos = 18; ty = tyRef erased imm (tyArray I 16); ref = λ x. x }, (record { pos = 19; ty = tyRef erased imm (tyArray I 16); ref = λ x. x }, (record { pos = 21; ty = me·R; ref = λ x. x }, (record { pos = 23; ty = me·I; ref = λ x. x }, tt)))))))) 11 (0 ∷ 1 ∷ 7 ∷ 8 ∷ 9 ∷ 10 ∷ []) ((copied K Shape.the-type Shape′.the-laws Shape′.the-copy, refl), ((reads-sc 𝓤 H A W sI, refl), (spares-sref 𝓤 H A W (Array U 4241) (tyRef (named 0) imm (tyArray I 4241)) 0, reads-sref 𝓤 H A W (Array U 4241) (tyRef (named 0) imm (tyArray I 4241)) 0, refl, (spares-sref 𝓤 H A W (Array U 4241) (tyRef (named 1) imm (tyArray I 4241)) 1, reads-sref 𝓤 H A W (Array U 4241) (tyRef (named 1) imm (tyArray I 4241)) 1, refl, (spares-sref 𝓤 H A W (Array U 16) (tyRef erased imm (tyArray I 16)) 7, reads-sref 𝓤 H A W (Array U 16) (tyRef erased imm (tyArray I 16)) 7, refl, (spares-sref 𝓤 H A W (Array U 16) (tyRef erased imm (tyArray I 16)) 8, reads-sref 𝓤 H A W (Array U 16) (tyRef erased imm (tyArray I 16)) 8, refl, (is K (mslice Record.the-row me·R 9), reads-mslice 𝓤 H A W Record.the-row me·R 9, refl, (is K (mslice U me·I 10), reads-mslice 𝓤 H A W U me·I 10, refl, tt)))))))) (gone K Answer′.mir) (tt, (tt, (tt, (tt, (tt, (tt, tt)))))) refl
+        (calls levels· (record { pos = 10; st = []; d = 0; at = λ x. x }, (vAt 4 λ x. x, (record { pos = 2; ty = tyRef (named 0) imm (tyArray I 4241); ref = λ x. x }, (record { pos = 3; ty = tyRef (named 1) imm (tyArray I 4241); ref = λ x. x }, (record { pos = 18; ty = tyRef erased imm (tyArray I 16); ref = λ x. x }, (record { pos = 19; ty = tyRef erased imm (tyArray I 16); ref = λ x. x }, (record { pos = 21; ty = me·R; ref = λ x. x }, (record { pos = 23; ty = me·I; ref = λ x. x }, tt)))))))) 11 (0 ∷ 1 ∷ 7 ∷ 8 ∷ 9 ∷ 10 ∷ []) ((copied K Shape.the-type Shape′.the-laws Shape′.the-copy, refl), ((reads-sc 𝓤 H A W sI, refl), (spares-sref 𝓤 H A W (Array U 4241) (tyRef (named 0) imm (tyArray I 4241)) 0, reads-sref 𝓤 H A W (Array U 4241) (tyRef (named 0) imm (tyArray I 4241)) 0, refl, (spares-sref 𝓤 H A W (Array U 4241) (tyRef (named 1) imm (tyArray I 4241)) 1, reads-sref 𝓤 H A W (Array U 4241) (tyRef (named 1) imm (tyArray I 4241)) 1, refl, (spares-sref 𝓤 H A W (Array U 16) (tyRef erased imm (tyArray I 16)) 7, reads-sref 𝓤 H A W (Array U 16) (tyRef erased imm (tyArray I 16)) 7, refl, (spares-sref 𝓤 H A W (Array U 16) (tyRef erased imm (tyArray I 16)) 8, reads-sref 𝓤 H A W (Array U 16) (tyRef erased imm (tyArray I 16)) 8, refl, (is K (mslice Record.the-row me·R 9), reads-mslice 𝓤 H A W Record.the-row me·R 9, refl, (is K (mslice U me·I 10), reads-mslice 𝓤 H A W U me·I 10, refl, tt)))))))) (gone K Finding′.mir) (tt, (tt, (tt, (tt, (tt, (tt, tt)))))) refl
         d1))))))))))))))))))))))))))))

@@ -1,0 +1,2 @@
+-- What goes with each call.
+pub mod Wanted

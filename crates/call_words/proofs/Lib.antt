@@ -1,2 +1,0 @@
--- What an argument is, by the tests that it passes.
-pub mod Tested

@@ -1,2 +1,0 @@
--- What a single argument is.
-pub mod ArgumentWords

@@ -1,0 +1,2 @@
+-- A byte put back.
+pub mod Restored

@@ -1,2 +1,0 @@
--- The words of a cause that is known.
-pub mod Known

@@ -1,2 +1,0 @@
--- The words of each cause.
-pub mod CauseText

@@ -1,2 +1,0 @@
--- Pieces put one after another, and their lengths.
-pub mod Pieces

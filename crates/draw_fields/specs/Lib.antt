@@ -1,2 +1,0 @@
--- The fields of events, and of the edges of a relation.
-pub mod Fields

@@ -1,2 +1,0 @@
--- What an argument changes, by the tests on the way.
-pub mod Changes

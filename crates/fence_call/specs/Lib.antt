@@ -1,4 +1,0 @@
--- What the arguments of the program ask for.
-pub mod Arguments
--- What goes with each call.
-pub mod inner

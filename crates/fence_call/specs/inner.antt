@@ -1,2 +1,0 @@
--- What goes with each call.
-pub mod Shapes

@@ -1,2 +1,0 @@
--- The words of a refusal, piece by piece.
-pub mod Pieces

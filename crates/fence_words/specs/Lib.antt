@@ -1,2 +1,0 @@
--- What a refusal means, in words.
-pub mod Sentences

@@ -1,0 +1,2 @@
+-- The sizes are those of the definitions.
+pub mod Named

@@ -1,0 +1,2 @@
+-- Sizes by name.
+pub mod Layout

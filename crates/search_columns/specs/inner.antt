@@ -1,2 +1,0 @@
--- Words joined into columns.
-pub mod Columns

@@ -1,2 +1,0 @@
--- The memory is enough.
-pub mod Rooms

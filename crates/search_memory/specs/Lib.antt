@@ -1,2 +1,0 @@
--- What the functions of the search promise each other.
-pub mod inner

@@ -1,2 +1,0 @@
--- The lent memory is enough.
-pub mod Memory

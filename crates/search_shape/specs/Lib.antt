@@ -1,0 +1,2 @@
+-- Promises between the functions of the search.
+pub mod inner

@@ -1,2 +1,0 @@
--- The masks and the letters of level 1.
-pub mod Tried

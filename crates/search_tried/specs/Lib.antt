@@ -1,2 +1,0 @@
--- Promises between the functions of this crate.
-pub mod inner

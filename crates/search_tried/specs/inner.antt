@@ -1,2 +1,0 @@
--- The letters that are tried, and the verdict on words.
-pub mod Tried

@@ -1,2 +1,0 @@
--- Bytes are read as words as document 01 reads them.
-pub mod WordsRead

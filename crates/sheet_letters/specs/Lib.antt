@@ -1,2 +1,0 @@
--- Bytes that are a word.
-pub mod ByteWords

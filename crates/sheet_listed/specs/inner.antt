@@ -1,0 +1,2 @@
+-- The letters of one relation.
+pub mod Letters

@@ -1,2 +1,0 @@
--- The rows of M.
-pub mod Rows

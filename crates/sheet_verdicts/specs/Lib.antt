@@ -1,2 +1,0 @@
--- Promises between the functions of the sheet check.
-pub mod inner

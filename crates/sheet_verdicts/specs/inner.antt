@@ -1,2 +1,0 @@
--- A verdict, and a standing that may be listed next.
-pub mod Steps
