@@ -1,6 +1,7 @@
 // Sets of numbers below 64 as machine words: number k is a member where bit k is set. A table of such sets is a slice of rows, and a
 // row past its end is empty. In a set, members are taken lowest number first (document 01, "The form for each place"): each loop walks
 // a set by its trailing zeros, and the count of its ones falls.
+#![tactic(auto)]
 ghost use Rattle.std.specs.Prelude.{◌≡◌, cond};
 ghost use Rattle.claims.specs.Query.{bit};
 ghost use Rattle.bits.specs.Sets.{including, all_below, union_rows, meets_rows, any_member};

@@ -1,5 +1,6 @@
 // Answers of the sheet check and of the judge to bytes that are cut anywhere or have another byte somewhere, on standard output, equal ones in a
 // row counted. What is written no contract can say, and the cases compare it; the bytes are left as they were.
+#![tactic(auto)]
 ghost use Rattle.std.specs.Prelude.{◌<◌, ◌≡◌};
 
 use graph::Judged;

@@ -1,4 +1,5 @@
 // Stored cases on standard input, one a line, escaped as vectors/README.md says. The programs that run them ask for one after the other.
+#![tactic(auto)]
 ghost use Rattle.std.specs.Prelude.{◌*◌, ◌≤◌, cond, ◌≡◌, length, take};
 ghost use Rattle.case_lines.specs.Escapes.{hex_byte};
 ghost use Rattle.case_lines.specs.Fields.{Puts, digits_in, hex_bytes, hex_pairs, no_bytes, with_digit, with_digits};

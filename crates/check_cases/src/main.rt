@@ -5,6 +5,7 @@
 // - `edits`, a sheet and a query: the answers to the sheet cut anywhere, and for each place of it the answers to every byte there;
 // - `search`, an allowance and a query: the line of the query program, and behind an answer that of the check of its sheet;
 // - `whole`, the same, and for a refuted claim the drawn graph in hex and as text.
+#![tactic(auto)]
 use case_lines::{Case, Cases};
 use layout::{EDGE_BYTES, EVENT_BYTES, LONGEST_SHEET, MOST_WORDS};
 use sheets::Part;

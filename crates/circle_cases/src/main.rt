@@ -2,6 +2,7 @@
 // allowance and a query. A refuted query's sheet is checked, drawn and judged: the graph meets every line and breaks the claim. For each
 // proved query graphs are made and judged: where one meets every line, the claim holds. Whatever is otherwise is written as a line, and in
 // the end how many of each there were.
+#![tactic(auto)]
 use case_lines::{Case, Cases};
 use counts::{BREAKING, BROKEN, DRAWN, EDGED, GRAPHS, HOLDING, MEETING, MET, PASSING, REFUTED};
 use layout::{EDGE_BYTES, EVENT_BYTES, LONGEST_SHEET, MOST_WORDS};

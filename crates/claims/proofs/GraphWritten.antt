@@ -171,6 +171,7 @@ field_not_empty tag contents rest = refl
 distinct_not_before : {A : Type 0} (l : List A) {x : A} (m : List A) → Distinct (l ++ (x ∷ m)) → In x l → ⊥
 distinct_not_before (y ∷ ys) m (h, d) (here e) = h (in_append_right ys (here (sym e)))
 distinct_not_before (y ∷ ys) m (h, d) (there i) = distinct_not_before ys m d i
+distinct_not_before {A = A} [] m _ x5 = elim x5 [ ]
 
 module _ (R : Ranges) where
   one_field : (n k : ℕ) (G H : Listed) (bs : List ℕ) (f : Field) → is_empty bs ≡ false → next_field bs ≡ f → with_field R G f ≡ some H

@@ -42,6 +42,8 @@ module _ (Q : Expr → Expr → Type 0) (p : Passes Q) where
           → Q (elim z [ true ↦ b.means | false ↦ lookup nowhere n bs ]) (elim z [ true ↦ c.means | false ↦ lookup nowhere n cs ])
       go true k = f
       go false k = k
+  lookup_lifted n [] (c ∷ cs) h = elim h [ ]
+  lookup_lifted n (b ∷ bs) [] h = elim h [ ]
 
   expand_lifted : (ts : List Name) (bs cs : List (Bound Expr)) → Bindings Q bs cs → (e : Tree) → Q (expand ts bs e) (expand ts cs e)
   unfolding expand
@@ -61,6 +63,8 @@ module _ (Q : Expr → Expr → Type 0) (p : Passes Q) where
       → Bindings Q (bs ++ (b ∷ [])) (cs ++ (c ∷ []))
   one_more [] [] b c h e f = (e, f, tt)
   one_more (x ∷ bs) (y ∷ cs) b c (i, j, h) e f = (i, j, one_more bs cs b c h e f)
+  one_more [] (y ∷ cs) b c h e f = elim h [ ]
+  one_more (x ∷ bs) [] b c h e f = elim h [ ]
 
   lets_lifted : (ts : List Name) (bs cs : List (Bound Expr)) → Bindings Q bs cs → (ds : List (Bound Tree))
       → Bindings Q (bound_lets (expand ts) bs ds) (bound_lets (expand ts) cs ds)

@@ -88,6 +88,7 @@ over_apart rs xs Q R =
 in_place : (a : ℕ) (l : List ℕ) → In a l → (i : ℕ) × (i < length l) × (get_or l i 0 ≡ a)
 in_place a (b ∷ bs) (here e) = (0, omega arith, sym e)
 in_place a (b ∷ bs) (there j) = let (i, h, e) = in_place a bs j in (suc i, omega arith, e)
+in_place a [] x' = elim x' [ ]
 
 module _ (G : Finite) (n : ℕ) where
   -- what is listed is an edge between events

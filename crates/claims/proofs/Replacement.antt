@@ -14,7 +14,7 @@ use Rattle.kat.specs.Lists.{In, here, there}
 use Rattle.kat.specs.Graph.{Graph, Rel, Plus, once, more}
 use Rattle.kat.proofs.Sets.{some_in}
 use Rattle.notation.specs.Bytes.{same}
-use Rattle.notation.specs.Tree.{Name, TestTree, Tree, Line, within_line, closed_line}
+use Rattle.notation.specs.Tree.{Name, TestTree, Tree, Line, within_line, closed_line, test_line, rel_line, never_line, let_line, claim_line, assume_irreflexive, assume_empty}
 use Rattle.notation.specs.Query.{Query, Limit, each, index_of, tests, relations, limits, closed_names, closed, holds}
 use Rattle.notation.specs.Expanded.{Expanded, step_of, test_of, sequence_of, plus_of, bounded, stands_for}
 use Rattle.notation.specs.Sides.{meant, single, expr_of, replaced, side}
@@ -30,10 +30,29 @@ limit_line n (within_line m t u) b i = go (same n m) refl i
         → within_line m t u ≡ within_line n b.from b.to
     go true e (here h) =
         ap (λ k. within_line k t u) (sym (same_is_equal n m e)) ∙ ap (λ (z : Limit). within_line n z.from z.to) (sym h)
+    go true e (there x7) = elim x7 [ ]
+    go false e x3 = elim x3 [ ]
+limit_line n (closed_line _) b i = elim i [ ]
+limit_line n (test_line _) b i = elim i [ ]
+limit_line n (rel_line _) b i = elim i [ ]
+limit_line n (never_line _) b i = elim i [ ]
+limit_line n (let_line _ _) b i = elim i [ ]
+limit_line n (claim_line _) b i = elim i [ ]
+limit_line n (assume_irreflexive _) b i = elim i [ ]
+limit_line n (assume_empty _) b i = elim i [ ]
 
 closing_line : (n : Name) (l : Line) → In n (closed_names l) → l ≡ closed_line n
 unfolding closed_names
 closing_line n (closed_line m) (here e) = ap closed_line (sym e)
+closing_line n (within_line _ _ _) x8 = elim x8 [ ]
+closing_line n (closed_line m) (there x9) = elim x9 [ ]
+closing_line n (test_line _) x'' = elim x'' [ ]
+closing_line n (rel_line _) x3 = elim x3 [ ]
+closing_line n (never_line _) x5 = elim x5 [ ]
+closing_line n (let_line _ _) x5 = elim x5 [ ]
+closing_line n (claim_line _) x10 = elim x10 [ ]
+closing_line n (assume_irreflexive _) x9 = elim x9 [ ]
+closing_line n (assume_empty _) x8 = elim x8 [ ]
 
 pub closed_line_lem : (q : Query) (n : Name) → closed q n ≡ true → In (closed_line n) q
 unfolding closed

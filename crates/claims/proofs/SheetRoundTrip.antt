@@ -42,6 +42,7 @@ module _ (S : System) where
     where
       last : (t : S.Standing) → In t (s ∷ []) → In t ss → ⊥
       last t (here e) j = n (subst (λ x. In x ss) e j)
+      last t (there x6) j = elim x6 [ ]
 
   -- a list of distinct standings repeats none, where the test of equality finds only equal ones
   pub distinct_none_repeated : ((s t : S.Standing) → S.equal s t ≡ true → s ≡ t) → (ss : List S.Standing) → Distinct ss

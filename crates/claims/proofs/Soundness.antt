@@ -25,7 +25,7 @@ use Rattle.kat.proofs.Words.{atom_is_word}
 use Rattle.kat.proofs.Decided.{language_decided}
 use Rattle.kat.proofs.Turns.{join_nothing, start_join}
 use Rattle.kat.proofs.Traces.{Trace, trace_join, trace_of_walk, walk_of_trace, trace_start, trace_times}
-use Rattle.notation.specs.Tree.{TestTree, Tree, Claim, includes, empty, irreflexive, Line, never_line, within_line, closed_line, assume_empty, assume_irreflexive}
+use Rattle.notation.specs.Tree.{TestTree, Tree, Claim, includes, empty, irreflexive, Line, never_line, within_line, closed_line, assume_empty, assume_irreflexive, test_line, rel_line, let_line, claim_line}
 use Rattle.notation.specs.Query.{Query, each, tests, relations, holds, atoms, removed, live, nevers, assumed_empty, assumed_irreflexive}
 use Rattle.notation.specs.Sides.{side, union_all, a0, a1, zero, somewhere, decision, decision_of}
 use Rattle.notation.specs.Words.{Guarded, Refutes}
@@ -36,14 +36,41 @@ use Rattle.claims.proofs.Replacement.{side_means_the_same}
 empty_line : (e : Tree) (l : Line) → In e (assumed_empty l) → l ≡ assume_empty e
 unfolding assumed_empty
 empty_line e (assume_empty f) (here h) = ap assume_empty (sym h)
+empty_line e (within_line _ _ _) x8 = elim x8 [ ]
+empty_line e (never_line _) x5 = elim x5 [ ]
+empty_line e (closed_line _) x7 = elim x7 [ ]
+empty_line e (assume_irreflexive _) x9 = elim x9 [ ]
+empty_line e (assume_empty f) (there x10) = elim x10 [ ]
+empty_line e (test_line _) x'' = elim x'' [ ]
+empty_line e (rel_line _) x3 = elim x3 [ ]
+empty_line e (let_line _ _) x5 = elim x5 [ ]
+empty_line e (claim_line _) x10 = elim x10 [ ]
 
 irreflexive_line : (e : Tree) (l : Line) → In e (assumed_irreflexive l) → l ≡ assume_irreflexive e
 unfolding assumed_irreflexive
 irreflexive_line e (assume_irreflexive f) (here h) = ap assume_irreflexive (sym h)
+irreflexive_line e (within_line _ _ _) x8 = elim x8 [ ]
+irreflexive_line e (never_line _) x5 = elim x5 [ ]
+irreflexive_line e (closed_line _) x7 = elim x7 [ ]
+irreflexive_line e (assume_irreflexive f) (there x11) = elim x11 [ ]
+irreflexive_line e (assume_empty _) x8 = elim x8 [ ]
+irreflexive_line e (test_line _) x'' = elim x'' [ ]
+irreflexive_line e (rel_line _) x3 = elim x3 [ ]
+irreflexive_line e (let_line _ _) x5 = elim x5 [ ]
+irreflexive_line e (claim_line _) x10 = elim x10 [ ]
 
 never_line_lem : (t : TestTree) (l : Line) → In t (nevers l) → l ≡ never_line t
 unfolding nevers
 never_line_lem t (never_line u) (here h) = ap never_line (sym h)
+never_line_lem t (within_line _ _ _) x8 = elim x8 [ ]
+never_line_lem t (never_line u) (there x7) = elim x7 [ ]
+never_line_lem t (closed_line _) x7 = elim x7 [ ]
+never_line_lem t (assume_irreflexive _) x9 = elim x9 [ ]
+never_line_lem t (assume_empty _) x8 = elim x8 [ ]
+never_line_lem t (test_line _) x'' = elim x'' [ ]
+never_line_lem t (rel_line _) x3 = elim x3 [ ]
+never_line_lem t (let_line _ _) x5 = elim x5 [ ]
+never_line_lem t (claim_line _) x10 = elim x10 [ ]
 
 module _ (G : Graph) where
   -- a union relates what one of its members does

@@ -1,6 +1,7 @@
 // The bytes of a drawn graph, from the numbers of a word: the events with their atoms, then the edges by relation, from and to. (Document 01,
 // "Words", Drawn graph, and "Sheet and graph bytes".) They can be counted before they are written; what does not fit is not written. The
 // numbers of events and of relations are bytes, as those in the fields are, so that no count is too large.
+#![tactic(auto)]
 ghost use Rattle.std.specs.Prelude.{ℕ, ◌≤◌, ◌≡◌, List, get_or, length};
 ghost use Rattle.claims.specs.GraphWriting.{event_field, edge_field, edge_of};
 ghost use Rattle.print_line.specs.Puts.{Puts};

@@ -4,6 +4,7 @@
 // long, whatever follows, so no more are read. A sheet is read up to the longest one's bytes and a standing more: a longer one has a field within them
 // that is wrong, the 4,097th standing at the latest, or the field behind a refuted sheet's word, so that it is refused alike. Each kind of call
 // has its own memory.
+#![tactic(auto)]
 use arguments::Call;
 use libc::STDERR_FILENO;
 use sheets::OfSheet;

@@ -1,4 +1,5 @@
 // Reads one query from standard input, of any number of bytes, and writes what the reader says of it.
+#![tactic(auto)]
 use libc::STDOUT_FILENO;
 
 fn main() {

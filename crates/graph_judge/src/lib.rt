@@ -1,6 +1,7 @@
 // The judge over the codes of a query: expressions are worked out as they come, each let once, at its line, and the end of a line looks at the
 // tables that wait. (Document 01, "Sheet and graph bytes", last paragraph.) The first broken line and what breaks the claim are kept. What is
 // required of a state is what the loop over the codes keeps: the places of tables and the number of a line are sums.
+#![tactic(auto)]
 ghost use Rattle.std.specs.Prelude.{◌+◌, ◌^◌, ◌≤◌, ◌<◌, ◌≡◌, false, cond, not, ◌&&◌, eqb};
 ghost use Rattle.rows.specs.Rows.{lowest_pair};
 ghost use Rattle.side_items.specs.Items.{paired};

@@ -1,6 +1,7 @@
 // Runs the stored cases of the judge. Standard input has a case a line, a graph and a query, escaped as vectors/README.md says: at first the
 // line of the judgement is written; behind a line `edits` the answers to the graph cut anywhere, and for each place of it those to every byte
 // there.
+#![tactic(auto)]
 use case_checks::Asked;
 use case_lines::{Case, Cases};
 use libc::STDOUT_FILENO;

@@ -1,6 +1,7 @@
 // The line of the judgement of a graph, from the bytes of the query and of the graph, and what it means in words, as bytes in lent memory.
 // (Document 01, "Sheet and graph bytes", last paragraph.) Whatever does not fit is not written; for memory that is long enough the whole line
 // stands there.
+#![tactic(auto)]
 ghost use Rattle.std.specs.Prelude.{◌+◌, [], ◌∷◌, ◌++◌, ◌≡◌};
 ghost use Rattle.claims.specs.Bytes.{text as quoted};
 ghost use Rattle.claims.specs.Printed.{decimal};

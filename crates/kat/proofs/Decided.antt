@@ -7,7 +7,7 @@ use mathlib.Core.Logic.◌⊎◌.{inl, inr}
 use mathlib.Core.Bool.{Bool, true}
 use mathlib.Core.List.{List, [], ◌∷◌}
 use Rattle.kat.specs.Expr.{Expr}
-use Rattle.kat.specs.Lists.{In, here}
+use Rattle.kat.specs.Lists.{In, here, there}
 use Rattle.kat.specs.Word.{Word, end, at}
 use Rattle.kat.specs.Language.{Lang}
 use Rattle.kat.specs.Tables.{Reads, after, ends}
@@ -37,6 +37,7 @@ accepted E w = (
   where
     own : (p : ℕ) → In p (0 ∷ []) → Reads E p w → Reads E 0 w
     own p (here e) t = subst (λ q. Reads E q w) e t
+    own p (there x4) t = elim x4 [ ]
 
 -- a word is in the language or it is not
 pub language_decided : (E : Expr) (w : Word) → Lang E w ⊎ (Lang E w → ⊥)

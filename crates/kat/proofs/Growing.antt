@@ -36,10 +36,12 @@ cut_grown l u (then w c k) a r e h =
 
 nothing_joined : (u v : Prefix) → nothing ≡ join u v → NonEmpty v → ⊥
 nothing_joined u (then v a r) e h = nothing_is_not_longer e
+nothing_joined u nothing e h = elim h [ ]
 
 -- a prefix with a relation has its own first atom
 pub start_own : (b c : ℕ) (l : Prefix) → NonEmpty l → start b l ≡ start c l
 start_own b c (then l a r) h = refl
+start_own b c nothing h = elim h [ ]
 
 nonempty_or_not : (l : Prefix) → NonEmpty l ⊎ (l ≡ nothing)
 nonempty_or_not nothing = inr refl

@@ -139,6 +139,7 @@ module _ (E : Expr) (p : ℕ) (N : ℕ → ℕ → Bool) (same : (q a : ℕ) →
       let t : Ways N E 0 (then l b s) o = ways_of_way (then l b s) o tt w in
       let (lo, hi) = ways_range E 0 t in
       grows (then l b s) o a r q t (next_follows E o q a lo ∙ n) m
+  ways_of_way nothing q h _ = elim h [ ]
 
 -- the occurrences that can have read the last relation of a prefix are those on which the ways through the tables end
 pub read_is_way : (E : Expr) (l : Prefix) (q : ℕ) → NonEmpty l → ReadsTo E 0 l q ↔ Way E 0 l q

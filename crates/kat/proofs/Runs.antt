@@ -32,6 +32,7 @@ reads_positive E q r m = let (a, b) = reads_range E 0 q r m in a
 -- where a way has read a letter it ends on an occurrence of the expression
 pub way_range : (E : Expr) (p : ℕ) (l : Prefix) (q : ℕ) → NonEmpty l → Way E p l q → (1 ≤ q) × (q ≤ occurrences E)
 way_range E p (then l a r) q h (o, w, n, m) = let (lo, hi) = reads_range E 0 q r m in (omega arith, omega arith)
+way_range E p nothing q h _ = elim h [ ]
 
 -- after an occurrence, the tables read what the expression can still read to its end
 pub rest_of_reads : (E : Expr) (w : Word) (p : ℕ) → 0 < p → Reads E p w → Rest E 0 p w (end (last w))
@@ -48,6 +49,7 @@ reads_of_rest E (end a) (suc p) h t = go (cut_rest E 0 (suc p) (end a) (end a) t
     go : ((lasts E 0 (suc p) a ≡ true) × (end a ≡ end a)) ⊎ Goes (follows E 0 (suc p)) (reads E 0) (λ q w. Rest E 0 q w (end a)) (end a)
         → lasts E 0 (suc p) a ≡ true
     go (inl (n, e)) = n
+    go (inr x5) = elim x5 [ ]
 reads_of_rest E (at a r w) zero h t = absurd (omega arith)
 reads_of_rest E (at a r w) (suc p) h t = go (cut_rest E 0 (suc p) (at a r w) (end (last w)) t) (reads_of_rest E w)
   where
@@ -66,6 +68,7 @@ language_is_read E w = (to E w, from E w)
       where
         go : ((null E a ≡ true) × (end a ≡ end a)) ⊎ Goes (firsts E 0) (reads E 0) (λ q w. Rest E 0 q w (end a)) (end a) → null E a ≡ true
         go (inl (n, e)) = n
+        go (inr x'') = elim x'' [ ]
     to E (at a r w) h = go (cut_rel E 0 (at a r w) (end (last w)) h)
       where
         go : ((null E a ≡ true) × (at a r w ≡ end (last w)))

@@ -42,6 +42,7 @@ module _ {A : Type 0} where
   pub every_in : (p : A → Bool) {x : A} {l : List A} → every p l ≡ true → In x l → p x ≡ true
   every_in p {x} {l = y ∷ ys} e (here q) = subst (λ z. p z ≡ true) (sym q) (and_left (p y) (every p ys) e)
   every_in p {x} {l = y ∷ ys} e (there i) = every_in p (and_right (p y) (every p ys) e) i
+  every_in p {x = x} {l = []} e x6 = elim x6 [ ]
 
   pub in_every : (p : A → Bool) (l : List A) → ((x : A) → In x l → p x ≡ true) → every p l ≡ true
   in_every p [] h = refl

@@ -25,6 +25,7 @@ join_nothing (then l a r) = ap (λ x. then x a r) (join_nothing l)
 pub start_join : (b c : ℕ) (v u : Prefix) → NonEmpty v → start b (join v u) ≡ start c v
 start_join b c (then v a r) nothing h = refl
 start_join b c (then v a r) (then u d s) h = start_join d c (then v a r) u h
+start_join b c nothing u h = elim h [ ]
 
 pub way_join : (E : Expr) (p : ℕ) (u v : Prefix) (q : ℕ) → Way E p (join u v) q ↔ ((o : ℕ) × Way E p u o × Way E o v q)
 way_join E p u nothing q = ((λ h. (q, h, refl)), (λ (o, h, e). subst (Way E p u) e h))

@@ -129,6 +129,7 @@ module _ (E : Expr) (k : ℕ) (A : Beginning E k) where
 
   cut_end : (c : Bool) (N : ℕ → ℕ → Bool) (a : ℕ) → Cut c N E k (end a) (end a) → c ≡ true
   cut_end c N a (inl (n, e)) = n
+  cut_end c N a (inr x') = elim x' [ ]
 
   -- at atom a, E may have ended: nothing was read, or a way has read the prefix up to an occurrence that may be last
   abbrev pub EndedAt : Prefix → ℕ → Type 0

@@ -1,6 +1,7 @@
 // Sizes that document 01 gives, by name: the width of a ring's tables, the memory of a ring standing, the bytes of a sheet's fields, the
 // longest query, sheet and graph, and the program's allowance. (Document 01, "Standings", "Sheet and graph bytes" and "The desk's cases".) Whoever needs such a number takes it from here;
 // `proofs/Named.antt` shows that each is the number of the definitions. No code.
+#![tactic(auto)]
 
 // How many numbers a ring's tables are over: 0, and the right occurrences of a ring claim.
 pub const WIDTH: usize = 32;

@@ -1,5 +1,6 @@
 // Runs the stored cases for reading. Standard input has one query a line, escaped as vectors/README.md says; for each the program writes
 // what the reader says of it. Of a query 4,097 bytes are kept: from there on it is too long, whatever follows.
+#![tactic(auto)]
 use case_lines::{Case, Cases};
 use libc::STDOUT_FILENO;
 

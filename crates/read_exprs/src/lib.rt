@@ -2,6 +2,7 @@
 // query".) They call each other for what stands in round brackets, and the readers of T for what stands in square ones. Operators and
 // postfixes are read by loops, so that only brackets take the machine's stack. At each round bracket two numbers fall: how many may still be
 // opened, and the bytes left.
+#![tactic(auto)]
 ghost use Rattle.std.specs.Prelude.{◌≡◌, ◌≤◌};
 ghost use Rattle.claims.specs.Lines.{expression};
 ghost use Rattle.read_next.specs.Next.{mark_next};

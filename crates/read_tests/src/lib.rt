@@ -3,6 +3,7 @@
 // one is only remembered, since a fault of the notation further on in the line comes first. Operators and prefix `!` are read by loops,
 // so that only brackets take the machine's stack. At each bracket two numbers fall: how many may still be opened, and the bytes left. The
 // place of a reader serves the readers of E too.
+#![tactic(auto)]
 ghost use Rattle.std.specs.Prelude.{◌≡◌, ◌≤◌};
 ghost use Rattle.claims.specs.Lines.{condition};
 ghost use Rattle.memory.specs.Memory.{zeros};

@@ -1,6 +1,7 @@
 // Relations on at most 64 events as tables of 64 rows: bit y of row x is the pair from event x to event y. (Document 01, "Sheet and graph
 // bytes", last paragraph.) `|`, `;`, `?` and `[T]` give each row from its number and what stands there. `+` goes by rounds: in round k a row
 // that has k is joined with row k, which itself does not change. A row past a table is empty.
+#![tactic(auto)]
 ghost use Rattle.std.specs.Prelude.{◌≡◌, cond, length};
 ghost use Rattle.std.specs.Int.Bits.{bit_or};
 ghost use Rattle.claims.specs.Query.{bit};

@@ -1,6 +1,7 @@
 // Runs the stored cases of the search at any allowance. Standard input has an allowance, a space and a query a line, escaped as
 // vectors/README.md says; for each the program writes the line of the query program. Behind a line that is the word `sheet` it writes the
 // bytes of the sheet in hex instead, or the refusal.
+#![tactic(auto)]
 use case_lines::{Case, Cases};
 use layout::{MOST_STANDINGS, RING_FIELD, RING_WORDS, VERDICT};
 use libc::STDOUT_FILENO;

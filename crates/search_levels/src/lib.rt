@@ -3,6 +3,7 @@
 // empty prefix, place i + 1 is standing i. The standing past the allowance is counted and not kept. A turn loads a record, steps, looks a
 // candidate up, decides, and keeps a record; only `turn` and `levels` know the records, and they know nothing else. What is required
 // of the room is what the search call has tested (refusal 9), and of the relations what the reader lets through.
+#![tactic(auto)]
 ghost use Rattle.std.specs.Prelude.{ℕ, suc, ◌-◌, ◌≤◌, ◌<◌, ◌≡◌, List, length};
 ghost use Rattle.search_standings.specs.declared.Shape.{Shape};
 ghost use Rattle.search_records.specs.Rows.{rows, record_at};

@@ -1,6 +1,7 @@
 // The working memory of a path claim: one record of 32 bytes for each standing, its P, its S, the place of its parent, and its letter.
 // A parent's place is 0 for the empty prefix, and i + 1 for standing i; a letter is 16 * atom + relation. (Document 01, "Standings".)
 // What is required is that as many records were lent as are looked at, which the search call has tested (refusal 9).
+#![tactic(auto)]
 ghost use Rattle.std.specs.Prelude.{◌≤◌, ◌≡◌, cond, length, get_or, set};
 ghost use Rattle.claims.specs.Calls.{cleared};
 ghost use Rattle.search_records.specs.Records.{blank, Found};

@@ -2,6 +2,7 @@
 // memories are lent, and only that of the claim's kind is used: a record for each standing of a path claim, by value here, and RING_WORDS
 // words for each one of a ring claim. A parent is a place: 0 is the empty prefix, i + 1 is standing i. A letter is 16 * atom + relation. What is
 // required of the room is what the search call has tested (refusal 9).
+#![tactic(auto)]
 ghost use Rattle.std.specs.Prelude.{ℕ, ◌+◌, ◌*◌, ◌≤◌, ◌≡◌, true, false, List, [], ◌∷◌, length, take};
 ghost use Rattle.search_standings.specs.Systems.{width};
 ghost use Rattle.search_records.specs.Rows.{record_at};

@@ -1,6 +1,7 @@
 // Completion of ring standings on cells: whether the completed ring is covered, and whether a standing completes a refuting word. (Document
 // 01, "Standings".) The turns of M are closed once, on its rows: in round k a row that has k is joined with row k, which itself does not
 // change. P is read as one word, so its cells have to be of four bytes, below CELL.
+#![tactic(auto)]
 ghost use Rattle.std.specs.Prelude.{◌+◌, ◌≤◌, ◌<◌, ℕ, ◌≡◌, cond, ◌||◌, not, ◌&&◌, length, get_or};
 ghost use Rattle.std.specs.Int.Bits.{bit_or};
 ghost use Rattle.kat.specs.Lists.{member, is_empty};

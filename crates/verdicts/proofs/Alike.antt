@@ -9,7 +9,7 @@ use mathlib.Core.Logic.{⊎_elim}
 use mathlib.Core.Bool.{Bool, true, false, ◌&&◌}
 use mathlib.Core.List.{List, [], ◌∷◌}
 use Rattle.kat.specs.Expr.{Expr}
-use Rattle.kat.specs.Lists.{In, here, upto, filter, some, member}
+use Rattle.kat.specs.Lists.{In, here, upto, filter, some, member, there}
 use Rattle.kat.specs.Tables.{occurrences, reads, null, next, stop, after, ends}
 use Rattle.kat.proofs.Bools.{bool_ext, le_or_lt, and_left, and_right, and_both, true_not_false, false_not_true}
 use Rattle.kat.proofs.Sets.{some_in, in_some, every_in, filter_in, in_filter, filter_same, some_same, in_upto, upto_in}
@@ -32,6 +32,7 @@ after_equal E P a b r h k =
 
 only : (p o : ℕ) → In o (p ∷ []) → o ≡ p
 only p o (here e) = e
+only p o (there x3) = elim x3 [ ]
 
 module _ (E : Expr) (a b : ℕ) where
   -- after p, the same occurrences that read r may come next

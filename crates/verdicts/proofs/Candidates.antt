@@ -145,3 +145,4 @@ module _ (S : System) where
       go [] q (here k) f = elim (subst (In b) (ap (λ y. S.finals y.standing) k ∙ q) j) [ ]
       go [] q (there k) f = f (sym (passed_over e es q) ∙ h) k
       go (a ∷ as') q k f = none_not_some (sym h ∙ taken e es a as' q)
+  completed_none [] h x b i j = elim i [ ]

@@ -22,6 +22,7 @@ module _ {A : Type 0} where
   pub distinct_apart : (xs ys : List A) → Distinct (xs ++ ys) → (x : A) → In x xs → In x ys → ⊥
   distinct_apart (y ∷ xs) ys d x (here e) j = d.0 (in_append_right xs (subst (λ z. In z ys) e j))
   distinct_apart (y ∷ xs) ys d x (there i) j = distinct_apart xs ys d.1 x i j
+  distinct_apart [] ys d x x5 j = elim x5 [ ]
 
   pub distinct_second : (xs ys : List A) → Distinct (xs ++ ys) → Distinct ys
   distinct_second [] ys d = d
@@ -63,3 +64,4 @@ module _ {A B : Type 0} (f : A → B) where
       absurd (d.0 (subst (λ b. In b (map f xs)) (sym (sym (ap f p) ∙ e)) (in_map f j)))
   settled_by_image (z ∷ xs) d (there i) (here q) e = absurd (d.0 (subst (λ b. In b (map f xs)) (e ∙ ap f q) (in_map f i)))
   settled_by_image (z ∷ xs) d (there i) (there j) e = settled_by_image xs d.1 i j e
+  settled_by_image {y = y} [] d x5 _ e = elim x5 [ ]

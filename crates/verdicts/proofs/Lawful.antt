@@ -9,7 +9,7 @@ use mathlib.Core.List.{List, [], ◌∷◌}
 use lib.Dec.{eqb}
 use borrow.Author.Tests.{eqb-true, eq-eqb}
 use Rattle.kat.specs.Expr.{Expr}
-use Rattle.kat.specs.Lists.{upto, member, is_empty, In, here}
+use Rattle.kat.specs.Lists.{upto, member, is_empty, In, here, there}
 use Rattle.kat.specs.Tables.{occurrences, reads, null, after, ends}
 use Rattle.kat.proofs.Sets.{filter_in, member_in, filter_none}
 use Rattle.kat.proofs.Bools.{and_left, and_right, and_both}
@@ -143,6 +143,10 @@ module _ (D : Decision) (s : Ring) where
     where
       go : (m e n : Bool) → member s.first D.live ≡ m → In a (cond (m && e && n) (s.first ∷ []) []) → In a D.live
       go true true true h (here q) = subst (λ b. In b D.live) (sym q) (member_in s.first D.live h)
+      go true true true h (there x12) = elim x12 [ ]
+      go true true false h x8 = elim x8 [ ]
+      go true false n h x5 = elim x5 [ ]
+      go false e n h x'' = elim x'' [ ]
 
 pub ring_lawful : (D : Decision) → Rising D.live → Lawful (ring_system D)
 unfolding ring_step

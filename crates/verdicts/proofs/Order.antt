@@ -26,6 +26,9 @@ earlier_trans (then l a r) (then m b q) (then n c s) (inl p) (inr (e, k)) = inl 
 earlier_trans (then l a r) (then m b q) (then n c s) (inr (e, k)) (inl h) = inl (subst (λ x. Earlier x n) (sym e) h)
 earlier_trans (then l a r) (then m b q) (then n c s) (inr (e, k)) (inr (f, j)) =
     inr (e ∙ f, sooner_trans (letter_of a r) (letter_of b q) (letter_of c s) k j)
+earlier_trans nothing m n x'' _ = elim x'' [ ]
+earlier_trans (then l a r) nothing n x5 _ = elim x5 [ ]
+earlier_trans (then l a r) (then m b q) nothing _ x9 = elim x9 [ ]
 
 pub not_later_trans : (l m n : Prefix) → NotLater l m → NotLater m n → NotLater l n
 not_later_trans l m n (inl e) q = subst (λ x. NotLater x n) (sym e) q
@@ -51,6 +54,8 @@ earlier_words (then l a r) (then m b q) u v (inl p) = earlier_words l m (at a r 
 earlier_words (then l a r) (then m b q) u v (inr (e, k)) =
     subst (λ x. NotAfter (numbers (onto l (at a r u))) (numbers (onto x (at b q v)))) e
     (same_prefix l (at a r u) (at b q v) (sooner_words a r b q u v k))
+earlier_words nothing m u v x' = elim x' [ ]
+earlier_words (then l a r) nothing u v x3 = elim x3 [ ]
 
 -- of two words with a prefix and one atom
 pub earlier_word : (l m : Prefix) (a b : ℕ) → Earlier l m → NotAfter (numbers (onto l (end a))) (numbers (onto m (end b)))
@@ -65,6 +70,8 @@ not_after_both (x ∷ xs) (y ∷ ys) (inl p) (inl q) = absurd (omega arith)
 not_after_both (x ∷ xs) (y ∷ ys) (inl p) (inr (e, q)) = absurd (omega arith)
 not_after_both (x ∷ xs) (y ∷ ys) (inr (e, p)) (inl q) = absurd (omega arith)
 not_after_both (x ∷ xs) (y ∷ ys) (inr (e, p)) (inr (f, q)) = ap₂ ◌∷◌ e (not_after_both xs ys p q)
+not_after_both [] (y ∷ ys) p q = elim q [ ]
+not_after_both (x ∷ xs) [] p q = elim p [ ]
 
 -- the numbers tell the word
 abbrev tail_of : List ℕ → List ℕ

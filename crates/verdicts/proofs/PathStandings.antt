@@ -8,7 +8,7 @@ use mathlib.Core.Logic.{◌↔◌}
 use mathlib.Core.Bool.{Bool, true, false, not, ◌&&◌}
 use mathlib.Core.List.{List, [], ◌∷◌}
 use Rattle.kat.specs.Expr.{Expr}
-use Rattle.kat.specs.Lists.{In, here}
+use Rattle.kat.specs.Lists.{In, here, there}
 use Rattle.kat.specs.Word.{end}
 use Rattle.kat.specs.Language.{Lang}
 use Rattle.kat.specs.Ring.{Prefix, nothing, then, onto}
@@ -29,6 +29,7 @@ just_read_begin E a r q = (
   where
     zero_only : (p : ℕ) → In p (0 ∷ []) → 0 ≡ p
     zero_only p (here e) = sym e
+    zero_only p (there x3) = elim x3 [ ]
 
 pub just_read_onward : (E : Expr) (l : Prefix) (P : List ℕ) (a r : ℕ) → JustRead E l P → JustRead E (then l a r) (after E P a r)
 just_read_onward E l P a r h q = (

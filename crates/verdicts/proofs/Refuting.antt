@@ -6,7 +6,7 @@ use mathlib.Core.Path.{◌≡◌, refl, sym, ◌∙◌, subst}
 use mathlib.Core.Logic.{◌↔◌}
 use mathlib.Core.Bool.{Bool, true, false, not, cond, ◌&&◌}
 use mathlib.Core.List.{[], ◌∷◌}
-use Rattle.kat.specs.Lists.{In, here, member}
+use Rattle.kat.specs.Lists.{In, here, member, there}
 use Rattle.kat.specs.Word.{Word, end, at, first, last}
 use Rattle.kat.specs.Language.{Lang}
 use Rattle.kat.specs.Ring.{Prefix, nothing, then, onto, body, Covered}
@@ -111,6 +111,7 @@ module _ (D : Decision) where
     where
       own : In a (x ∷ []) → (true ≡ true) × (a ≡ x)
       own (here e) = (refl, e)
+      own (there x4) = elim x4 [ ]
   in_cond a x false = ((λ i. elim i [ ]), (λ (c, e). absurd (true_not_false c refl)))
 
   -- the ring closes: the last atom is the first one

@@ -10,7 +10,7 @@ use mathlib.Core.Logic.◌⊎◌.{inl, inr}
 use mathlib.Core.Bool.{Bool, true, ◌&&◌, ◌||◌}
 use mathlib.Core.List.{List, [], ◌∷◌, map}
 use lib.ListN.{length-map}
-use Rattle.kat.specs.Lists.{In, here, upto, some, member}
+use Rattle.kat.specs.Lists.{In, here, upto, some, member, there}
 use Rattle.kat.specs.Ring.{Prefix, nothing, then}
 use Rattle.kat.specs.Tables.{occurrences, reads, next, null, after, ends}
 use Rattle.kat.specs.Way.{Way}
@@ -40,6 +40,7 @@ module _ (D : Decision) where
     where
       own : (o : ℕ) → In o (p ∷ []) → p ≡ o
       own o (here e) = sym e
+      own o (there x3) = elim x3 [ ]
 
   -- no row of the first table N holds anything
   pub begin_n : (q p : ℕ) → In p (row (map (λ (o : ℕ). []) (states D)) q) → ⊥
