@@ -10,7 +10,7 @@ ghost use Rattle.arguments.specs.inner.Wanted.{wanted_by};
 use layout::{MOST_STANDINGS, PROGRAM_ALLOWANCE};
 
 // Which call the first argument names.
-#[derive(Drop)]
+#[derive(Clone, Copy)]
 pub enum Verb {
     Query,
     Sheet,
@@ -22,7 +22,7 @@ pub enum Verb {
 }
 
 // What an argument behind the first is.
-#[derive(Drop)]
+#[derive(Clone, Copy)]
 enum Kind {
     Allowance,
     Dot,
@@ -31,7 +31,7 @@ enum Kind {
 }
 
 // An allowance, or an argument that is none.
-#[derive(Drop)]
+#[derive(Clone, Copy)]
 enum Count {
     Of(usize),
     Nothing,
@@ -127,7 +127,7 @@ fn count_in(word: &[u8]) -> Count
 
 // What the arguments so far say: the call, the allowance, whether the next argument is the allowance, whether the graph is asked for as text,
 // the arguments that name the query and the sheet or graph, and the first one that does not fit.
-#[derive(Drop)]
+#[derive(Clone, Copy)]
 pub struct Seen {
     pub verb: Verb,
     pub allowance: usize,
@@ -139,7 +139,7 @@ pub struct Seen {
 }
 
 // The call with its allowance or its form, and its files. A wrong one has the argument that does not fit; a short one lacks an argument.
-#[derive(Drop)]
+#[derive(Clone, Copy)]
 pub enum Call {
     Query(usize, usize),
     Sheet(usize, usize),
@@ -152,7 +152,7 @@ pub enum Call {
 }
 
 // How many files a call names at most, whether it has an allowance, whether it draws, and whether it is one.
-#[derive(Drop)]
+#[derive(Clone, Copy)]
 struct Wanted {
     files: usize,
     allowance: bool,

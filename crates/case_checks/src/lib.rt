@@ -9,7 +9,7 @@ use refusals::Reason;
 use sheet_checked::Checked;
 
 // Whose answers they are: the bytes are a sheet or a graph.
-#[derive(Drop)]
+#[derive(Clone, Copy)]
 pub enum Asked {
     Check,
     Judge,
@@ -99,7 +99,7 @@ fn write_code(c: u64) {
 }
 
 // Equal answers in a row: how many, and which.
-#[derive(Drop)]
+#[derive(Clone, Copy)]
 struct Run {
     count: u64,
     code: u64,

@@ -9,7 +9,7 @@ ghost use Rattle.case_lines.specs.declared.escape.Next.TheVariants.{Plain};
 
 // What the next byte of the line is: a byte of the query or a backslash, the byte behind a backslash, or one of two digits; the last
 // comes with 16 times the first digit.
-#[derive(Drop)]
+#[derive(Clone, Copy)]
 pub enum Next {
     Plain,
     Escape,
@@ -18,7 +18,7 @@ pub enum Next {
 }
 
 // How far a line is read: the bytes of the query that are kept, and what comes next.
-#[derive(Drop)]
+#[derive(Clone, Copy)]
 pub struct Place {
     pub used: usize,
     pub next: Next,

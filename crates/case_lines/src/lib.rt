@@ -11,28 +11,28 @@ use libc::STDIN_FILENO;
 mod escape; // escape.rt: the bytes that a line stands for
 
 // How far the part of the input that was read last is used: the place of the next byte, and how many there are.
-#[derive(Drop)]
+#[derive(Clone, Copy)]
 pub struct Cases {
     pub at: usize,
     pub filled: usize,
 }
 
 // The next case: how many bytes of it stand in the text, and how far the input is used then; or the end of the input.
-#[derive(Drop)]
+#[derive(Clone, Copy)]
 pub enum Case {
     Line(usize, Cases),
     End,
 }
 
 // What a part of the input holds from a place on: the end of a line, with the bytes of the case and the place behind it, or more of the line.
-#[derive(Drop)]
+#[derive(Clone, Copy)]
 enum Found {
     Line(usize, usize),
     More(Place),
 }
 
 // A number in decimal digits at the start of a text, and how many bytes it has.
-#[derive(Drop)]
+#[derive(Clone, Copy)]
 pub struct Digits {
     pub value: usize,
     pub count: usize,
@@ -121,7 +121,7 @@ pub fn number(text: &[u8], n: usize) -> Digits
 }
 
 // Bytes that stand in hex at the start of a text: how many there are, and how many bytes of the text they take.
-#[derive(Drop)]
+#[derive(Clone, Copy)]
 pub struct HexBytes {
     pub bytes: usize,
     pub count: usize,

@@ -13,7 +13,7 @@ use sheets::Part;
 mod sheets; // sheets.rt: one case answered
 
 // What a line begins.
-#[derive(Drop)]
+#[derive(Clone, Copy)]
 enum Begins {
     A(Part),
     Nothing,

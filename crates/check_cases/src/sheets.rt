@@ -10,7 +10,7 @@ use search_outcomes::Outcome;
 use sheet_checked::Checked;
 
 // What is asked of a case.
-#[derive(Drop)]
+#[derive(Clone, Copy)]
 pub enum Part {
     Check,
     Draw,

@@ -31,7 +31,7 @@ fn is_closed(text: &[u8], relation: usize) -> bool {
 }
 
 // A graph that was made: how many bytes it has, whether it has edges, and the number that goes on.
-#[derive(Drop)]
+#[derive(Clone, Copy)]
 pub struct Made {
     pub bytes: usize,
     pub edged: bool,
@@ -39,7 +39,7 @@ pub struct Made {
 }
 
 // How many events there are so far, and the number that goes on.
-#[derive(Drop)]
+#[derive(Clone, Copy)]
 struct Grown {
     count: usize,
     state: u64,

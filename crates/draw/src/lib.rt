@@ -22,7 +22,7 @@ use side_tables::TABLE;
 
 // The graph's bytes, so many, stand at the start of the lent memory; the graph has so many events, more than 64; the sheet says proved; the
 // memory is shorter than the graph; or the reason and the place of a refusal. Only a graph changes the memory.
-#[derive(Drop)]
+#[derive(Clone, Copy)]
 pub enum Drawing {
     Graph(usize),
     TooLarge(usize),

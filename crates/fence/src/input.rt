@@ -7,7 +7,7 @@ use libc::STDIN_FILENO;
 pub const TEXT: usize = layout::LONGEST_QUERY + 1;
 
 // So many bytes of a file, at the start of the memory lent; or it could not be read, which was said on standard error.
-#[derive(Drop)]
+#[derive(Clone, Copy)]
 pub enum Input {
     Bytes(usize),
     Unread,

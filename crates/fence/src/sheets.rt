@@ -10,7 +10,7 @@ const SHEET: usize = LONGEST_SHEET + RING_FIELD;
 const GRAPH: usize = EVENT_BYTES + EDGE_BYTES;
 
 // What is asked of a sheet: whether it passes, or the graph that it draws, as bytes or as text.
-#[derive(Drop)]
+#[derive(Clone, Copy)]
 pub enum Asked {
     Check,
     Graph,
@@ -18,7 +18,7 @@ pub enum Asked {
 }
 
 // What a call asks of a sheet, with the arguments that name the query and the sheet; or it is a call without one.
-#[derive(Drop)]
+#[derive(Clone, Copy)]
 pub enum OfSheet {
     Asks(Asked, usize, usize),
     Nothing,

@@ -18,7 +18,7 @@ const WORDS: usize = RING_WORDS * PROGRAM_ALLOWANCE;
 const BYTES: usize = VERDICT + RING_FIELD * PROGRAM_ALLOWANCE;
 
 // A line in memory: how many bytes it has, and the outcome that it shows.
-#[derive(Drop)]
+#[derive(Clone, Copy)]
 pub struct Said {
     pub bytes: usize,
     pub outcome: Outcome,

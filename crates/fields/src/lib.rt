@@ -10,7 +10,7 @@ use memory::wide;
 
 // A whole field with its tag, the place of its contents and the place behind them, where the next one starts; or fewer bytes than its header,
 // or its length, says.
-#[derive(Drop)]
+#[derive(Clone, Copy)]
 pub enum Field {
     Whole(u64, usize, usize),
     Cut,

@@ -22,7 +22,7 @@ use refusals::Reason;
 
 // The first broken line, or 0, and of the claim: it holds, this event breaks it, or the pair from this event to that one does. Or the reason and
 // the place of a refusal.
-#[derive(Drop)]
+#[derive(Clone, Copy)]
 pub enum Judged {
     Holds(usize),
     BreaksAt(usize, usize),

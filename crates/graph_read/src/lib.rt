@@ -27,14 +27,14 @@ pub const GRAPH: usize = ATOMS_AT + MOST_EVENTS;
 pub type Graph = [u64; GRAPH];
 
 // So many events; or the number of the first wrong field, counted from 1.
-#[derive(Drop)]
+#[derive(Clone, Copy)]
 pub enum GraphRead {
     Events(usize),
     Wrong(usize),
 }
 
 // After a good field: where the next one starts, how many events there are, and whether an edge came. Or the field is wrong.
-#[derive(Drop)]
+#[derive(Clone, Copy)]
 enum Turn {
     On(usize, usize, bool),
     Not,

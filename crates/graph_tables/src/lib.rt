@@ -14,7 +14,7 @@ use memory::word;
 
 // Where the judge stands: the number of events; how many tables wait; how many lets there were; the number of the line; the first line that is
 // broken, or 0; and the lowest pair or event that breaks the claim, or NOWHERE.
-#[derive(Drop)]
+#[derive(Clone, Copy)]
 pub struct JudgedSoFar {
     pub events: usize,
     pub waiting: usize,

@@ -119,7 +119,7 @@ pub fn words(j: Judged, text: &[u8], out: &mut [u8]) -> usize
 }
 
 // A line in memory: how many bytes it has, and the judgement that it shows.
-#[derive(Drop)]
+#[derive(Clone, Copy)]
 pub struct JudgedLine {
     pub bytes: usize,
     pub judged: Judged,

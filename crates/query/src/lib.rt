@@ -15,7 +15,7 @@ use side_tables::{TABLE, Table};
 
 // What an accepted query leaves: how many codes it has, whether its claim is one of rings, the occurrences of its two sides, the number of
 // its atoms and relations, and the set of the atoms that no `never` removes.
-#[derive(Drop)]
+#[derive(Clone, Copy)]
 pub struct Facts {
     pub codes: usize,
     pub ring: bool,
@@ -27,7 +27,7 @@ pub struct Facts {
 }
 
 // The facts of an accepted query, or the reason and the place of a refusal.
-#[derive(Drop)]
+#[derive(Clone, Copy)]
 pub enum Answer {
     Accepted(Facts),
     Refused(Reason, usize),

@@ -18,7 +18,7 @@ use read_tokens::{Key, Token};
 use refusals::Reason;
 
 // What the lines read so far declare, and how many codes they have.
-#[derive(Drop)]
+#[derive(Clone, Copy)]
 pub struct LineState {
     pub used: usize,
     pub names: usize,
@@ -29,14 +29,14 @@ pub struct LineState {
 }
 
 // A line is taken, or refused.
-#[derive(Drop)]
+#[derive(Clone, Copy)]
 pub enum LineRead {
     Taken(LineState),
     Refused(Reason),
 }
 
 // A line that stands whole and has no slip, with the number of codes behind it; or why it is refused.
-#[derive(Drop)]
+#[derive(Clone, Copy)]
 pub enum LineCheck {
     Fine(usize),
     Faulty(Reason),

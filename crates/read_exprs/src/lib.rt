@@ -15,7 +15,7 @@ use read_tests::{Parsed, Place};
 use read_tokens::Token;
 
 // A postfix: its code, 0 for none, and the position behind it.
-#[derive(Drop)]
+#[derive(Clone, Copy)]
 struct Sign {
     at: usize,
     code: u64,

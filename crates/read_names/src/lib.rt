@@ -157,7 +157,7 @@ pub fn enter(names: &mut [u64; 192], n: usize, k: Key, code: u64)
 
 // What is wrong with a name: nothing; no line declares it; it is of another kind than the one that is wanted; it is declared for a second
 // time; it is a word that is no name.
-#[derive(Drop)]
+#[derive(Clone, Copy)]
 pub enum Slip {
     Clean,
     Unknown,

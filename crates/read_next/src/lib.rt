@@ -9,7 +9,7 @@ ghost use Rattle.read_next.specs.Written.{used_after, written_after};
 use read_tokens::{Key, Token};
 
 // A run of one mark: how many, and the position behind them.
-#[derive(Drop)]
+#[derive(Clone, Copy)]
 pub struct Run {
     pub at: usize,
     pub count: usize,

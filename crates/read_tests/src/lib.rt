@@ -18,7 +18,7 @@ use read_tokens::Token;
 pub const MOST_BRACKETS: usize = 32;
 
 // How far a reader has come: its position in the line, the codes written so far, and the first slip of a name.
-#[derive(Drop)]
+#[derive(Clone, Copy)]
 pub struct Place {
     pub at: usize,
     pub used: usize,
@@ -27,7 +27,7 @@ pub struct Place {
 
 // What a reader finds: a tree, whose codes it has written; a token with which the notation does not go on; or a 33rd open bracket. After
 // the last two no code is left, of this tree or of what was read before it.
-#[derive(Drop)]
+#[derive(Clone, Copy)]
 pub enum Parsed {
     Got(Place),
     Wrong,

@@ -13,7 +13,7 @@ use refusals::Reason;
 
 // What the reader knows of a query that it has read: how many codes, lines, tests and relations it has, and the last code, which tells the
 // kind of its claim.
-#[derive(Drop)]
+#[derive(Clone, Copy)]
 pub struct Summary {
     pub codes: usize,
     pub lines: usize,
@@ -23,7 +23,7 @@ pub struct Summary {
 }
 
 // The summary of an accepted query, or the reason and the place of a refusal.
-#[derive(Drop)]
+#[derive(Clone, Copy)]
 pub enum TextRead {
     Accepted(Summary),
     Refused(Reason, usize),

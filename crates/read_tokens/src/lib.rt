@@ -6,14 +6,14 @@ ghost use Rattle.claims.specs.Bytes.{letter as isLetter};
 ghost use Rattle.read_tokens.specs.Scan.{is_space, word_byte, is_mark, front, half_of, key_of, word_at, token_at, first_byte};
 
 // The bytes of a name, 8 in each half, zeros behind.
-#[derive(Drop)]
+#[derive(Clone, Copy)]
 pub struct Key {
     pub high: u64,
     pub low: u64,
 }
 
 // What stands next in a line, with the position behind it.
-#[derive(Drop)]
+#[derive(Clone, Copy)]
 pub enum Token {
     Word(Key, usize),
     Mark(u8, usize),

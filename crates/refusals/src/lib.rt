@@ -5,7 +5,7 @@ ghost use Rattle.claims.specs.Refusals.{number as number_of};
 ghost use Rattle.refusals.specs.Causes.{cause_of};
 
 // Why a query, an allowance, lent memory, a graph or a sheet is refused.
-#[derive(Drop)]
+#[derive(Clone, Copy)]
 pub enum Reason {
     TooLong,
     BadByte,

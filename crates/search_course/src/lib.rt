@@ -30,7 +30,7 @@ const SPENT: u64 = 5;
 // Where the search stands between two turns: its phase; the first standing of the level and the one past its last; the standing that is
 // looked at, and its place; the atoms that are left behind the place, and the relation with which the lowest of them is tried next; how many
 // standings were counted; the last atom of a refuting word.
-#[derive(Drop)]
+#[derive(Clone, Copy)]
 pub struct Course {
     pub phase: u64,
     pub lo: usize,
@@ -45,7 +45,7 @@ pub struct Course {
 
 // What is offered to the memory of a path claim: whether there is a candidate; among how many records it is looked for, behind which it is put
 // where it is new; and its P, its S and its letter.
-#[derive(Drop)]
+#[derive(Clone, Copy)]
 pub struct Offer {
     pub put: bool,
     pub seek: usize,
@@ -55,14 +55,14 @@ pub struct Offer {
 }
 
 // A step: where the search stands behind it, and what it offers.
-#[derive(Drop)]
+#[derive(Clone, Copy)]
 pub struct Move {
     pub course: Course,
     pub offer: Offer,
 }
 
 // Proved, with the count of standings; refuted, with the place of the word's prefix and its last atom; or the allowance spent.
-#[derive(Drop)]
+#[derive(Clone, Copy)]
 pub enum Finding {
     Proved(usize),
     Refuted(usize, usize),

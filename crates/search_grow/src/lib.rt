@@ -35,7 +35,7 @@ fn next_relation(masks: &[u64; 16], relations: usize, a: usize, r: usize) -> usi
 }
 
 // The atoms that are left behind a place, and the relation with which the lowest of them is tried next.
-#[derive(Drop)]
+#[derive(Clone, Copy)]
 pub struct Spot {
     pub rest: u64,
     pub relation: usize,

@@ -14,7 +14,7 @@ use search_writing::Writing;
 
 // Proved with the count of standings, or refuted with the length of the word, and each with the bytes of its sheet, which is at the start of the
 // buffer; or the reason and the place of a refusal.
-#[derive(Drop)]
+#[derive(Clone, Copy)]
 pub enum Outcome {
     Proved(usize, usize),
     Refuted(usize, usize),

@@ -6,7 +6,7 @@ ghost use Rattle.std.specs.Prelude.{◌≤◌, ◌≡◌, cond, length, get_or, 
 ghost use Rattle.claims.specs.Calls.{cleared};
 ghost use Rattle.search_records.specs.Records.{blank, Found};
 
-#[derive(Drop)]
+#[derive(Clone, Copy)]
 pub struct Record {
     pub p: u64,
     pub s: u64,

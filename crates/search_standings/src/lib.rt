@@ -5,7 +5,7 @@ use layout::{RING_WORDS, WIDTH};
 
 // Whether the claim is one of rings, the number of right occurrences, the set of the atoms that no `never` removes, and the number of
 // relations.
-#[derive(Drop)]
+#[derive(Clone, Copy)]
 pub struct Shape {
     pub ring: bool,
     pub right: usize,

@@ -20,7 +20,7 @@ use search_store::{letter, parent};
 // Whether standing `at` is to be looked at, or the end is reached; whether the buffer is too short; the place up to which a proof is written
 // in the buffer, or from which on a word is gathered in the array, and at the end the length of the sheet; and at the end of a word how many
 // relations it has.
-#[derive(Drop)]
+#[derive(Clone, Copy)]
 pub struct Writing {
     pub going: bool,
     pub short: bool,

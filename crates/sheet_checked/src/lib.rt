@@ -14,7 +14,7 @@ use sheet_part::Tested;
 use side_tables::Table;
 
 // The sheet passes and says proved, or refuted; or the reason and the place of a refusal.
-#[derive(Drop)]
+#[derive(Clone, Copy)]
 pub enum Checked {
     Proved,
     Refuted,

@@ -22,7 +22,7 @@ use sheet_index::{Chain, Heads};
 
 // Proved, with the place where the fields of the standings begin, their number, and the place where the next field would start; refuted, with
 // the places where the word's bytes begin and end; or the number of good fields before the wrong one.
-#[derive(Drop)]
+#[derive(Clone, Copy)]
 pub enum PartRead {
     Proved(usize, usize, usize),
     Refuted(usize, usize),
@@ -42,7 +42,7 @@ const MOST_GOOD: usize = MOST_STANDINGS + 1;
 // How far the reading of a part is. While it goes on: which field is awaited; the place where the fields of the standings begin, and how many were
 // read; the place where the last field ended. When it is over: as `awaited` a standing for proved, the word for refuted, with its bytes from
 // `base` on, and the verdict where a field was wrong, after `count` good ones.
-#[derive(Drop)]
+#[derive(Clone, Copy)]
 struct Reading {
     going: bool,
     awaited: u64,

@@ -15,7 +15,7 @@ use sheet_standings::{CELLS, Cells};
 use side_tables::Table;
 
 // The standings that a part of a sheet lists for a claim with these facts: the place where their fields begin, and their number.
-#[derive(Drop)]
+#[derive(Clone, Copy)]
 pub struct Listing {
     pub facts: Facts,
     pub base: usize,
@@ -23,7 +23,7 @@ pub struct Listing {
 }
 
 // What is tried of them: the letters of the masks, one for each relation, at level 1 (true) or behind a standing.
-#[derive(Drop)]
+#[derive(Clone, Copy)]
 pub struct Trial {
     pub of: Listing,
     pub masks: Masks,
@@ -31,7 +31,7 @@ pub struct Trial {
 }
 
 // The letters of one relation that are tried: at level 1 (true) or behind a standing, with each of these atoms.
-#[derive(Drop)]
+#[derive(Clone, Copy)]
 struct Letters {
     of: Listing,
     first: bool,

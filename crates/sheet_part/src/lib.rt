@@ -19,7 +19,7 @@ use side_tables::Table;
 
 // Says proved or refuted; whether it passes, how many fields it has, and where the next one would start. Or how many good fields stand before
 // the first wrong one.
-#[derive(Drop)]
+#[derive(Clone, Copy)]
 pub enum Tested {
     Proved(bool, usize, usize),
     Refuted(bool, usize, usize),

@@ -8,7 +8,7 @@ ghost use Rattle.fields.specs.Places.{Stands};
 use fields::Field;
 
 // A sheet, and the place in it from which is read.
-#[derive(Drop)]
+#[derive(Clone, Copy)]
 pub struct Reader<'a> {
     pub sheet: &'a [u8],
     pub at: usize,

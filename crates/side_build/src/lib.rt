@@ -13,14 +13,14 @@ use side_stack::STACK;
 use side_tables::{TABLE, Table};
 
 // The occurrences of each side.
-#[derive(Drop)]
+#[derive(Clone, Copy)]
 pub struct Counted {
     pub left: usize,
     pub right: usize,
 }
 
 // The occurrences of each side, and the set of the atoms that no `never` removes.
-#[derive(Drop)]
+#[derive(Clone, Copy)]
 pub struct Built {
     pub left: usize,
     pub right: usize,

@@ -12,7 +12,7 @@ use side_tables::{TABLE, Table};
 
 // What is claimed: its kind, which is the code of a claim, where the claimed expression starts, and for an inclusion where the one starts that
 // it is to lie in.
-#[derive(Drop)]
+#[derive(Clone, Copy)]
 pub struct Decision {
     pub kind: u64,
     pub left: usize,

@@ -13,14 +13,14 @@ use memory::word;
 use side_claim::Decision;
 
 // Occurrences and leaves of a side, up to 1,000.
-#[derive(Drop)]
+#[derive(Clone, Copy)]
 pub struct Size {
     pub occurrences: u64,
     pub leaves: u64,
 }
 
 // What the two sides of a decision count, whether its claim is one of rings, and a1's own leaves.
-#[derive(Drop)]
+#[derive(Clone, Copy)]
 pub struct Sizes {
     pub ring: bool,
     pub left: Size,
@@ -29,7 +29,7 @@ pub struct Sizes {
 }
 
 // Occurrences, or leaves: of the left side, of the right side and of a1.
-#[derive(Drop)]
+#[derive(Clone, Copy)]
 struct Sums {
     left: u64,
     right: u64,

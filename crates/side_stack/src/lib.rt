@@ -13,7 +13,7 @@ const MOST_PARTS: usize = 544;
 
 // A part: how many occurrences stand before it, the set of the atoms that are words of it, and whether it is known that every one of its
 // occurrences that may be first may follow every one that may be last.
-#[derive(Drop)]
+#[derive(Clone, Copy)]
 pub struct Part {
     pub low: usize,
     pub null: u64,

@@ -34,7 +34,7 @@ pub fn same(a: &[u8], b: &[u8]) -> bool
 }
 
 // What a part of a text consists of: the bytes of a line, spaces, or the bytes of a word.
-#[derive(Drop)]
+#[derive(Clone, Copy)]
 enum PartKind {
     Line,
     Spaces,
