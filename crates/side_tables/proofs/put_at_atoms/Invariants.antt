@@ -1,0 +1,21 @@
+-- `side_tables::put_at_atoms` meets its contract. The invariant: the atoms left, put into the table as it is, are all of them put into the table at
+-- the start. The measure is the count of ones of the set left.
+-- Assumes nothing.
+use Rattle.side_tables.proofs.Walks.{members_more, members_end}
+use Rattle.side_tables.specs.InPlace.{put_at_atom}
+use Rattle.memory.specs.Memory.{for_each}
+use Rattle.bits.proofs.Lowest.{Lowest, lowest}
+use Rattle.bits.specs.Sets.{members}
+use lib.ListN.{length, length-set}
+use lib.Count.{ones, trailing_le}
+use mathlib.Core.Path.{◌≡◌, refl, sym, ◌∙◌}
+use native.Mathlib.Omega.{arith}
+use Prim.Native.Nat.{◌^◌, ◌<◌}
+use borrow.Author.Rules.{rules}
+use Rattle.side_tables.proofs.put_at_atoms.Given as goal
+
+abbrev pub invariant-loop-left : goal.invariant-loop-left
+invariant-loop-left l = (l.left < 2 ^ 64) × (length l.table ≡ length l.initial.table) × (for_each (put_at_atom l.base l.f) (members l.left) l.table ≡ for_each (put_at_atom l.base l.f) (members l.s) l.initial.table)
+
+abbrev pub decreases-loop-left : goal.decreases-loop-left
+decreases-loop-left l = ones l.left
