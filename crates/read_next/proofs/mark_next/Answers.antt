@@ -3,14 +3,14 @@
 use mathlib.Core.Path.{◌∙◌}
 use Rattle.read_next.proofs.Next.{mark_elsewhere, mark_none, mark_here, mark_differs}
 use borrow.Author.Rules.{rules}
-use borrow.Enum.Refused.{opened}
+use borrow.Enum.Refused.{opened as unsealed}
 use Rattle.read_next.proofs.mark_next.Goals as goal
 
 pub returns-then-first_byte-b : goal.returns-then-first_byte-b
 returns-then-first_byte-b c = mark_elsewhere _ _ _ (λ e. c.if-first_byte-b.true (c.first_byte.ensures ∙ e))
 
 pub returns-in_default : goal.returns-in_default
-returns-in_default c = mark_none _ _ _ c.token_at-t.ensures (opened c.in_default.in_default-own.keys2)
+returns-in_default c = mark_none _ _ _ c.token_at-t.ensures (unsealed c.in_default.in_default-own.keys2)
 
 pub returns-then-b-c : goal.returns-then-b-c
 returns-then-b-c c = mark_here _ _ _ c.token_at-t.ensures c.in-Mark.is c.if-b-c.true

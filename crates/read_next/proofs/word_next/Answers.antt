@@ -4,14 +4,14 @@ use mathlib.Core.Path.{sym, ap, ◌∙◌}
 use mathlib.Core.Bool.{cond}
 use Rattle.read_next.proofs.Next.{word_none, word_tested}
 use borrow.Author.Rules.{rules}
-use borrow.Enum.Refused.{opened}
+use borrow.Enum.Refused.{opened as unsealed}
 use Rattle.read_next.proofs.word_next.Goals as goal
 
 pub token_at-t-requires : goal.token_at-t-requires
 token_at-t-requires c = tt
 
 pub returns-in_default : goal.returns-in_default
-returns-in_default c = word_none _ _ _ c.token_at-t.ensures (opened c.in_default.in_default-own.keys2)
+returns-in_default c = word_none _ _ _ c.token_at-t.ensures (unsealed c.in_default.in_default-own.keys2)
 
 pub same_key-requires : goal.same_key-requires
 same_key-requires c = tt

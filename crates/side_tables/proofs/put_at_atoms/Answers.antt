@@ -14,9 +14,6 @@ use Prim.Native.Nat.{◌^◌, ◌<◌}
 use borrow.Author.Rules.{rules}
 use Rattle.side_tables.proofs.put_at_atoms.Goals as goal
 
--- in a turn the set left has a lowest member
-low : (c : tie.In-loop invariant-loop decreases-loop) → Lowest 64 c.before.loop.left
-low c = lowest 64 c.before.loop.left c.before.loop.invariant.0 c.loop-test.true
 
 pub loop-left-init : goal.loop-left-init
 loop-left-init c = (search rules, refl, refl)
@@ -25,36 +22,36 @@ pub overflow_cast-a : goal.overflow_cast-a
 overflow_cast-a c = omega (arith, trailing_le 64 c.loop-left.left)
 
 pub overflow_mul-table : goal.overflow_mul-table
-overflow_mul-table c = omega (arith, (low c).inside, c.loop-left.invariant.1, c.requires.0, c.requires.1)
+overflow_mul-table c = omega (arith, (lowest 64 c.loop-left.left c.loop-left.invariant.0 c.loop-left-test.true).inside, c.loop-left.invariant.1, c.requires.0, c.requires.1)
 
 pub overflow_add-table : goal.overflow_add-table
-overflow_add-table c = omega (arith, (low c).inside, c.loop-left.invariant.1, c.requires.0, c.requires.1)
+overflow_add-table c = omega (arith, (lowest 64 c.loop-left.left c.loop-left.invariant.0 c.loop-left-test.true).inside, c.loop-left.invariant.1, c.requires.0, c.requires.1)
 
 pub offset_bounds-table-a : goal.offset_bounds-table-a
-offset_bounds-table-a c = omega (arith, (low c).inside, c.loop-left.invariant.1, c.requires.0, c.requires.1)
+offset_bounds-table-a c = omega (arith, (lowest 64 c.loop-left.left c.loop-left.invariant.0 c.loop-left-test.true).inside, c.loop-left.invariant.1, c.requires.0, c.requires.1)
 
 pub bounds-table-a : goal.bounds-table-a
-bounds-table-a c = omega (arith, (low c.before).inside, c.loop-left.invariant.1, c.requires.0, c.requires.1)
+bounds-table-a c = omega (arith, (lowest 64 c.loop-left.left c.loop-left.invariant.0 c.loop-left-test.true).inside, c.loop-left.invariant.1, c.requires.0, c.requires.1)
 
 pub overflow_mul-table-in-loop-left : goal.overflow_mul-table-in-loop-left
-overflow_mul-table-in-loop-left c = omega (arith, (low c.before).inside, c.loop-left.invariant.1, c.requires.0, c.requires.1)
+overflow_mul-table-in-loop-left c = omega (arith, (lowest 64 c.loop-left.left c.loop-left.invariant.0 c.loop-left-test.true).inside, c.loop-left.invariant.1, c.requires.0, c.requires.1)
 
 pub overflow_add-table-in-loop-left : goal.overflow_add-table-in-loop-left
-overflow_add-table-in-loop-left c = omega (arith, (low c.before).inside, c.loop-left.invariant.1, c.requires.0, c.requires.1)
+overflow_add-table-in-loop-left c = omega (arith, (lowest 64 c.loop-left.left c.loop-left.invariant.0 c.loop-left-test.true).inside, c.loop-left.invariant.1, c.requires.0, c.requires.1)
 
 pub offset_bounds-table-a-in-loop-left : goal.offset_bounds-table-a-in-loop-left
-offset_bounds-table-a-in-loop-left c = omega (arith, (low c.before).inside, c.loop-left.invariant.1, c.requires.0, c.requires.1)
+offset_bounds-table-a-in-loop-left c = omega (arith, (lowest 64 c.loop-left.left c.loop-left.invariant.0 c.loop-left-test.true).inside, c.loop-left.invariant.1, c.requires.0, c.requires.1)
 
 pub bounds-table-a-in-loop-left : goal.bounds-table-a-in-loop-left
-bounds-table-a-in-loop-left c = omega (arith, (low c.before).inside, c.loop-left.invariant.1, c.requires.0, c.requires.1)
+bounds-table-a-in-loop-left c = omega (arith, (lowest 64 c.loop-left.left c.loop-left.invariant.0 c.loop-left-test.true).inside, c.loop-left.invariant.1, c.requires.0, c.requires.1)
 
 pub loop-left-smaller : goal.loop-left-smaller
-loop-left-smaller c = omega (arith, (low c.before).count)
+loop-left-smaller c = omega (arith, (lowest 64 c.loop-left.left c.loop-left.invariant.0 c.loop-left-test.true).count)
 
 pub loop-left-preserved : goal.loop-left-preserved
 unfolding put_at_atom
 loop-left-preserved c =
-    (omega (arith, (low c.before).less), length-set c.loop-left.table _ _ ∙ c.loop-left.invariant.1, members_more (put_at_atom c.args.base c.args.f) (low c.before) c.loop-left.table ∙ c.loop-left.invariant.2)
+    (omega (arith, (lowest 64 c.loop-left.left c.loop-left.invariant.0 c.loop-left-test.true).less), length-set c.loop-left.table _ _ ∙ c.loop-left.invariant.1, members_more (put_at_atom c.args.base c.args.f) (lowest 64 c.loop-left.left c.loop-left.invariant.0 c.loop-left-test.true) c.loop-left.table ∙ c.loop-left.invariant.2)
 
 pub returns : goal.returns
 unfolding put_at_atom

@@ -13,4 +13,4 @@ returns-then-same c =
 pub returns : goal.returns
 returns c =
     let b = c in
-    declared_miss _ _ _ _ b.part_end-a.ensures.2 b.part_end-a.ensures.2 (sym c.same.ensures ∙ c.if-same.false)
+    declared_miss _ _ _ _ b.part_end-a.ensures.2 b.part_end-b.ensures.2 (sym c.same.ensures ∙ c.if-same.false)
