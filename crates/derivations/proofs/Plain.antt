@@ -5,7 +5,7 @@ use Prim.Native.Nat.{ℕ}
 use mathlib.Core.List.{List, []}
 use mathlib.Core.Path.{◌≡◌, subst, sym}
 use base.Logic.{ent, emp, id⊢}
-use mir.Syntax.{Fn, Name}
+use mir.Syntax.{Fn, Callee as Key}
 use seplogic.Ra.Ura.{Ura}
 use types.Logic.{Logic}
 use prog.Wp.{Tables, Closed, WpFn}
@@ -60,7 +60,7 @@ pub record Contract : Type 3 where
   pub ens : Enss n ps r
   pub rq : ReadReq n ps r req
   pub en : ReadEns n ps r ens
-  pub name : Name
+  pub name : Key
   pub no_held : (w : World) (κs : Lfts n) (a : ArgsD (S n ps r [] 0) κs) → (rq κs a tt).held w ≡ []
   pub no_held' : (w : World) (κs : Lfts n) (a : ArgsD (S n ps r [] 0) κs) (z : ResD (S n ps r [] 0) κs) (e : AtExit (ended_of n ps r) κs) → (en κs a tt z e).held w ≡ []
   pub no_wants : Written.Wanted n ps r (Unit {0}) req ens rq (Pins n ps r) (Owns n ps r) en
@@ -89,7 +89,7 @@ module _ (c : Contract) where
   abbrev pub Knows : {M : Type 1} {𝓤 : Ura M} (𝓛 : Logic 𝓤) → Tables 𝓤 𝓛.H → Type 1
   Knows 𝓛 𝓣 = Known 𝓛 𝓣 c.n c.ps c.r Asked Learnt c.name
 
-  abbrev pub callee : {K : Kit} → Knows K.W K.𝓣 → Callee K
+  abbrev pub callee : {K : Kit} → Knows K.𝓛 K.𝓣 → Callee K
   callee k = record { n = c.n; ps = c.ps; r = c.r; P = Asked; Q = Learnt; name = c.name; known = k }
 
   pub known : KnownAs c.n c.ps c.r (Unit {0}) c.req c.ens Asked Learnt
