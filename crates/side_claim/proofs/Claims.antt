@@ -18,6 +18,8 @@ use Rattle.side_claim.proofs.Sides.{Stands}
 first_placed : (q : Query) (e : Tree) (ss : List ℕ) → PlacedAll q (e ∷ []) ss → Placed q e (first_of ss)
 unfolding first_of
 first_placed q e (s ∷ []) (x, y) = x
+first_placed q e [] x' = elim x' [ ]
+first_placed q e (s ∷ (_ ∷ _)) (_, x) = elim x [ ]
 
 module _ (q : Query) where
   started : (c : Claim) → Claimed q c → (k : ℕ) → 135 ≤ k → k ≤ 138 → (e : Tree) → PlacedAll q (e ∷ []) (starts_of every k (query_codes q))

@@ -104,6 +104,8 @@ module _ (q : Query) (c : Claim) (h : Claimed q c) (ns : List ℕ) (p : Prepared
       builds_more (leaves_of q e + (total (leaves_of q) es + 1)) _ (omega arith)
       (builds_same (λ m. sym (united_last (length ss) _))
       (builds_union (stands_builds e s x) (union_builds es ss xs)))
+  union_builds [] (s ∷ ss) x = elim x [ ]
+  union_builds (e ∷ es) [] x = elim x [ ]
 
   -- a0 and a1
   a0_builds : Builds (total (leaves_of q) (of_lines counts assumed_empty 0 q) + 1) (assumed ks ns 133) (empty_under counts q)

@@ -183,6 +183,8 @@ placed_append : (q : Query) (es : List Tree) (ss : List ℕ) (fs : List Tree) (t
     → PlacedAll q es ss → PlacedAll q fs ts → PlacedAll q (es ++ fs) (ss ++ ts)
 placed_append q [] [] fs ts a b = b
 placed_append q (e ∷ es) (s ∷ ss) fs ts (x, a) b = (x, placed_append q es ss fs ts a b)
+placed_append q [] (s ∷ ss) fs ts a b = elim a [ ]
+placed_append q (e ∷ es) [] fs ts a b = elim a [ ]
 
 placed_only : (q : Query) (b : Bool) (e : Tree) (s : ℕ) → Placed q e s → PlacedAll q (only b e) (only b s)
 placed_only q true e s x = (x, tt)

@@ -6,7 +6,7 @@ use Prim.Native.Nat.{ℕ}
 use mathlib.Core.Path.{◌≡◌, refl, sym, ◌∙◌, ap, subst, subst⁻¹}
 use mathlib.Core.List.{List, [], ◌∷◌, ◌++◌}
 use Rattle.kat.specs.Lists.{In, here, there}
-use Rattle.claims.specs.Tree.{Tree, Claim, empty, irreflexive, Line, assume_empty, assume_irreflexive, claim_line}
+use Rattle.claims.specs.Tree.{Tree, Claim, empty, irreflexive, Line, assume_empty, assume_irreflexive, claim_line, within_line, test_line, rel_line, never_line, let_line, closed_line}
 use Rattle.claims.specs.LineKinds.{line_statements}
 use Rattle.claims.specs.Query.{Query, each, assumed_empty, assumed_irreflexive, claims_of}
 use Rattle.claims.proofs.Results.{each_in, each_append}
@@ -29,6 +29,8 @@ StandsSomewhere q x = (d : Decision) × Stands q x d
 one_placed : (q : Query) (e : Tree) (es : List Tree) (ss : List ℕ) → PlacedAll q es ss → In e es → (s : ℕ) × Placed q e s
 one_placed q e (f ∷ es) (s ∷ ss) (p, ps) (here z) = (s, subst (λ t. Placed q t s) (sym z) p)
 one_placed q e (f ∷ es) (s ∷ ss) (p, ps) (there i) = one_placed q e es ss ps i
+one_placed q e [] ss _ x3 = elim x3 [ ]
+one_placed q e (f ∷ es) [] x5 _ = elim x5 [ ]
 
 module _ (q : Query) (c : Claim) (h : Claimed q c) where
   empty_stands : (e : Tree) → In e (each assumed_empty q) → StandsSomewhere q (empty e)
@@ -49,6 +51,7 @@ module _ (q : Query) (c : Claim) (h : Claimed q c) where
     where
       only : In x (c ∷ []) → x ≡ c
       only (here z) = z
+      only (there x4) = elim x4 [ ]
 
   claim_somewhere : (x : Claim) → In x (each claims_of q) → StandsSomewhere q x
   claim_somewhere x i = subst⁻¹ (StandsSomewhere q) (the_claim x i) (claimed (query_codes q), claim_stands q c h)
@@ -59,6 +62,15 @@ module _ (q : Query) (c : Claim) (h : Claimed q c) where
   of_line (assume_empty e) i x (here z) = subst⁻¹ (StandsSomewhere q) z (empty_stands e (in_each assumed_empty i (here refl)))
   of_line (assume_irreflexive e) i x (here z) = subst⁻¹ (StandsSomewhere q) z (irreflexive_stands e (in_each assumed_irreflexive i (here refl)))
   of_line (claim_line d) i x (here z) = claim_somewhere x (in_each claims_of i (here z))
+  of_line (claim_line d) i x (there x15) = elim x15 [ ]
+  of_line (assume_irreflexive e) i x (there x14) = elim x14 [ ]
+  of_line (assume_empty e) i x (there x13) = elim x13 [ ]
+  of_line (within_line _ _ _) i x x11 = elim x11 [ ]
+  of_line (test_line _) i x x5 = elim x5 [ ]
+  of_line (rel_line _) i x x6 = elim x6 [ ]
+  of_line (never_line _) i x x8 = elim x8 [ ]
+  of_line (let_line _ _) i x x8 = elim x8 [ ]
+  of_line (closed_line _) i x x10 = elim x10 [ ]
 
   pub statement_stands : (x : Claim) → In x (each line_statements q) → StandsSomewhere q x
   statement_stands x i = let (l, j, k) = each_in line_statements q x i in of_line l j x k

@@ -44,3 +44,5 @@ module _ (q : Query) (t : ℕ) (w : Name → ℕ) (v : ℕ → ℕ)
   unfolding count_all
   all_placed [] [] x = refl
   all_placed (e ∷ es) (s ∷ ss) (x, xs) = ap₂ ◌+◌ (placed_counts e s x) (all_placed es ss xs)
+  all_placed [] (s ∷ ss) x = elim x [ ]
+  all_placed (e ∷ es) [] x = elim x [ ]
