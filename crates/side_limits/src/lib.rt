@@ -56,7 +56,7 @@ fn add(a: u64, b: u64) -> u64
 // The first entries: a bracketed test counts `test`, and each relation 1.
 fn start_table(test: u64, table: &mut [u64])
     requires { table.old ≡ replicate 96 0 }
-    ensures* { λ r. ⌜ Table test (λ r. 1) [] table.new ⌝ }
+    ensures { Table test (λ k. 1) [] table.new }
 {
     let mut i = codes::A_RELATION as usize;
     while i < codes::ANY as usize {

@@ -54,7 +54,7 @@ loop-i-preserved-then-k-ne-LET_LINE c =
     )
 
 pub overflow_add-n : goal.overflow_add-n
-overflow_add-n c = omega (arith, c.loop-i.invariant.1, c.loop-i.invariant.0, c.before.before.before.before.before.before.before.before.well_formed.0.1)
+overflow_add-n c = omega (arith, c.loop-i.invariant.1, c.loop-i.invariant.0)
 
 pub overflow_add-n-in-loop-i : goal.overflow_add-n-in-loop-i
 overflow_add-n-in-loop-i c = omega (arith, c.loop-i.invariant.1, c.loop-i-test.true)
