@@ -1,5 +1,4 @@
--- What the proofs of the functions over lent records ask of numbers and lists: an offset in bytes that fits, a record past the end, the records
--- cleared so far.
+-- What the proofs of the functions over lent records ask of numbers and lists: a record past the end, the records cleared so far.
 -- Assumes nothing.
 use Prim.Native.Nat.{ℕ, ◌+◌, ◌*◌, ◌^◌, ◌≤◌, ◌<◌}
 use native.Mathlib.Nat.{not-suc-le-zero}
@@ -10,22 +9,11 @@ use mathlib.Core.Logic.{⊎_elim}
 use mathlib.Core.List.{List}
 use lib.ListN.{length, get_or, set, get_or-eq_default}
 use lib.Seq.{set_out}
-use mir.Syntax.{w64}
-use mir.Val.{Fits}
 use Rattle.kat.proofs.Bools.{le_or_lt}
 use Rattle.claims.specs.Calls.{cleared}
 use Rattle.search_records.specs.declared.Record.{Record}
 use Rattle.search_records.specs.Records.{blank, HasBoth, Found}
-use Rattle.search_records.proofs.Rules.{Space}
 use Rattle.search_records.proofs.Cleared.{cleared_more, cleared_length}
-
--- place i of lent records lies within the memory
-pub offset_fits : (i n : ℕ) → Space n → i < n → Fits w64 (i * 32)
-offset_fits i n s h = record { fits = let s1 : n * 32 < 2 ^ 63 = s.1 in omega arith }
-
--- the next place is a number
-pub next_fits : (i n : ℕ) → Space n → i < n → Fits w64 (i + 1)
-next_fits i n s h = record { fits = let s0 : n < 2 ^ 64 = s.0 in omega arith }
 
 -- a record past the end
 pub past : (i : ℕ) (xs : List Record) → length xs ≤ i → blank ≡ get_or xs i blank

@@ -9,7 +9,7 @@ use Rattle.query.proofs.read.Goals as goal
 
 pub returns-then-not-within : goal.returns-then-not-within
 returns-then-not-within c =
-    over_way _ c.read-r.result _ c.read-r.ensures.0 c.read-r.ensures.1 _ c.in-Accepted.is c.within-arg-in-Accepted-1.given.0 _ c.within.ensures (ap not c.if-not-within.true) _ _ _ c.clear-then-not-within.ensures
+    over_way _ c.read-r.result _ c.read-r.ensures.0 c.read-r.ensures.1 _ c.in-Accepted.is c.within-arg-in-Accepted-1.given _ c.within.ensures (ap not c.if-not-within.true) _ _ _ c.clear-then-not-within.ensures
     (c.clear.ensures ∙ ap zeros c.clear-arg-1.given.0.1) (c.clear-2.ensures ∙ ap zeros c.clear-arg-2-1.given.0.1)
 
 pub build-b-requires : goal.build-b-requires
@@ -22,5 +22,5 @@ returns-in-Refused c =
 
 pub returns-else-not-within : goal.returns-else-not-within
 returns-else-not-within c =
-    within_way _ c.read-r.result _ c.read-r.ensures.0 c.read-r.ensures.1 _ c.in-Accepted.is c.within-arg-in-Accepted-1.given.0 _ c.within.ensures (ap not c.if-not-within.false) _ _ _ _
+    within_way _ c.read-r.result _ c.read-r.ensures.0 c.read-r.ensures.1 _ c.in-Accepted.is c.within-arg-in-Accepted-1.given _ c.within.ensures (ap not c.if-not-within.false) _ _ _ _
     c.build-b.ensures c.facts_by.ensures
