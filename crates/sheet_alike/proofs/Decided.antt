@@ -18,6 +18,7 @@ use Rattle.standings.proofs.LettersOf.{LettersOf}
 within_above : (lo hi : ℕ) (l : List ℕ) → RisingWithin lo hi l → (b : ℕ) → In b l → lo ≤ b
 within_above lo hi (k ∷ ks) (a, h, r) b (here e) = omega arith
 within_above lo hi (k ∷ ks) (a, h, r) b (there i) = let c = within_above (suc k) hi ks r b i in omega arith
+within_above lo hi [] _ b x3 = elim x3 [ ]
 
 within_wider : (lo hi hi' : ℕ) (l : List ℕ) → hi ≤ hi' → RisingWithin lo hi l → RisingWithin lo hi' l
 within_wider lo hi hi' [] w r = tt

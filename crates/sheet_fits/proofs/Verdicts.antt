@@ -20,6 +20,7 @@ use Rattle.sheet_fits.specs.inner.Steps.{verdict_of}
 pub all_bytes : (bs : List ℕ) → ((i : ℕ) → Fits w8 (get_or bs i 0)) → AllBytes bs
 all_bytes (x ∷ xs) h b (here e) = omega (arith, h 0)
 all_bytes (x ∷ xs) h b (there i) = all_bytes xs (λ j. h (suc j)) b i
+all_bytes [] h b x'' = elim x'' [ ]
 
 -- contents of another length than 1
 pub verdict_size : (c : List ℕ) → (length c ≡ 1 → ⊥) → 0 ≡ verdict_of c

@@ -18,6 +18,7 @@ loop-p-init c =
     (omega arith, omega arith, c.enders_at-e.ensures, opened_all a.right.now a.from.now a.a)
 
 pub overflow_add-set : goal.overflow_add-set
+unfolding row_m
 overflow_add-set c =
     let l = c.loop-p in
     let a = c.args in
@@ -28,6 +29,7 @@ overflow_add-set c =
     )
 
 pub loop-p-preserved : goal.loop-p-preserved
+unfolding row_m
 loop-p-preserved c =
     let l = c.loop-p in
     let a = c.args in (

@@ -1,0 +1,22 @@
+-- `sheet_alike::mask_of` meets its contract. The invariant: the mask so far, with those of the atoms left that are to be tried, is the
+-- whole mask. The measure is the count of ones of the set left.
+-- Assumes nothing.
+use Prim.Native.Nat.{◌-◌, ◌^◌, ◌<◌}
+use native.Mathlib.Omega.{arith}
+use mathlib.Core.Path.{◌≡◌, refl, sym, ◌∙◌, ap}
+use borrow.Author.Rules.{rules}
+use lib.Bits.{bit_and}
+use lib.Count.{ones, trailing_le}
+use Rattle.bits.specs.Sets.{members}
+use Rattle.bits.proofs.Lowest.{Lowest, lowest as lowest-member}
+use Rattle.standings.specs.Alike.{gathered}
+use Rattle.sheet_alike.specs.Masks.{lowest_words, mask_of}
+use Rattle.standings.proofs.Loops.{gathered_end, gathered_more}
+use Rattle.sheet_alike.proofs.mask_of.Given as goal
+
+abbrev pub invariant-loop-rest : goal.invariant-loop-rest
+invariant-loop-rest l =
+    (l.rest < 2 ^ 64) × (gathered (lowest_words l.f l.left l.right l.r) (members l.rest) l.mask ≡ mask_of l.f l.left l.right l.r)
+
+abbrev pub decreases-loop-rest : goal.decreases-loop-rest
+decreases-loop-rest l = ones l.rest
