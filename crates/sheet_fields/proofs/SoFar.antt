@@ -297,6 +297,7 @@ module _ {f : Facts} {left right : List ℕ} {D : Decision} (d : Decided f left 
         where
           last_good : In c (listed_cells D.ring bs base n ∷ []) → GoodCells D.ring D c
           last_good (here q) = subst (GoodCells D.ring D) (here_is ∙ sym q) (good_of (next_field (drop at bs)) refl long)
+          last_good (there x3) = elim x3 [ ]
 
       shown_more : map (cells_show D.ring D) (cells_listed D.ring bs base n) ++ (cells_show D.ring D (standing_cells D.ring bs at) ∷ [])
           ≡ map (cells_show D.ring D) (cells_listed D.ring bs base (n + 1))

@@ -4,7 +4,7 @@ use Prim.Native.Nat.{ℕ, zero, suc, ◌+◌, ◌*◌, ◌^◌, ◌≤◌, ◌<�
 use native.Mathlib.Omega.{arith}
 use mathlib.Core.Path.{◌≡◌, sym, ap, subst}
 use mathlib.Core.Bool.{Bool, true, false}
-use mathlib.Core.List.{List, ◌∷◌}
+use mathlib.Core.List.{List, ◌∷◌, []}
 use lib.ListN.{get_or, take, replicate}
 use Rattle.kat.specs.Lists.{here, there}
 use Rattle.claims.specs.SheetWriting.{AllBytes}
@@ -31,6 +31,7 @@ place_before false base i n size h e = omega arith
 all_bytes : (bs : List ℕ) → ((i : ℕ) → get_or bs i 0 < 256) → AllBytes bs
 all_bytes (x ∷ xs) h b (here e) = omega (arith, h 0)
 all_bytes (x ∷ xs) h b (there i) = all_bytes xs (λ j. h (suc j)) b i
+all_bytes [] h b x'' = elim x'' [ ]
 
 -- cells that were read from a sheet
 pub read_small : (ring : Bool) (bs : List ℕ) (at : ℕ) (s : List ℕ) → ((i : ℕ) → get_or bs i 0 < 256) → s ≡ standing_cells ring bs at → Small s

@@ -33,7 +33,7 @@ returns-in_default c =
     let start = c in
     let a = start.args in
     let tagged' = at-if1.tagged in
-    let t = sym tagged'.ensures ∙ not-false tagged'.result at-if1.if-not-tagged.false in
+    let t = sym tagged'.ensures ∙ at-if1.if-not-tagged.false in
     let all = all_bytes a.sheet.now at-if1.shared_slice_known-1.given in
     λ first A.
     standing_cut_goes a.f a.sheet.now first _ _ all a.s A t c.wrong.result c.wrong.ensures
@@ -45,7 +45,7 @@ returns-then-s-eq-MOST_STANDINGS c =
     let start = c in
     let a = start.args in
     let tagged' = at-if1.tagged in
-    let t = sym tagged'.ensures ∙ not-false tagged'.result at-if1.if-not-tagged.false in
+    let t = sym tagged'.ensures ∙ at-if1.if-not-tagged.false in
     let all = all_bytes a.sheet.now at-if1.shared_slice_known-1.given in
     λ first A. standing_full_goes a.f a.sheet.now first _ _ all a.s A t c.wrong-then-s-eq-MOST_STANDINGS.result c.wrong-then-s-eq-MOST_STANDINGS.ensures (omega arith)
 
@@ -69,7 +69,7 @@ returns-then-not-is_sized c =
     let a = start.args in
     let w = whole_here a.sheet.now a.s.at at_field.in-Whole.is start.requires.0 in
     let tagged' = at-if1.tagged in
-    let t = sym tagged'.ensures ∙ not-false tagged'.result at-if1.if-not-tagged.false in
+    let t = sym tagged'.ensures ∙ at-if1.if-not-tagged.false in
     let all = all_bytes a.sheet.now at-if1.shared_slice_known-1.given in
     let is-sized' = at-sized.is_sized in
     λ first A.
@@ -104,7 +104,7 @@ returns-then-not-may_list c =
     let start = c in
     let a = start.args in
     let tagged' = at-if1.tagged in
-    let t = sym tagged'.ensures ∙ not-false tagged'.result at-if1.if-not-tagged.false in
+    let t = sym tagged'.ensures ∙ at-if1.if-not-tagged.false in
     let all = all_bytes a.sheet.now at-if1.shared_slice_known-1.given in
     let may-list' = at-list.may_list in
     λ first A.
@@ -142,7 +142,7 @@ returns c =
     let a = start.args in
     let w = whole_here a.sheet.now a.s.at at_field.in-Whole.is start.requires.0 in
     let tagged' = at-if1.tagged in
-    let t = sym tagged'.ensures ∙ not-false tagged'.result at-if1.if-not-tagged.false in
+    let t = sym tagged'.ensures ∙ at-if1.if-not-tagged.false in
     let all = all_bytes a.sheet.now at-if1.shared_slice_known-1.given in
     let may-list' = at-list.may_list in
     let add' = c.add in
