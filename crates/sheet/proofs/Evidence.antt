@@ -16,9 +16,13 @@ use Rattle.sheet.specs.Evidence.{HoldsInEveryGraph, DrawnGraphBreaks}
 -- the answers that pass are those of the check
 pub says_proved_lem : (x : Result Passed) → Says x Proved → x ≡ ok passed_proved
 says_proved_lem (ok passed_proved) h = refl
+says_proved_lem (refused _) h = elim h [ ]
+says_proved_lem (ok passed_refuted) h = elim h [ ]
 
 pub says_refuted_lem : (x : Result Passed) → Says x Refuted → x ≡ ok passed_refuted
 says_refuted_lem (ok passed_refuted) h = refl
+says_refuted_lem (refused _) h = elim h [ ]
+says_refuted_lem (ok passed_proved) h = elim h [ ]
 
 -- a sheet that passes is one of a query
 passed_asked : (bs sheet : List ℕ) (v : Passed) → check_call bs sheet ≡ ok v → (a : Asked) × (asked bs ≡ ok a)

@@ -109,12 +109,18 @@ module _ (D : Decision) (bs : List ℕ) where
   part_said (says_refuted w) n rest (RefutedPart passed fields next) (g, e, l, f) =
       ⊎_elim (λ h. last_refuted passed w n (fields + 1) next rest g f h) (λ h. followed false passed (says_refuted w) n (fields + 1) next rest (omega (arith, e)) f h)
       (le_or_lt (length bs) next)
+  part_said (says_refuted w) n rest (Wrong _) x5 = elim x5 [ ]
+  part_said (says_refuted w) n rest (ProvedPart passed fields next) x3 = elim x3 [ ]
+  part_said (says_proved ss) n rest (Wrong _) x4 = elim x4 [ ]
+  part_said (says_proved ss) n rest (RefutedPart passed fields next) x'' = elim x'' [ ]
 
   part_ended : (r : Result (Part D)) (t : Tested) → Tests D bs 1 r t
       → Says (afterwards (afterwards r (only_part D)) (passed_of D)) (answer_to t (length bs))
   unfolding only_part cause_of
   part_ended (ok p) t h = part_said p.said p.next p.rest t h
   part_ended (refused r) (Wrong i) (c, p) = (sym c, omega (arith, p))
+  part_ended (refused r) (RefutedPart _ _ _) h = elim h [ ]
+  part_ended (refused r) (ProvedPart _ _ _) h = elim h [ ]
 
   -- the answer to the part from field 1 is that to the sheet
   pub sheet_ended : (t : Tested) → Tests D bs 1 (part_in D 1 (drop 0 bs)) t → Says (checked D bs) (answer_to t (length bs))

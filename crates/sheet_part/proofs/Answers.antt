@@ -71,9 +71,11 @@ module _ {f : Facts} {left right : List ℕ} {D : Decision} (d : Decided f left 
         l.inside,
         q.behind,
       )
+      said (says_refuted _) after rest q = elim q [ ]
 
       go : (r : Result (Part D)) → Reads f.ring D bs k r (ProvedAt base n next) → Tests D bs k r (Proved b (n + 1) next)
       go (ok x) q = said x.said x.next x.rest q
+      go (refused _) q = elim q [ ]
 
   -- a part that says refuted
   pub refuted_tests : (p : PartRead) → Inside f.ring bs at heads chain p → (r : Result (Part D)) → Reads f.ring D bs k r p
@@ -93,9 +95,11 @@ module _ {f : Facts} {left right : List ℕ} {D : Decision} (d : Decided f left 
         l.1,
         q.behind,
       )
+      said (says_proved _) after rest q = elim q [ ]
 
       go : (r : Result (Part D)) → Reads f.ring D bs k r (RefutedAt from to) → Tests D bs k r (Refuted b 2 to)
       go (ok x) q = said x.said x.next x.rest q
+      go (refused _) q = elim q [ ]
 
   -- a part with a wrong field
   pub wrong_tests : (p : PartRead) (r : Result (Part D)) → Reads f.ring D bs k r p → (i : ℕ) → p ≡ WrongAt i → Tests D bs k r (Wrong i)
