@@ -2,5 +2,3 @@
 pub mod OneTurn
 -- One turn over lent records.
 pub mod OverRecords
--- The contracts of the functions over lent records, for callers.
-pub mod Contracts

@@ -57,7 +57,7 @@ module _ (k : Shape) (left right first later : List ℕ) (cap : ℕ) (t : Course
 -- the loop over turns, from its start to its end
 module _ (k : Shape) (left right first later : List ℕ) (cap : ℕ) (rs₀ : List Record) (w₀ : List ℕ) where
   -- what holds between two turns
-  abbrev Between : Course → List Record → List ℕ → Type 0
+  abbrev pub Between : Course → List Record → List ℕ → Type 0
   Between t rs w =
       Inside k.ring cap (state (rows rs₀) w₀ 0) (state (rows rs) w t.count) × At k left right first later cap t (rows rs) w
 

@@ -43,6 +43,8 @@ use Rattle.search_outcomes.specs.ByWords.{Fits, ByWords, SearchedByWords}
 -- the outcome that says a refusal
 says_refused : (r : Outcome) (why : Reason) → Says (refuse (cause_of why) 0) r → r ≡ Refused why 0
 says_refused (Refused v p) why (e, f) = let h : v ≡ why = one_reason v why e in (λ i. Refused (h i) (f i))
+says_refused (Refuted _ _) why x4 = elim x4 [ ]
+says_refused (Proved _ _) why x3 = elim x3 [ ]
 
 -- the refuted sheet that an answer comes with is that of its word
 sheet_of_word_lem : (S : System) (contents : S.Standing → List ℕ) (v : Verdict S) (w : Word) (sheet : List ℕ)
@@ -286,10 +288,14 @@ module _ (text : List ℕ) (q : Query) (a : Accepted text q) (allowance : ℕ) (
   says_proved_lem : (r : Outcome) (n : ℕ) → Says (ok (proved_with n)) r → Sized r (searched (sought a) allowance)
       → MeansProved (sought a) (claim_system (sought a)) allowance n → r ≡ Proved n (sheet_length (proved_with n) (sought a).ring)
   says_proved_lem (Proved k bytes) n e z p = ap₂ Proved e (proved_length k bytes z (subst (λ j. MeansProved (sought a) (claim_system (sought a)) allowance j) (sym e) p) ∙ ap (λ j. sheet_length (proved_with j) (sought a).ring) e)
+  says_proved_lem (Refuted _ _) n e z p = elim e [ ]
+  says_proved_lem (Refused _ _) n e z p = elim e [ ]
 
   says_refuted_lem : (r : Outcome) (w : Word) → Says (ok (refuted_by w)) r → Sized r (searched (sought a) allowance)
       → MeansRefuted (sought a) (claim_system (sought a)) allowance w → r ≡ Refuted (size w) (sheet_length (refuted_by w) (sought a).ring)
   says_refuted_lem (Refuted k bytes) w e z p = ap₂ Refuted e (refuted_length w k bytes z p)
+  says_refuted_lem (Refused _ _) w e z p = elim e [ ]
+  says_refuted_lem (Proved _ _) w e z p = elim e [ ]
 
   -- the refuted sheet of an answer is left at the start of the buffer
   left : (v : Word) → (search_call text allowance m).result ≡ ok (refuted_by v)

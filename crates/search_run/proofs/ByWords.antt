@@ -38,10 +38,12 @@ use Rattle.search_shape.proofs.Tried.{path_first, ring_first}
 within_above : (lo hi : ℕ) (l : List ℕ) → RisingWithin lo hi l → (b : ℕ) → In b l → lo ≤ b
 within_above lo hi (k ∷ ks) (a, h, r) b (here e) = omega arith
 within_above lo hi (k ∷ ks) (a, h, r) b (there i) = let c = within_above (suc k) hi ks r b i in omega arith
+within_above lo hi [] _ b x3 = elim x3 [ ]
 
 pub within_below : (lo hi : ℕ) (l : List ℕ) → RisingWithin lo hi l → (b : ℕ) → In b l → b < hi
 within_below lo hi (k ∷ ks) (a, h, r) b (here e) = omega arith
 within_below lo hi (k ∷ ks) (a, h, r) b (there i) = within_below (suc k) hi ks r b i
+within_below lo hi [] _ b x3 = elim x3 [ ]
 
 pub within_wider : (lo hi hi' : ℕ) (l : List ℕ) → hi ≤ hi' → RisingWithin lo hi l → RisingWithin lo hi' l
 within_wider lo hi hi' [] w r = tt

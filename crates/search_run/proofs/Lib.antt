@@ -12,5 +12,3 @@ pub mod Ways
 pub mod OneRun
 -- The run and the ways out over lent records.
 pub mod OverRecords
--- The contracts of the functions over lent records, for callers.
-pub mod Contracts

@@ -13,8 +13,11 @@ loop-i-init c = (omega arith, omega arith, refl)
 
 pub returns-then-member : goal.returns-then-member
 unfolding tried
-returns-then-member c = record { within = (c.loop-i.invariant.0, omega arith); same = c.loop-i.invariant.2; tried = λ h. sym c.member.ensures ∙ c.if-member.true }
-
+returns-then-member c = record {
+  within = (c.loop-i.invariant.0, omega arith);
+  same = c.loop-i.invariant.2;
+  tried = λ h. sym c.member.ensures ∙ c.if-member.true;
+}
 
 pub loop-i-preserved : goal.loop-i-preserved
 unfolding tried
@@ -26,5 +29,8 @@ loop-i-preserved c = (
 
 pub returns : goal.returns
 returns c = let l = c.loop-i in
-    let e : l.i ≡ c.args.relations = omega arith in record { within = (omega arith, omega arith); same = l.invariant.2 ∙ ap (relations_left _ _ _) e; tried = λ h. absurd (omega arith) }
-
+    let e : l.i ≡ c.args.relations = omega arith in record {
+      within = (omega arith, omega arith);
+      same = l.invariant.2 ∙ ap (relations_left _ _ _) e;
+      tried = λ h. absurd (omega arith);
+    }

@@ -25,8 +25,11 @@ next_relation-r-requires c = (
 
 pub returns-then-r-relations : goal.returns-then-r-relations
 returns-then-r-relations c = let l = c.loop-atoms in
-    let n = c.next_relation-r in record { same = l.invariant.2 ∙ letters_same _ _ _ _ _ c.loop-atoms-test.true n.ensures.same.0; tried = λ z. (c.if-r-relations.true, n.ensures.same.1 c.if-r-relations.true); falls = omega (arith, l.invariant.3, weight_more l.atoms l.r n.result n.ensures.within.0) }
-
+    let n = c.next_relation-r in record {
+      same = l.invariant.2 ∙ letters_same _ _ _ _ _ c.loop-atoms-test.true n.ensures.same;
+      tried = λ z. (c.if-r-relations.true, n.ensures.tried c.if-r-relations.true);
+      falls = omega (arith, l.invariant.3, weight_more l.atoms l.r n.result n.ensures.within.0);
+    }
 
 pub loop-atoms-smaller : goal.loop-atoms-smaller
 loop-atoms-smaller c = omega (arith, (lowest 64 c.loop-atoms.atoms c.loop-atoms.invariant.0 c.loop-atoms-test.true).count)
@@ -37,10 +40,13 @@ loop-atoms-preserved c = let l = c.loop-atoms in
     let n = c.next_relation-r in (
       omega (arith, (lowest 64 l.atoms l.invariant.0 z).less),
       omega arith,
-      l.invariant.2 ∙ letters_same _ _ _ _ _ z n.ensures.same.0 ∙ letters_next _ _ l.atoms n.result l.invariant.0 z c.if-r-relations.false,
+      l.invariant.2 ∙ letters_same _ _ _ _ _ z n.ensures.same ∙ letters_next _ _ l.atoms n.result l.invariant.0 z c.if-r-relations.false,
       omega (arith, l.invariant.3, weight_next l.atoms l.r n.result l.invariant.0 z (weight_more l.atoms l.r n.result n.ensures.within.0)),
     )
 
 pub returns : goal.returns
-returns c = let l = c.loop-atoms in record { same = l.invariant.2; tried = λ z. absurd (z c.loop-atoms-test.false); falls = l.invariant.3 }
-
+returns c = let l = c.loop-atoms in record {
+      same = l.invariant.2;
+      tried = λ z. absurd (z c.loop-atoms-test.false);
+      falls = l.invariant.3;
+    }

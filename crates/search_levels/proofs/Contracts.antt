@@ -1,3 +1,0 @@
--- The contracts of the functions over lent records, as a function that calls one takes them.
-pub mod Turn
-pub mod Levels
