@@ -13,7 +13,7 @@ use mathlib.Core.Option.{Option, some, none}
 use lib.Dec.{eqb, ltb, ltb→lt}
 use lib.ListN.{length, get_or, length-append}
 use borrow.Author.Tests.{ltb-true, eqb-true, eq-eqb}
-use Rattle.kat.specs.Lists.{In, here, there, is_empty, some as someOf}
+use Rattle.kat.specs.Lists.{In, here, there, is_empty, some as some_of}
 use Rattle.kat.specs.Graph.{graph}
 use Rattle.kat.proofs.Bools.{true_not_false, and_left, and_right, and_both, not_true_false}
 use Rattle.kat.proofs.Sets.{some_in, in_some, in_append}
@@ -95,7 +95,7 @@ event_fits R L a = ltb a R.atoms && is_empty L.edges && ltb (length L.atoms) 64
 abbrev pub edge_fits : Ranges → Listed → Edge → Bool
 edge_fits R L e =
     ltb e.relation R.relations && ltb e.from (length L.atoms) && ltb e.to (length L.atoms)
-    && not (someOf (same_edge e) L.edges)
+    && not (some_of (same_edge e) L.edges)
 
 module _ (R : Ranges) where
   pub nothing_accepted : WellListed R (record { atoms = []; edges = [] })
@@ -133,15 +133,15 @@ module _ (R : Ranges) where
       let p : Bool = ltb e.relation R.relations in
       let q : Bool = ltb e.from (length L.atoms) in
       let r : Bool = ltb e.to (length L.atoms) in
-      let s : Bool = not (someOf (same_edge e) L.edges) in
+      let s : Bool = not (some_of (same_edge e) L.edges) in
       let pq : (p && q) ≡ true = and_left (p && q) r (and_left (p && q && r) s h) in
       let known : e.relation < R.relations = ltb-true e.relation R.relations (and_left p q pq) in
       let starts : e.from < length L.atoms = ltb-true e.from (length L.atoms) (and_right p q pq) in
       let ends : e.to < length L.atoms =
       ltb-true e.to (length L.atoms) (and_right (p && q) r (and_left (p && q && r) s h))
       in
-      let fresh : someOf (same_edge e) L.edges ≡ false =
-      not_true_false (someOf (same_edge e) L.edges) (and_right (p && q && r) s h)
+      let fresh : some_of (same_edge e) L.edges ≡ false =
+      not_true_false (some_of (same_edge e) L.edges) (and_right (p && q && r) s h)
       in
       record {
         atoms_known = A.atoms_known;

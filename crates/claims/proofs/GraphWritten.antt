@@ -12,7 +12,7 @@ use mathlib.Core.Option.{Option, some, none}
 use lib.Dec.{eqb, ltb}
 use lib.ListN.{length, take, drop, length-append}
 use borrow.Author.Tests.{le-leb, eqb-true, lt-ltb}
-use Rattle.kat.specs.Lists.{In, here, there, is_empty, some as someOf}
+use Rattle.kat.specs.Lists.{In, here, there, is_empty, some as some_of}
 use Rattle.kat.proofs.Bools.{and_left, and_right, and_both, true_not_false, false_not_true, false_of_not}
 use Rattle.kat.proofs.Sets.{some_in, in_append_right}
 use Rattle.claims.specs.Fields.{Field, whole, cut, contents_of, next_field, after_field, provided, field, big_endian}
@@ -222,9 +222,9 @@ module _ (R : Ranges) where
         (and_both (lt-ltb e.relation R.relations (A.edges_known e i))
         (lt-ltb e.from (length L.atoms) (A.from_event e i)))
         (lt-ltb e.to (length L.atoms) (A.to_event e i)))
-        (false_not_true (false_of_not (someOf (same_edge e) done) fresh))
+        (false_not_true (false_of_not (some_of (same_edge e) done) fresh))
       where
-        fresh : someOf (same_edge e) done ≡ true → ⊥
+        fresh : some_of (same_edge e) done ≡ true → ⊥
         fresh h =
             let (f, i, s) = some_in (same_edge e) done h in
             distinct_not_before done es (subst Distinct p A.once_each) (subst (λ g. In g done) (sym (same_edge_lem e f s)) i)

@@ -11,7 +11,7 @@ use mathlib.Core.Option.{Option, some, none}
 use lib.Dec.{eqb}
 use lib.ListN.{length}
 use borrow.Author.Tests.{eqb-true, leb-true}
-use Rattle.kat.specs.Lists.{some as someOf, is_empty}
+use Rattle.kat.specs.Lists.{some as some_of, is_empty}
 use Rattle.kat.specs.Word.{Word}
 use Rattle.kat.proofs.Bools.{and_left, and_right, true_not_false, not_true_false}
 use Rattle.notation.specs.Bytes.{same}
@@ -53,23 +53,23 @@ module _ (D : Decision) where
   -- a standing's field is whole, and its standing none of those before it
   standing_whole : (listed : Listed) (f : Field) (s : (claim_system D).Standing) → standing_in D listed f ≡ some s
       → (tag : ℕ) × (c : List ℕ) × (f ≡ whole tag c (after_field f)) × (standing_of D.ring D c ≡ some s)
-      × (someOf ((claim_system D).equal s) listed ≡ false)
+      × (some_of ((claim_system D).equal s) listed ≡ false)
   unfolding standing_in
   standing_whole listed cut s e = absurd (let z : ◌≡◌ {A = ℕ} 0 1 = cc in omega arith)
   standing_whole listed (whole tag c rest) s e = go (standing_of D.ring D c) refl e
     where
       go : (o : Option (claim_system D).Standing) → standing_of D.ring D c ≡ o
-          → elim o [ none ↦ none | some t ↦ provided (not (someOf ((claim_system D).equal t) listed)) t ] ≡ some s
+          → elim o [ none ↦ none | some t ↦ provided (not (some_of ((claim_system D).equal t) listed)) t ] ≡ some s
           → (t : ℕ) × (d : List ℕ) × (whole tag c rest ≡ whole t d rest) × (standing_of D.ring D d ≡ some s)
-          × (someOf ((claim_system D).equal s) listed ≡ false)
+          × (some_of ((claim_system D).equal s) listed ≡ false)
       go none p h = absurd (let z : ◌≡◌ {A = ℕ} 0 1 = cc in omega arith)
       go (some t) p h =
-          let (n, q) = provided_some (not (someOf ((claim_system D).equal t) listed)) t s h in (
+          let (n, q) = provided_some (not (some_of ((claim_system D).equal t) listed)) t s h in (
             tag,
             c,
             refl,
             p ∙ ap some q,
-            subst (λ u. someOf ((claim_system D).equal u) listed ≡ false) q (not_true_false (someOf ((claim_system D).equal t) listed) n),
+            subst (λ u. some_of ((claim_system D).equal u) listed ≡ false) q (not_true_false (some_of ((claim_system D).equal t) listed) n),
           )
 
   -- the standings ss are read from the bytes one after the other, none equal to one before it, and rest is what stands behind them
@@ -77,7 +77,7 @@ module _ (D : Decision) where
   Taken listed bs [] rest = bs ≡ rest
   Taken listed bs (s ∷ ss) rest =
       (c : List ℕ) × (after : List ℕ) × (next_field bs ≡ whole 3 c after) × (standing_of D.ring D c ≡ some s)
-      × (someOf ((claim_system D).equal s) listed ≡ false) × Taken (listed ++ (s ∷ [])) after ss rest
+      × (some_of ((claim_system D).equal s) listed ≡ false) × Taken (listed ++ (s ∷ [])) after ss rest
 
   -- the reading of standings ends behind them, or at the next one
   pub data StandingsEnd (n k : ℕ) (listed : Listed) (bs : List ℕ) (r : Result (Part D)) : Type 0 where
@@ -97,7 +97,7 @@ module _ (D : Decision) where
   here_stopped n k listed bs r e = let p : k ≡ k + 0 = omega arith in stopped [] bs refl (omega arith) (e ∙ ap (refuse sheet_field) p)
 
   one_more : (n k : ℕ) (listed : Listed) (s : (claim_system D).Standing) (bs c after : List ℕ) (r : Result (Part D))
-      → next_field bs ≡ whole 3 c after → standing_of D.ring D c ≡ some s → someOf ((claim_system D).equal s) listed ≡ false
+      → next_field bs ≡ whole 3 c after → standing_of D.ring D c ≡ some s → some_of ((claim_system D).equal s) listed ≡ false
       → StandingsEnd n (suc k) (listed ++ (s ∷ [])) after r → StandingsEnd (suc n) k listed bs r
   one_more n k listed s bs c after r f g h (behind ss rest t l e q) =
       let p : suc k + length ss ≡ k + length (s ∷ ss) = omega arith in

@@ -11,7 +11,7 @@ use mathlib.Core.List.{List, [], ◌∷◌, ◌++◌, append_assoc, append-nil}
 use mathlib.Core.Option.{some, none}
 use lib.ListN.{length}
 use borrow.Author.Tests.{eq-eqb}
-use Rattle.kat.specs.Lists.{some as someOf, In, here, there}
+use Rattle.kat.specs.Lists.{some as some_of, In, here, there}
 use Rattle.kat.specs.Word.{Word, numbers}
 use Rattle.kat.proofs.Bools.{false_of_not, true_not_false}
 use Rattle.kat.proofs.Sets.{some_in, in_some, in_append, in_append_left, in_append_right}
@@ -29,13 +29,13 @@ module _ (S : System) where
   -- none of the list, in its order, is equal to one listed or to one before it
   abbrev pub NoneRepeated : List S.Standing → List S.Standing → Type 0
   NoneRepeated listed [] = Unit {0}
-  NoneRepeated listed (s ∷ ss) = (someOf (S.equal s) listed ≡ false) × NoneRepeated (listed ++ (s ∷ [])) ss
+  NoneRepeated listed (s ∷ ss) = (some_of (S.equal s) listed ≡ false) × NoneRepeated (listed ++ (s ∷ [])) ss
 
   none_repeated : ((s t : S.Standing) → S.equal s t ≡ true → s ≡ t) → (listed ss : List S.Standing) → Distinct ss
       → ((s : S.Standing) → In s listed → In s ss → ⊥) → NoneRepeated listed ss
   none_repeated sound listed [] d h = tt
   none_repeated sound listed (s ∷ ss) (n, d) h = (
-    false_of_not (someOf (S.equal s) listed)
+    false_of_not (some_of (S.equal s) listed)
         (λ e. let (t, i, q) = some_in (S.equal s) listed e in h t i (here (sym (sound s t q)))),
     none_repeated sound (listed ++ (s ∷ [])) ss d (λ t i j. ⊎_elim (λ k. h t k (there j)) (λ k. last t k j) (in_append listed i)),
   )
@@ -82,7 +82,7 @@ module _ (D : Decision) where
 
   -- one more standing
   pub standing_step : (n k : ℕ) (listed : Listed) (s : (claim_system D).Standing) (c rest : List ℕ) → length c < 65536
-      → standing_of D.ring D c ≡ some s → someOf ((claim_system D).equal s) listed ≡ false
+      → standing_of D.ring D c ≡ some s → some_of ((claim_system D).equal s) listed ≡ false
       → standings_in D (suc n) k listed (field 3 c ++ rest) ≡ standings_in D n (suc k) (listed ++ (s ∷ [])) rest
   unfolding standings_in standing_in
   standing_step n k listed s c rest h e f =

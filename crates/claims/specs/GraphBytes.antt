@@ -3,7 +3,7 @@
 -- Assumes nothing.
 use Rattle.std.specs.Prelude.{ℕ, zero, suc, Bool, true, false, not, ◌&&◌, List, [], ◌∷◌, ◌++◌, eqb, ltb, length}
 use Rattle.std.proofs.Math.Option.{Option, some, none}
-use Rattle.kat.specs.Lists.{some as someOf, is_empty}
+use Rattle.kat.specs.Lists.{some as some_of, is_empty}
 use Rattle.kat.specs.Graph.{Finite}
 use Rattle.claims.specs.Fields.{Field, whole, cut, next_field, after_field, provided}
 use Rattle.notation.specs.Refusals.{graph_field, Result, ok, refuse}
@@ -44,7 +44,7 @@ with_edge R G (r ∷ x ∷ []) = none
 with_edge R G (r ∷ x ∷ y ∷ []) =
     let e : Edge = record { relation = r; from = x; to = y } in
     provided
-    (ltb r R.relations && ltb x (length G.atoms) && ltb y (length G.atoms) && not (someOf (same_edge e) G.edges))
+    (ltb r R.relations && ltb x (length G.atoms) && ltb y (length G.atoms) && not (some_of (same_edge e) G.edges))
     (record { atoms = G.atoms; edges = G.edges ++ (e ∷ []) })
 with_edge R G (r ∷ x ∷ y ∷ b ∷ bs) = none
 
@@ -78,5 +78,5 @@ unfoldable pub finite : Listed → Finite
 finite G =
     record {
       atoms = G.atoms;
-      edges = λ r x y. someOf (same_edge (record { relation = r; from = x; to = y })) G.edges;
+      edges = λ r x y. some_of (same_edge (record { relation = r; from = x; to = y })) G.edges;
     }

@@ -4,7 +4,7 @@
 -- Assumes nothing.
 use Rattle.std.specs.Prelude.{ℕ, zero, suc, ◌+◌, ◌*◌, ◌^◌, ◌%◌, Bool, true, false, not, cond, ◌&&◌, List, [], ◌∷◌, ◌++◌, map, eqb, ltb, leb, length, take, drop, get_or}
 use Rattle.std.proofs.Math.Option.{Option, some, none}
-use Rattle.kat.specs.Lists.{some as someOf, is_empty}
+use Rattle.kat.specs.Lists.{some as some_of, is_empty}
 use Rattle.kat.specs.Tables.{occurrences}
 use Rattle.kat.specs.Word.{Word, end, at}
 use Rattle.notation.specs.Bytes.{same}
@@ -107,7 +107,7 @@ module _ (D : Decision) where
   standing_in listed (whole tag contents rest) =
       elim (standing_of D.ring D contents) [
         | none ↦ none
-        | some s ↦ provided (not (someOf ((claim_system D).equal s) listed)) s
+        | some s ↦ provided (not (some_of ((claim_system D).equal s) listed)) s
       ]
 
   -- the standings from field k on, at most n more, as long as the next field has tag 3 ("Sheet and graph bytes")

@@ -4,7 +4,7 @@
 ghost use Rattle.std.specs.Prelude.{◌≡◌};
 ghost use Rattle.claims.specs.Calls.{check_call};
 ghost use Rattle.search_outcomes.specs.Outcomes.{lent_of, SearchGives};
-ghost use Rattle.confirmed_search.specs.inner.Kept.{kept_proved, kept_refuted, kept as keptBy};
+ghost use Rattle.confirmed_search.specs.inner.Kept.{kept_proved, kept_refuted, kept as kept_by};
 
 use refusals::Reason;
 use search_outcomes::Outcome;
@@ -35,7 +35,7 @@ fn kept_refuted(n: usize, bytes: usize, c: Checked) -> Outcome
 
 // The outcome, if the check says the same of the sheet.
 fn kept(r: Outcome, text: &[u8], sheet: &[u8]) -> Outcome
-    ensures { result ≡ keptBy r (check_call text.now sheet.now) }
+    ensures { result ≡ kept_by r (check_call text.now sheet.now) }
 {
     match r {
         Outcome::Proved(n, bytes) => kept_proved(n, bytes, sheet::check(text, sheet)),

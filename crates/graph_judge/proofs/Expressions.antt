@@ -11,7 +11,7 @@ use mathlib.Core.Option.{none}
 use lib.Dec.{eqb, ltb}
 use lib.ListN.{length, get_or, drop, length-append}
 use borrow.Author.Tests.{ltb-true}
-use Rattle.kat.specs.Lists.{upto, some as someOf}
+use Rattle.kat.specs.Lists.{upto, some as some_of}
 use Rattle.kat.specs.Expr.{none as nowhere}
 use Rattle.kat.specs.Closure.{table, entry, closure}
 use Rattle.kat.specs.Graph.{Finite}
@@ -188,7 +188,7 @@ module _ (G : Finite) (q : Query) (L : List ℕ) (n : ℕ) (g : Graphed G L n) w
         (λ k a b. sym (ap (λ x. performed L k (name_item ss x)) c.code ∙ relation_code_does L k (index_of m (relations p)) _ c.few))
         (λ x y a b. sym (ap (λ w. entry (pairs_of G (length (relations q)) w) x y)
         (relation_bound nowhere (expand (tests q)) (expand_grows (tests q)) q (single q) o p r z s m k)
-        ∙ sym (sized (λ x y. someOf (λ v. eqb (index_of m (relations q)) v && G.edges v x y) (upto 0 (length (relations q)))) x y a b)
+        ∙ sym (sized (λ x y. some_of (λ v. eqb (index_of m (relations q)) v && G.edges v x y) (upto 0 (length (relations q)))) x y a b)
         ∙ some_one (index_of m (relations q)) (length (relations q)) (λ v. G.edges v x y) (index_lt m (relations q) i)
         ∙ ap (λ v. G.edges v x y) (sym e)))
         (adds_given n (G.edges (index_of m (relations p))) j (λ k. relation_rows L (index_of m (relations p)))
@@ -251,13 +251,13 @@ module _ (G : Finite) (q : Query) (L : List ℕ) (n : ℕ) (g : Graphed G L n) w
     tree_shown (sequence e f) h l =
         let (a, b) = slip_append p (tree_uses e) (tree_uses f) h in
         let (i, m) = two_few (tree_codes p e) (tree_codes p f) 8 4096 l in
-        adds_same n (max (height e) (suc (height f))) (λ x y. someOf (λ z. related e x z && related f z y) (upto 0 n)) (related (sequence e f)) j
+        adds_same n (max (height e) (suc (height f))) (λ x y. some_of (λ z. related e x z && related f z y) (upto 0 n)) (related (sequence e f)) j
         (λ k. merged composed (performed_all L (performed_all L k (tree_items ss p e)) (tree_items ss p f)))
         (λ k. performed_all L k (tree_items ss p (sequence e f)))
         (λ k a b. sym (performed_two k (tree_items ss p e) (tree_items ss p f) 8))
-        (λ x y a b. ap (λ m. someOf (λ z. related e x z && related f z y) (upto 0 m)) (sym g.events)
-        ∙ sized (λ x y. someOf (λ z. related e x z && related f z y) (events G)) x y a b)
-        (adds_merged n (height e) (height f) (related e) (related f) (λ x y. someOf (λ z. related e x z && related f z y) (upto 0 n)) j
+        (λ x y a b. ap (λ m. some_of (λ z. related e x z && related f z y) (upto 0 m)) (sym g.events)
+        ∙ sized (λ x y. some_of (λ z. related e x z && related f z y) (events G)) x y a b)
+        (adds_merged n (height e) (height f) (related e) (related f) (λ x y. some_of (λ z. related e x z && related f z y) (upto 0 n)) j
         (λ k. performed_all L k (tree_items ss p e)) (λ k. performed_all L k (tree_items ss p f)) composed (height_some e)
         (λ t u. shows_composed n g.few t u (related e) (related f)) (tree_shown e a i) (tree_shown f b m))
     tree_shown (star e) h l =

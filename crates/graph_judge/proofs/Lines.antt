@@ -15,7 +15,7 @@ use Rattle.kat.proofs.Sets.{some_same, upto_in}
 use Rattle.claims.specs.Tree.{Name, TestTree, Tree, includes, empty, irreflexive, Line, let_line, never_line, assume_empty, assume_irreflexive, claim_line}
 use Rattle.claims.specs.Names.{test_uses, tree_uses, first_slip}
 use Rattle.claims.specs.Query.{Query, bit, each, lets, tests, holds}
-use Rattle.claims.specs.Judgement.{Outcome, breaks_from, events, breaks, claimed, some_pair, lowest_event, lowest_to, or_else, lowest_pair as lowestPairOf}
+use Rattle.claims.specs.Judgement.{Outcome, breaks_from, events, breaks, claimed, some_pair, lowest_event, lowest_to, or_else, lowest_pair as lowest_pair_of}
 use Rattle.codes.specs.Codes.{test_codes, tree_codes}
 use Rattle.codes.proofs.Orderly.{Orderly, Settled}
 use Rattle.side_atoms.specs.Tests.{test_set}
@@ -44,8 +44,8 @@ lowest_to_same f h e x [] = refl
 lowest_to_same f h e x (y ∷ ys) =
     ap₂ (λ b (m : Outcome). elim b as (λ z. Outcome) [ true ↦ breaks_from x y | false ↦ m ]) (e x y) (lowest_to_same f h e x ys)
 
-lowest_same : (f h : ℕ → ℕ → Bool) → ((x y : ℕ) → f x y ≡ h x y) → (ys xs : List ℕ) → lowestPairOf f ys xs ≡ lowestPairOf h ys xs
-unfolding lowestPairOf
+lowest_same : (f h : ℕ → ℕ → Bool) → ((x y : ℕ) → f x y ≡ h x y) → (ys xs : List ℕ) → lowest_pair_of f ys xs ≡ lowest_pair_of h ys xs
+unfolding lowest_pair_of
 lowest_same f h e ys [] = refl
 lowest_same f h e ys (x ∷ xs) = ap₂ or_else (lowest_to_same f h e x ys) (lowest_same f h e ys xs)
 
@@ -112,7 +112,7 @@ module _ (G : Finite) (q : Query) (L : List ℕ) (n : ℕ) (g : Graphed G L n) (
         (ap (λ m. pair_outcome (lowest_pair (top behind) blank m)) in_line_lem.events
         ∙ lowest_pair_lem n g.few (top behind) blank (related G q L n g e) (λ x y. false) shown (shows_blank n g.few)
         ∙ lowest_same (λ x y. related G q L n g e x y && true) (related G q L n g e) (λ x y. and-true (related G q L n g e x y)) (upto 0 n) (upto 0 n)
-        ∙ ap (λ m. lowestPairOf (related G q L n g e) (upto 0 m) (upto 0 m)) (sym g.events))
+        ∙ ap (λ m. lowest_pair_of (related G q L n g e) (upto 0 m) (upto 0 m)) (sym g.events))
         (ap (λ t. t.broken) added.state) in_line_lem)
 
     pub claimed_irreflexive : LineDone G q L n g p (claim_line (irreflexive e)) j (performed_all L j (tree_items ss p e ++ (item 138 0 ∷ [])))
@@ -145,7 +145,7 @@ module _ (G : Finite) (q : Query) (L : List ℕ) (n : ℕ) (g : Graphed G L n) (
         (found_done G q L n g p (includes e f) j k (lowest_pair (second k) (top k) k.state.events)
         (ap (λ m. pair_outcome (lowest_pair (second k) (top k) m)) i.events
         ∙ lowest_pair_lem n g.few (second k) (top k) E F (second_shows n E j behind added F k x) (top_shows n F behind k x)
-        ∙ ap (λ m. lowestPairOf (λ x y. E x y && not (F x y)) (upto 0 m) (upto 0 m)) (sym g.events))
+        ∙ ap (λ m. lowest_pair_of (λ x y. E x y && not (F x y)) (upto 0 m) (upto 0 m)) (sym g.events))
         (ap (λ t. t.broken) x.state ∙ ap (λ t. t.broken) added.state) i)
 
   -- the set of the events that satisfy a T

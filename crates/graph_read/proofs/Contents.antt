@@ -10,7 +10,7 @@ use mathlib.Core.Option.{Option, some, none}
 use lib.Dec.{ltb}
 use lib.ListN.{length, get_or, set, length-append}
 use borrow.Author.Tests.{lt-ltb, le-ltb}
-use Rattle.kat.specs.Lists.{is_empty, some as someOf}
+use Rattle.kat.specs.Lists.{is_empty, some as some_of}
 use Rattle.kat.proofs.Bools.{and_both, false_not_true}
 use Rattle.claims.specs.Query.{bit}
 use Rattle.claims.specs.Fields.{provided}
@@ -133,14 +133,14 @@ module _ {G : Listed} {n : ℕ} {edged : Bool} {ws : List ℕ} (h : Held G n edg
         takes_none n true ws (edge_by false (rw (f, and-false)))
 
     module _ (small : R.relations ≤ 16) (p : r < R.relations) (q : x < n) (l : y < n) where
-      here_bit : bit y (get_or ws (64 * r + x) 0) ≡ someOf (same_edge (edge_of r x y)) G.edges
+      here_bit : bit y (get_or ws (64 * r + x) 0) ≡ some_of (same_edge (edge_of r x y)) G.edges
       here_bit =
           ap (λ v. bit y (get_or v (64 * r + x) 0)) h.listed
           ∙ edge_bit G r x y (omega arith) (omega (arith, h.few)) (omega (arith, h.few))
 
       pub edge_repeated : bit y (get_or ws (64 * r + x) 0) ≡ true → Takes (with_edge R G bs) false n true ws
       edge_repeated e =
-          let f : someOf (same_edge (edge_of r x y)) G.edges ≡ true = sym here_bit ∙ e in
+          let f : some_of (same_edge (edge_of r x y)) G.edges ≡ true = sym here_bit ∙ e in
           takes_none n true ws (edge_by false (rw (f, and-false)))
 
       pub edge_taken : {v : ℕ} → v ≡ including 64 (get_or ws (64 * r + x) 0) y → bit y (get_or ws (64 * r + x) 0) ≡ false

@@ -12,7 +12,7 @@ use lib.Dec.{eqb, ltb}
 use lib.ListN.{length, get_or, set, length-set}
 use lib.Seq.{get_or-set_same, get_or-set_other, get_or-append_seam}
 use borrow.Author.Tests.{lt-ltb, le-ltb, eq-eqb, ne_eqb}
-use Rattle.kat.specs.Lists.{some as someOf}
+use Rattle.kat.specs.Lists.{some as some_of}
 use Rattle.kat.proofs.Bools.{lt_or_le}
 use Rattle.claims.specs.Query.{bit}
 use Rattle.claims.specs.GraphBytes.{Edge, Listed, same_edge, finite}
@@ -70,7 +70,7 @@ module _ (G : Listed) where
 
   -- an edge is listed where its bit is set
   pub edge_bit : (r x y : ℕ) → r < 16 → x < 64 → y < 64
-      → bit y (get_or (listed_words G) (64 * r + x) 0) ≡ someOf (same_edge (edge_of r x y)) G.edges
+      → bit y (get_or (listed_words G) (64 * r + x) 0) ≡ some_of (same_edge (edge_of r x y)) G.edges
   unfolding finite
   edge_bit r x y p q h = ap (bit y) (row_at r x p q) ∙ row_bit r x y h
 
@@ -112,9 +112,9 @@ module _ (G : Listed) (a : ℕ) (few : length G.atoms < 64) where
       (λ k h. ⊎_elim (here_stored k) (there_kept k h) (same_or_not k at))
 
 -- one more edge
-some_more : {A : Type 0} (p : A → Bool) (l : List A) (x : A) → someOf p (l ++ (x ∷ [])) ≡ (someOf p l || p x)
+some_more : {A : Type 0} (p : A → Bool) (l : List A) (x : A) → some_of p (l ++ (x ∷ [])) ≡ (some_of p l || p x)
 some_more p [] x = or-false (p x)
-some_more p (y ∷ l) x = ap (λ b. p y || b) (some_more p l x) ∙ sym (or_assoc (p y) (someOf p l) (p x))
+some_more p (y ∷ l) x = ap (λ b. p y || b) (some_more p l x) ∙ sym (or_assoc (p y) (some_of p l) (p x))
 
 module _ (G : Listed) (r x y : ℕ) (p : r < 16) (q : x < 64) (h : y < 64) where
   abbrev e : Edge

@@ -76,8 +76,8 @@ LineSays q raw st before names out (Refused c) = (n : ℕ) → line_fate q n raw
 
 -- a refused line leaves the table of names as it was
 abbrev pub KeepsNames : LineRead → List ℕ → List ℕ → Type 0
-KeepsNames (Taken next) names namesAfter = Unit {0}
-KeepsNames (Refused c) names namesAfter = namesAfter ≡ names
+KeepsNames (Taken next) names names_after = Unit {0}
+KeepsNames (Refused c) names names_after = names_after ≡ names
 
 -- a refused line leaves no code, of its own or of the lines before it
 abbrev pub LeavesNone : LineRead → List ℕ → Type 0
@@ -86,7 +86,7 @@ LeavesNone (Refused c) out = out ≡ zeros 4096
 
 -- so it is after the lines of every query, where the state, the table and the array are those after them
 abbrev pub ReadsLine : RawLine → LineState → List ℕ → List ℕ → LineRead → List ℕ → List ℕ → Type 0
-ReadsLine raw st names out r namesAfter outAfter =
-    LeavesNone r outAfter
-    × KeepsNames r names namesAfter
-    × ((q : Query) (before : List ℕ) → After q st before out → Tabled names st.names q → LineSays q raw st before namesAfter outAfter r)
+ReadsLine raw st names out r names_after out_after =
+    LeavesNone r out_after
+    × KeepsNames r names names_after
+    × ((q : Query) (before : List ℕ) → After q st before out → Tabled names st.names q → LineSays q raw st before names_after out_after r)

@@ -16,7 +16,7 @@ use Rattle.kat.specs.Lists.{upto, filter, some, is_empty, In, here, there}
 use Rattle.kat.proofs.Bools.{and_left, false_of_not, lt_or_le}
 use Rattle.kat.proofs.Sets.{filter_in, upto_in}
 use Rattle.claims.specs.Query.{bit}
-use Rattle.claims.specs.Judgement.{Outcome, holds_in, breaks_at, breaks_from, lowest_event, lowest_to, or_else, lowest_pair as lowestPairOf}
+use Rattle.claims.specs.Judgement.{Outcome, holds_in, breaks_at, breaks_from, lowest_event, lowest_to, or_else, lowest_pair as lowest_pair_of}
 use Rattle.bits.specs.Sets.{members}
 use Rattle.bits.proofs.Bit.{bit_above, bit-bit_and, bits_equal}
 use Rattle.bits.proofs.Shifted.{bit_cut}
@@ -98,8 +98,8 @@ module _ (n : ℕ) (fits : n ≤ 64) (t u : List ℕ) (f g : ℕ → ℕ → Boo
   pair_there x h (y ∷ ys) k d = let l : y < 64 = k y (here refl) in lt-ltb (64 * x + y) 4096 (omega arith)
 
   -- from some of the events
-  lowest_from_lem : (xs : List ℕ) → ((x : ℕ) → In x xs → x < n) → pair_outcome (lowest_from t u xs) ≡ lowestPairOf apart (upto 0 n) xs
-  unfolding lowest_from lowestPairOf pair_outcome
+  lowest_from_lem : (xs : List ℕ) → ((x : ℕ) → In x xs → x < n) → pair_outcome (lowest_from t u xs) ≡ lowest_pair_of apart (upto 0 n) xs
+  unfolding lowest_from lowest_pair_of pair_outcome
   lowest_from_lem [] k = refl
   lowest_from_lem (x ∷ xs) k =
       let h : x < n = k x (here refl) in
@@ -117,7 +117,7 @@ module _ (n : ℕ) (fits : n ≤ 64) (t u : List ℕ) (f g : ℕ → ℕ → Boo
       ∙ ap₂ ◌||◌ (sym (some_filled (apart x) (upto 0 n))) (some_from xs (λ y i. k y (there i)))
 
   -- the lowest pair that t has and u lacks
-  pub lowest_pair_lem : pair_outcome (lowest_pair t u n) ≡ lowestPairOf apart (upto 0 n) (upto 0 n)
+  pub lowest_pair_lem : pair_outcome (lowest_pair t u n) ≡ lowest_pair_of apart (upto 0 n) (upto 0 n)
   unfolding lowest_pair
   lowest_pair_lem = lowest_from_lem (upto 0 n) (λ x i. (upto_in x 0 n i).1)
 

@@ -35,9 +35,9 @@ use Rattle.search_shape.specs.inner.Tried.{shape_of, words_verdict}
 use Rattle.search_run.proofs.ByWords.{within_below, within_wider, within_rising, path_by_words, path_words_good, ring_by_words, ring_words_good}
 
 -- where the sheets are the same, the answers are
-module _ (S W : System) (show : W.Standing → S.Standing) (contents : S.Standing → List ℕ) (ofWords : W.Standing → List ℕ) where
-  answer_shown : (v : Verdict W) → sheet_bytes W ofWords v ≡ sheet_bytes S contents (shown show v)
-      → answer_of S contents (shown show v) ≡ answer_of W ofWords v
+module _ (S W : System) (show : W.Standing → S.Standing) (contents : S.Standing → List ℕ) (of_words : W.Standing → List ℕ) where
+  answer_shown : (v : Verdict W) → sheet_bytes W of_words v ≡ sheet_bytes S contents (shown show v)
+      → answer_of S contents (shown show v) ≡ answer_of W of_words v
   unfolding answer_of
   answer_shown (proved ss) e =
       ap₂ (λ n bs. ok (record { answer = proved_with n; sheet = bs })) (length-map ss show) (sym e)

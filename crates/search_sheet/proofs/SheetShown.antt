@@ -23,16 +23,16 @@ use Rattle.search_contents.specs.FieldWords.{contents_words}
 use Rattle.search_contents.proofs.FieldShown.{path_contents, ring_contents}
 
 module _ (S W : System) (show : W.Standing → S.Standing) (Good : W.Standing → Type 0)
-    (contents : S.Standing → List ℕ) (ofWords : W.Standing → List ℕ)
-    (same : (s : W.Standing) → Good s → ofWords s ≡ contents (show s)) where
+    (contents : S.Standing → List ℕ) (of_words : W.Standing → List ℕ)
+    (same : (s : W.Standing) → Good s → of_words s ≡ contents (show s)) where
   fields_shown : (ss : List W.Standing) → ((s : W.Standing) → In s ss → Good s)
-      → standing_fields W ofWords ss ≡ standing_fields S contents (map show ss)
+      → standing_fields W of_words ss ≡ standing_fields S contents (map show ss)
   unfolding standing_fields
   fields_shown [] g = refl
   fields_shown (s ∷ ss) g = ap₂ (λ c bs. field 3 c ++ bs) (same s (g s (here refl))) (fields_shown ss (λ t i. g t (there i)))
 
   -- the sheet of any verdict ("Sheet and graph bytes")
-  pub sheet_shown : (v : Verdict W) → AllListedGood W Good v → sheet_bytes W ofWords v ≡ sheet_bytes S contents (shown show v)
+  pub sheet_shown : (v : Verdict W) → AllListedGood W Good v → sheet_bytes W of_words v ≡ sheet_bytes S contents (shown show v)
   unfolding sheet_bytes
   sheet_shown (proved ss) g = ap (λ bs. field 1 (1 ∷ []) ++ bs) (fields_shown ss g)
   sheet_shown (refuted w) g = refl

@@ -13,7 +13,7 @@ use Rattle.kat.specs.Tables.{occurrences, ends}
 use Rattle.kat.proofs.Sets.{filter_same}
 use Rattle.claims.specs.Bytes.{same}
 use Rattle.claims.specs.Sides.{Decision}
-use Rattle.claims.specs.Standings.{Letter, Path, path_step, path_system, path_finals as pathFinalsOf}
+use Rattle.claims.specs.Standings.{Letter, Path, path_step, path_system, path_finals as path_finals_of}
 use Rattle.claims.specs.Search.{verdict}
 use Rattle.claims.specs.Fields.{big_endian}
 use Rattle.claims.specs.SheetBytes.{path_bytes}
@@ -107,8 +107,8 @@ module _ (k : Shape) {D : Decision} (path : k.ring ≡ false) (h : LettersOf k.l
           (set_step_shown D.left l.atom l.relation low letter few_left (get_or s 0 0) (P-small s g))
           (set_step_shown D.right l.atom l.relation low letter few_right (get_or s 1 0) (S-small s g))
 
-  finals_shown : (s : List ℕ) → Good s → pathFinalsOf D (path_of D s) ≡ path_finals left right k.live s
-  unfolding path_finals pathFinalsOf path_ends
+  finals_shown : (s : List ℕ) → Good s → path_finals_of D (path_of D s) ≡ path_finals left right k.live s
+  unfolding path_finals path_finals_of path_ends
   finals_shown s g =
       filter_same (λ a. ends D.left (path_of D s).P a && not (ends D.right (path_of D s).S a)) (path_ends left right s) D.live
       (λ a i. sym (ap₂ (λ b c. b && not c) (ends_shown D.left a (get_or s 0 0) (live_below h a i) (P-small s g))

@@ -13,7 +13,7 @@ use mathlib.Core.Option.{Option, some, none}
 use lib.Dec.{eqb}
 use lib.ListN.{length, drop}
 use borrow.Author.Tests.{eqb-true, eqb-false}
-use Rattle.kat.specs.Lists.{In, here, there, counted, some as someOf}
+use Rattle.kat.specs.Lists.{In, here, there, counted, some as some_of}
 use Rattle.kat.specs.Tables.{occurrences}
 use Rattle.kat.proofs.Bools.{and_left, and_right, true_not_false}
 use Rattle.kat.proofs.Sets.{in_append}
@@ -86,7 +86,7 @@ module _ (D : Decision) (k : ℕ) (listed : List (claim_system D).Standing) (bs 
 
 -- a test on shown things is one on those that show them
 some_shown : {A B : Type 0} (show : B → A) (p : A → Bool) (q : B → Bool) (l : List B) → ((x : B) → In x l → p (show x) ≡ q x)
-    → someOf p (map show l) ≡ someOf q l
+    → some_of p (map show l) ≡ some_of q l
 some_shown show p q [] h = refl
 some_shown show p q (x ∷ xs) h = ap₂ ◌||◌ (h x (here refl)) (some_shown show p q xs (λ y i. h y (there i)))
 
@@ -118,7 +118,7 @@ module _ {f : Facts} {left right : List ℕ} {D : Decision} (d : Decided f left 
     not_not false = refl
 
     -- it is none of those before it where the index does not have it
-    repeated : GoodCells D.ring D cells → not (someOf ((claim_system D).equal shown_here) before) ≡ eqb found 0
+    repeated : GoodCells D.ring D cells → not (some_of ((claim_system D).equal shown_here) before) ≡ eqb found 0
     repeated g =
         ap not
         (some_shown (cells_show D.ring D) ((claim_system D).equal shown_here) (same cells) (cells_listed D.ring bs base n)
@@ -127,7 +127,7 @@ module _ {f : Facts} {left right : List ℕ} {D : Decision} (d : Decided f left 
         ∙ not_not (eqb found 0)
 
     abbrev standing_from : Option (claim_system D).Standing → Option (claim_system D).Standing
-    standing_from o = elim o [ none ↦ none | some s ↦ provided (not (someOf ((claim_system D).equal s) before)) s ]
+    standing_from o = elim o [ none ↦ none | some s ↦ provided (not (some_of ((claim_system D).equal s) before)) s ]
 
     -- contents of the right length
     right_size_lem : (tag : ℕ) (contents rest : List ℕ) → next_field (drop at bs) ≡ whole tag contents rest

@@ -16,7 +16,7 @@ use Rattle.kat.proofs.Bools.{and_left, and_right, and_both}
 use Rattle.kat.proofs.Sets.{filter_same}
 use Rattle.claims.specs.Bytes.{same}
 use Rattle.claims.specs.Sides.{Decision}
-use Rattle.claims.specs.Standings.{System, Letter, path_step, path_system, path_finals as pathFinalsOf}
+use Rattle.claims.specs.Standings.{System, Letter, path_step, path_system, path_finals as path_finals_of}
 use Rattle.side_tables.specs.SideTable.{side_table}
 use Rattle.standings.specs.Steps.{step_from, step_set}
 use Rattle.standings.proofs.OccurrenceWords.{occurrences_of, word_empty, word_same}
@@ -154,8 +154,8 @@ module _ {live relations : ℕ} {D : Decision} (n : ℕ) (h : LettersOf live rel
           (set_step_shown D.left l.atom l.relation low letter few_left (wide s 0) (P-small s g))
           (set_step_shown D.right l.atom l.relation low letter few_right (wide s 2) (S-small s g))
 
-  finals_shown : (s : List ℕ) → Good s → pathFinalsOf D (path_shown D s) ≡ path_finals left right live s
-  unfolding path_finals pathFinalsOf path_ends
+  finals_shown : (s : List ℕ) → Good s → path_finals_of D (path_shown D s) ≡ path_finals left right live s
+  unfolding path_finals path_finals_of path_ends
   finals_shown s g =
       filter_same (λ a. ends D.left (path_shown D s).P a && not (ends D.right (path_shown D s).S a)) (path_ends left right s) D.live
       (λ a i. sym (ap₂ (λ b c. b && not c) (ends_shown D.left a (wide s 0) (live_below h a i) (P-small s g))

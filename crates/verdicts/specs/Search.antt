@@ -3,7 +3,7 @@
 -- Assumes nothing.
 use Rattle.std.specs.Prelude.{ℕ, zero, suc, Bool, true, false, not, ◌&&◌, List, [], ◌∷◌, ◌++◌, map, ltb, length}
 use Rattle.std.proofs.Math.Option.{Option, some, none}
-use Rattle.kat.specs.Lists.{some as someOf}
+use Rattle.kat.specs.Lists.{some as some_of}
 use Rattle.kat.specs.Word.{Word, end}
 use Rattle.kat.specs.Ring.{Prefix, nothing, then, onto}
 use Rattle.verdicts.specs.Standings.{System, Letter, letters}
@@ -40,7 +40,7 @@ module _ (S : System) where
 
   -- the standing is among those seen ("Standings")
   unfoldable pub seen_in : List (Entry S) → S.Standing → Bool
-  seen_in seen s = someOf (λ e. S.equal s e.standing) seen
+  seen_in seen s = some_of (λ e. S.equal s e.standing) seen
 
   -- those that have a standing which was not seen, each once ("Standings")
   unfoldable pub fresh : List (Entry S) → List (Entry S) → List (Entry S)

@@ -68,9 +68,9 @@ KindSays fate q most before names out (Refused c) = (n : ℕ) → fate n ≡ ref
 
 -- what stands from `at` on is a line as D reads it, after the lines of every query whose state, table and codes these are
 abbrev pub KindOutcome : (List Piece → Found Line) → List ℕ → ℕ → Bool → LineState → List ℕ → List ℕ → LineRead → List ℕ → List ℕ → Type 0
-KindOutcome D s at ended st names out r namesAfter outAfter =
+KindOutcome D s at ended st names out r names_after out_after =
     (q : Query) (before : List ℕ) → After q st before out → Tabled names st.names q
-    → KindSays (λ n. read_line q n (whole_line ended (D (tokens (drop at s))))) q (st.used + (length s - at) + 1) before namesAfter outAfter r
+    → KindSays (λ n. read_line q n (whole_line ended (D (tokens (drop at s))))) q (st.used + (length s - at) + 1) before names_after out_after r
 
 -- the place of the first word with the key k among those that the choices name; their number, if there is none
 unfoldable pub kind_place : List Choice → Key → ℕ
