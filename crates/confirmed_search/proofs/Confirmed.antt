@@ -25,11 +25,23 @@ proved_by : (n bytes : ℕ) (x : Result Passed) (c : Checked) → Says x c → k
 proved_by n bytes (ok passed_proved) PassesProved s = refl
 proved_by n bytes (ok passed_refuted) PassesRefuted s = refl
 proved_by n bytes (refused r) (Fails why p) s = refl
+proved_by n bytes (refused r) PassesRefuted s = elim s [ ]
+proved_by n bytes (refused r) PassesProved s = elim s [ ]
+proved_by n bytes (ok passed_refuted) PassesProved s = elim s [ ]
+proved_by n bytes (ok passed_refuted) (Fails why p) s = elim s [ ]
+proved_by n bytes (ok passed_proved) PassesRefuted s = elim s [ ]
+proved_by n bytes (ok passed_proved) (Fails why p) s = elim s [ ]
 
 refuted_by_lem : (n bytes : ℕ) (x : Result Passed) (c : Checked) → Says x c → kept_refuted n bytes c ≡ kept (Refuted n bytes) x
 refuted_by_lem n bytes (ok passed_proved) PassesProved s = refl
 refuted_by_lem n bytes (ok passed_refuted) PassesRefuted s = refl
 refuted_by_lem n bytes (refused r) (Fails why p) s = refl
+refuted_by_lem n bytes (refused r) PassesRefuted s = elim s [ ]
+refuted_by_lem n bytes (refused r) PassesProved s = elim s [ ]
+refuted_by_lem n bytes (ok passed_refuted) PassesProved s = elim s [ ]
+refuted_by_lem n bytes (ok passed_refuted) (Fails why p) s = elim s [ ]
+refuted_by_lem n bytes (ok passed_proved) PassesRefuted s = elim s [ ]
+refuted_by_lem n bytes (ok passed_proved) (Fails why p) s = elim s [ ]
 
 pub kept_proved_by : (r : Outcome) (n bytes : ℕ) (x : Result Passed) → r ≡ Proved n bytes → (c : Checked) → Says x c
     → {o : Outcome} → o ≡ kept_proved n bytes c → o ≡ kept r x
@@ -46,6 +58,10 @@ kept_refused_by r why p x e = ap (λ o. kept o x) (sym e)
 keeps : (ans : Answer) (r : Outcome) → SaysAnswer (ok ans) r → kept r (ok (passed_as ans)) ≡ r
 keeps (proved_with n) (Proved m bytes) s = refl
 keeps (refuted_by w) (Refuted m bytes) s = refl
+keeps (refuted_by w) (Refused _ _) s = elim s [ ]
+keeps (refuted_by w) (Proved m bytes) s = elim s [ ]
+keeps (proved_with n) (Refuted m bytes) s = elim s [ ]
+keeps (proved_with n) (Refused _ _) s = elim s [ ]
 
 -- the outcome of a search, kept by the check of its sheet, is the outcome
 pub kept_as_found : (bs : List ℕ) (allowance : ℕ) (before after : Lent) (r : Outcome) → SearchGives bs allowance before r after

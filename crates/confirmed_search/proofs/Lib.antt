@@ -4,5 +4,3 @@ pub mod Passing
 pub mod ThirdDemand
 -- An outcome that the check of its sheet keeps.
 pub mod Confirmed
--- The contract of the call over lent records.
-pub mod Contracts

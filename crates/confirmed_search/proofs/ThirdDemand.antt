@@ -6,10 +6,10 @@ use Rattle.claims.specs.Refusals.{Result, ok}
 use Rattle.claims.specs.Calls.{Answer, proved_with, refuted_by, Passed}
 use Rattle.claims.specs.Sheets.{passed_as}
 use Rattle.search_outcomes.specs.declared.Outcome.{Outcome}
-use Rattle.search_outcomes.specs.declared.Outcome.TheVariants.{Proved, Refuted}
+use Rattle.search_outcomes.specs.declared.Outcome.TheVariants.{Proved, Refuted, Refused}
 use Rattle.search_outcomes.specs.Outcomes.{Says as SaysAnswer}
 use Rattle.sheet_checked.specs.declared.Checked.{Checked}
-use Rattle.sheet_checked.specs.declared.Checked.TheVariants.{Proved as PassesProved, Refuted as PassesRefuted}
+use Rattle.sheet_checked.specs.declared.Checked.TheVariants.{Proved as PassesProved, Refuted as PassesRefuted, Refused}
 use Rattle.sheet_checked.specs.Checks.{Says}
 use Rattle.sheet.proofs.Evidence.{passes_proved, passes_refuted}
 use Rattle.confirmed_search.specs.ThirdDemand.{Confirms, ThirdDemand}
@@ -21,6 +21,14 @@ use Rattle.confirmed_search.proofs.Passing.{own_sheet_passes}
 confirms : (ans : Answer) (r : Outcome) → SaysAnswer (ok ans) r → (c : Checked) → Says (ok (passed_as ans)) c → Confirms r c
 confirms (proved_with n) (Proved m bytes) s PassesProved p = tt
 confirms (refuted_by w) (Refuted m bytes) s PassesRefuted p = tt
+confirms (refuted_by w) (Refuted m bytes) s PassesProved p = elim p [ ]
+confirms (refuted_by w) (Refuted m bytes) s (Refused _ _) p = elim p [ ]
+confirms (refuted_by w) (Refused _ _) s c p = elim s [ ]
+confirms (refuted_by w) (Proved m bytes) s c p = elim s [ ]
+confirms (proved_with n) (Refuted m bytes) s c p = elim s [ ]
+confirms (proved_with n) (Refused _ _) s c p = elim s [ ]
+confirms (proved_with n) (Proved m bytes) s PassesRefuted p = elim p [ ]
+confirms (proved_with n) (Proved m bytes) s (Refused _ _) p = elim p [ ]
 
 -- and the check has such an answer
 answered : (ans : Answer) {x : Result Passed} → ok (passed_as ans) ≡ x → (c : Checked) × Says x c

@@ -46,6 +46,12 @@ says_line (refused q) (Refused why p) sheet (e, f) word =
     ap₂ (λ (c : Cause) (k : ℕ). text "refusal" ++ (spaced (number c ∷ []) ++ (text " line" ++ (spaced (k ∷ []) ++ (10 ∷ []))))) e f
     ∙ ap (λ (l : List ℕ). text "refusal" ++ l)
     (sym (append_assoc (spaced (number q.cause ∷ [])) (text " line" ++ spaced (q.place ∷ [])) (10 ∷ [])))
+says_line (refused q) (Refuted n bytes) sheet e word = elim e [ ]
+says_line (refused q) (Proved n bytes) sheet e word = elim e [ ]
+says_line (ok (refuted_by w)) (Refused why p) sheet e word = elim e [ ]
+says_line (ok (refuted_by w)) (Proved n bytes) sheet e word = elim e [ ]
+says_line (ok (proved_with c)) (Refuted n bytes) sheet e word = elim e [ ]
+says_line (ok (proved_with c)) (Refused why p) sheet e word = elim e [ ]
 
 -- two hundred standings, whatever the kind of the claim
 allowance_200 : (k : Bool) → program_allowance k ≡ 200

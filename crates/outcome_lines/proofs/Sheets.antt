@@ -37,6 +37,10 @@ part_within k n bytes l e f = cut (le_or_lt n (length l)) ∙ ap (λ j. take j l
 bytes_given : (ans : Answer) (r : Outcome) → Says (ok ans) r → (g : Given) → Sized r (ok g) → sheet_bytes r ≡ length g.sheet
 bytes_given (proved_with c) (Proved n bytes) s g z = z
 bytes_given (refuted_by w) (Refuted n bytes) s g z = z
+bytes_given (refuted_by w) (Refused _ _) s g z = elim s [ ]
+bytes_given (refuted_by w) (Proved n bytes) s g z = elim s [ ]
+bytes_given (proved_with c) (Refuted n bytes) s g z = elim s [ ]
+bytes_given (proved_with c) (Refused _ _) s g z = elim s [ ]
 
 -- an answer of the search kept to the allowance of document 01
 pub answer_allowed : (bs : List ℕ) (allowance : ℕ) (m : Lent) (ans : Answer) → (search_call bs allowance m).result ≡ ok ans → allowance ≤ 4096
@@ -85,3 +89,5 @@ own_sheets text allowance before after r gives answers = go (search_call text al
         → Answers o → OwnSheet text allowance before after o
     go (ok ans) e o says sized a = owns ans e o says sized
     go (refused x) e (Refused why p) says sized a = absurd a
+    go (refused x) e (Refuted _ _) says sized a = elim says [ ]
+    go (refused x) e (Proved _ _) says sized a = elim says [ ]
