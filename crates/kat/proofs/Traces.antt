@@ -34,7 +34,7 @@ module _ (G : Graph) where
       → (o : Walk G x z) × (word_of G o ≡ onto l (word_of G p))
   walk_of_trace {x} {z = z} nothing e p =
       subst (λ y. (p : Walk G y z) → (o : Walk G x z) × (word_of G o ≡ word_of G p)) e (λ p. (p, refl)) p
-  walk_of_trace {x = x} {y = y} {z = z} (then l a r) (m , t , n , e) p =
+  walk_of_trace {x = x} {y = y} {z = z} (then l a r) (m, t, n, e) p =
       let (o, h) = walk_of_trace {y = m} l t (go r e p) in
       (o, h ∙ ap (λ b. onto l (at b r (word_of G p))) n)
 
