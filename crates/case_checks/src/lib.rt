@@ -1,12 +1,13 @@
 // Answers of the sheet check and of the judge to bytes that are cut anywhere or have another byte somewhere, on standard output, equal ones in a
 // row counted. What is written no contract can say, and the cases compare it; the bytes are left as they were.
 #![tactic(auto)]
+
 ghost use Rattle.std.specs.Prelude.{◌<◌, ◌≡◌};
 
 use graph::Judged;
-use libc::STDOUT_FILENO;
 use refusals::Reason;
 use sheet_checked::Checked;
+use streams::STDOUT;
 
 // Whose answers they are: the bytes are a sheet or a graph.
 #[derive(Clone, Copy)]
@@ -61,17 +62,17 @@ fn answer(of: Asked, query: &[u8], bytes: &[u8]) -> u64 {
 
 // Writes a judgement of this form, with its numbers.
 fn write_judged(form: u64, line: u64, a: u64, b: u64) {
-    io::write_all(STDOUT_FILENO, b"line ");
-    io::print_decimal(STDOUT_FILENO, line);
+    io::write_all(STDOUT, b"line ");
+    io::print_decimal(STDOUT, line);
     if form == 3 {
-        io::write_all(STDOUT_FILENO, b" holds");
+        io::write_all(STDOUT, b" holds");
         return;
     }
-    io::write_all(STDOUT_FILENO, b" breaks ");
-    io::print_decimal(STDOUT_FILENO, a);
+    io::write_all(STDOUT, b" breaks ");
+    io::print_decimal(STDOUT, a);
     if form == 5 {
-        io::write_all(STDOUT_FILENO, b" ");
-        io::print_decimal(STDOUT_FILENO, b);
+        io::write_all(STDOUT, b" ");
+        io::print_decimal(STDOUT, b);
     }
 }
 
@@ -81,18 +82,18 @@ fn write_code(c: u64) {
     let a = c / 8 % 1048576;
     let b = c / 8388608 % 1048576;
     if form == 0 {
-        io::write_all(STDOUT_FILENO, b"passes proved");
+        io::write_all(STDOUT, b"passes proved");
         return;
     }
     if form == 1 {
-        io::write_all(STDOUT_FILENO, b"passes refuted");
+        io::write_all(STDOUT, b"passes refuted");
         return;
     }
     if form == 2 {
-        io::write_all(STDOUT_FILENO, b"refusal ");
-        io::print_decimal(STDOUT_FILENO, a);
-        io::write_all(STDOUT_FILENO, b" line ");
-        io::print_decimal(STDOUT_FILENO, b);
+        io::write_all(STDOUT, b"refusal ");
+        io::print_decimal(STDOUT, a);
+        io::write_all(STDOUT, b" line ");
+        io::print_decimal(STDOUT, b);
         return;
     }
     write_judged(form, a, b, c / 8796093022208);
@@ -107,8 +108,8 @@ struct Run {
 
 // Writes the answers of a row.
 fn write_run(r: Run) {
-    io::print_decimal(STDOUT_FILENO, r.count);
-    io::write_all(STDOUT_FILENO, b" ");
+    io::print_decimal(STDOUT, r.count);
+    io::write_all(STDOUT, b" ");
     write_code(r.code);
 }
 
@@ -126,7 +127,7 @@ fn more(r: Run, c: u64) -> Run {
         }
     }
     write_run(r);
-    io::write_all(STDOUT_FILENO, b", ");
+    io::write_all(STDOUT, b", ");
     Run { count: 1, code: c }
 }
 
@@ -139,7 +140,7 @@ fn cuts(of: Asked, query: &[u8], bytes: &[u8]) {
         i += 1;
     }
     write_run(more(r, answer(of, query, bytes)));
-    io::write_all(STDOUT_FILENO, b"\n");
+    io::write_all(STDOUT, b"\n");
 }
 
 // The answer to the first n bytes of the buffer with another byte at a place; the byte that was there is put back.
@@ -167,7 +168,7 @@ fn changes(of: Asked, query: &[u8], buffer: &mut [u8], n: usize, at: usize)
         b += 1;
     }
     write_run(more(r, changed(of, query, buffer, n, at, 255)));
-    io::write_all(STDOUT_FILENO, b"\n");
+    io::write_all(STDOUT, b"\n");
 }
 
 // Writes the answers to all edits of a sheet or a graph, the first n bytes of the buffer: a line for the cuts, and one for each place. The buffer is

@@ -1,12 +1,13 @@
 // Stored cases on standard input, one a line, escaped as vectors/README.md says. The programs that run them ask for one after the other.
 #![tactic(auto)]
+
 ghost use Rattle.std.specs.Prelude.{◌*◌, ◌≤◌, cond, ◌≡◌, length, take};
 ghost use Rattle.case_lines.specs.Escapes.{hex_byte};
 ghost use Rattle.case_lines.specs.Fields.{Puts, digits_in, hex_bytes, hex_pairs, no_bytes, with_digit, with_digits};
 ghost use Rattle.case_lines.specs.Lines.{Scanned, Told, left};
 
 use escape::Place;
-use libc::STDIN_FILENO;
+use streams::STDIN;
 
 mod escape; // escape.rt: the bytes that a line stands for
 
@@ -72,7 +73,7 @@ pub fn next(part: &mut [u8], used: Cases, text: &mut [u8]) -> Case
             Found::Line(n, behind) => return Case::Line(n, Cases { at: behind, filled }),
             Found::More(p) => place = p,
         }
-        filled = io::read_full(STDIN_FILENO, part);
+        filled = io::read_full(STDIN, part);
         at = 0;
         if filled == 0 {
             return Case::End;

@@ -6,6 +6,7 @@
 // - `search`, an allowance and a query: the line of the query program, and behind an answer that of the check of its sheet;
 // - `whole`, the same, and for a refuted claim the drawn graph in hex and as text.
 #![tactic(auto)]
+
 use case_lines::{Case, Cases};
 use layout::{EDGE_BYTES, EVENT_BYTES, LONGEST_SHEET, MOST_WORDS};
 use sheets::Part;

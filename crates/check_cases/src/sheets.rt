@@ -3,11 +3,11 @@
 use case_checks::Asked;
 use draw::Drawing;
 use layout::WORD_AT;
-use libc::STDOUT_FILENO;
 use memory::wide;
 use refusals::Reason;
 use search_outcomes::Outcome;
 use sheet_checked::Checked;
+use streams::STDOUT;
 
 // What is asked of a case.
 #[derive(Clone, Copy)]
@@ -23,17 +23,17 @@ pub enum Part {
 fn write_refusal(why: Reason, place: usize) {
     let mut out = [0u8; 64];
     let n = print_line::refusal_line(&mut out, why, place);
-    io::write_all(STDOUT_FILENO, texts::first(&out, n));
+    io::write_all(STDOUT, texts::first(&out, n));
 }
 
 // Writes the line of the check.
 fn write_check(r: Checked) {
     match r {
         Checked::Proved => {
-            io::write_all(STDOUT_FILENO, b"passes proved\n");
+            io::write_all(STDOUT, b"passes proved\n");
         }
         Checked::Refuted => {
-            io::write_all(STDOUT_FILENO, b"passes refuted\n");
+            io::write_all(STDOUT, b"passes refuted\n");
         }
         Checked::Refused(why, place) => write_refusal(why, place),
     }
@@ -43,10 +43,10 @@ fn write_check(r: Checked) {
 fn write_hex(bytes: &[u8]) {
     let mut i = 0;
     while i < bytes.len() {
-        io::print_hex(STDOUT_FILENO, wide(bytes[i]), 2);
+        io::print_hex(STDOUT, wide(bytes[i]), 2);
         i += 1;
     }
-    io::write_all(STDOUT_FILENO, b"\n");
+    io::write_all(STDOUT, b"\n");
 }
 
 // Writes the graph in hex, the line of a refusal, or `none`.
@@ -56,13 +56,13 @@ fn write_graph(r: Drawing, graph: &[u8]) {
             write_hex(texts::first(graph, n));
         }
         Drawing::TooLarge(_) => {
-            io::write_all(STDOUT_FILENO, b"none\n");
+            io::write_all(STDOUT, b"none\n");
         }
         Drawing::Proved => {
-            io::write_all(STDOUT_FILENO, b"none\n");
+            io::write_all(STDOUT, b"none\n");
         }
         Drawing::Short => {
-            io::write_all(STDOUT_FILENO, b"short\n");
+            io::write_all(STDOUT, b"short\n");
         }
         Drawing::Refused(why, place) => write_refusal(why, place),
     }
@@ -77,14 +77,14 @@ fn write_text(r: Drawing, query: &[u8], sheet: &[u8], graph: &[u8], out: &mut [u
         return;
     }
     let m = dot::dot(query, &sheet[WORD_AT..], texts::first(graph, n), out);
-    io::write_all(STDOUT_FILENO, texts::first(out, m));
+    io::write_all(STDOUT, texts::first(out, m));
 }
 
 // Writes the line of an outcome without its end.
 fn write_outcome(r: Outcome, buffer: &[u8], out: &mut [u8]) {
     let m = outcome_lines::outcome_line(r, buffer, out);
     if 0 < m {
-        io::write_all(STDOUT_FILENO, texts::first(out, m - 1));
+        io::write_all(STDOUT, texts::first(out, m - 1));
     }
 }
 
@@ -109,11 +109,11 @@ fn write_checked(
 ) {
     write_outcome(r, buffer, out);
     if let Outcome::Refused(_, _) = r {
-        io::write_all(STDOUT_FILENO, b"\n");
+        io::write_all(STDOUT, b"\n");
         return;
     }
     let sheet = outcome_lines::sheet_of(r, buffer);
-    io::write_all(STDOUT_FILENO, b", ");
+    io::write_all(STDOUT, b", ");
     write_check(sheet::check(query, sheet));
     if whole {
         draw_whole(r, query, sheet, graph, out);

@@ -2,9 +2,9 @@
 // judged. (vectors/README.md, "The circle") Whatever is otherwise than it should be is written as a line.
 use draw::Drawing;
 use graph::Judged;
-use libc::STDOUT_FILENO;
 use search_outcomes::Outcome;
 use sheet_checked::Checked;
+use streams::STDOUT;
 
 // Where each count stands.
 pub const REFUTED: usize = 0;
@@ -56,14 +56,14 @@ fn breaks(j: Judged) -> bool {
 
 // Writes where something is otherwise.
 fn write_place(place: u64) {
-    io::write_all(STDOUT_FILENO, b"query ");
-    io::print_decimal(STDOUT_FILENO, place);
+    io::write_all(STDOUT, b"query ");
+    io::print_decimal(STDOUT, place);
 }
 
 // Says that a refuted query does not agree.
 fn disagrees(place: u64) {
     write_place(place);
-    io::write_all(STDOUT_FILENO, b" does not agree\n");
+    io::write_all(STDOUT, b" does not agree\n");
 }
 
 // Counts the judgement of a drawn graph.
@@ -117,9 +117,9 @@ fn made_judged(j: Judged, edged: bool, place: u64, number: u64, counts: &mut [u6
     count_if(counts, BREAKING, !met & broken);
     if met & broken {
         write_place(place);
-        io::write_all(STDOUT_FILENO, b" breaks in graph ");
-        io::print_decimal(STDOUT_FILENO, number);
-        io::write_all(STDOUT_FILENO, b"\n");
+        io::write_all(STDOUT, b" breaks in graph ");
+        io::print_decimal(STDOUT, number);
+        io::write_all(STDOUT, b"\n");
     }
 }
 

@@ -3,10 +3,11 @@
 // proved query graphs are made and judged: where one meets every line, the claim holds. Whatever is otherwise is written as a line, and in
 // the end how many of each there were.
 #![tactic(auto)]
+
 use case_lines::{Case, Cases};
 use counts::{BREAKING, BROKEN, DRAWN, EDGED, GRAPHS, HOLDING, MEETING, MET, PASSING, REFUTED};
 use layout::{EDGE_BYTES, EVENT_BYTES, LONGEST_SHEET, MOST_WORDS};
-use libc::STDOUT_FILENO;
+use streams::STDOUT;
 
 mod graphs; // graphs.rt: small graphs for a query
 mod counts; // counts.rt: the verdict of a query tried, and counted
@@ -44,8 +45,8 @@ fn write_count(counts: &[u64], i: usize, what: &[u8]) {
     if counts.len() <= i {
         return;
     }
-    io::print_decimal(STDOUT_FILENO, counts[i]);
-    io::write_all(STDOUT_FILENO, what);
+    io::print_decimal(STDOUT, counts[i]);
+    io::write_all(STDOUT, what);
 }
 
 // Writes all counts.

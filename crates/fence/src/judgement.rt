@@ -6,7 +6,7 @@
 use crate::input::{Input, TEXT};
 use codes::MOST_RELATIONS;
 use layout::{EDGE_BYTES, EVENT_BYTES};
-use libc::{STDERR_FILENO, STDOUT_FILENO};
+use streams::{STDERR, STDOUT};
 
 // The bytes of the largest graph, and one more.
 const GRAPH: usize = EVENT_BYTES + MOST_RELATIONS * EDGE_BYTES + 1;
@@ -14,27 +14,34 @@ const GRAPH: usize = EVENT_BYTES + MOST_RELATIONS * EDGE_BYTES + 1;
 // Judges, and writes the line of the judgement and what it means.
 fn show(text: &[u8], graph: &[u8], out: &mut [u8]) {
     let said = judge_line::judged_line(text, graph, out);
-    crate::output::write(STDOUT_FILENO, out, said.bytes);
+    crate::output::write(STDOUT, out, said.bytes);
     let j = said.judged;
     let m = judge_line::words(j, text, out);
-    crate::output::write(STDERR_FILENO, out, m);
+    crate::output::write(STDERR, out, m);
 }
 
 // Reads the query and the graph into the memory, and judges.
-fn judge_into(query: usize, graph: usize, text: &mut [u8], buffer: &mut [u8], out: &mut [u8]) {
-    let Input::Bytes(n) = crate::input::read(query, text) else {
+fn judge_into(
+    rt: HostRuntime,
+    query: usize,
+    graph: usize,
+    text: &mut [u8],
+    buffer: &mut [u8],
+    out: &mut [u8],
+) {
+    let Input::Bytes(n) = crate::input::read(rt, query, text) else {
         return;
     };
-    let Input::Bytes(m) = crate::input::read(graph, buffer) else {
+    let Input::Bytes(m) = crate::input::read(rt, graph, buffer) else {
         return;
     };
     show(texts::first(text, n), texts::first(buffer, m), out);
 }
 
 // Judges the graph for the query, both being known by the arguments that name them.
-pub fn judge(query: usize, graph: usize) {
+pub fn judge(rt: HostRuntime, query: usize, graph: usize) {
     let mut text = [0u8; TEXT];
     let mut buffer = [0u8; GRAPH];
     let mut out = [0u8; 8192];
-    judge_into(query, graph, &mut text, &mut buffer, &mut out);
+    judge_into(rt, query, graph, &mut text, &mut buffer, &mut out);
 }

@@ -5,9 +5,10 @@
 // that is wrong, the 4,097th standing at the latest, or the field behind a refuted sheet's word, so that it is refused alike. Each kind of call
 // has its own memory.
 #![tactic(auto)]
+
 use arguments::Call;
-use libc::STDERR_FILENO;
 use sheets::OfSheet;
+use streams::STDERR;
 
 mod input; // input.rt: the arguments and the files that they name
 mod output; // output.rt: what is written
@@ -17,39 +18,39 @@ mod sheets; // sheets.rt: the calls with a sheet
 mod judgement; // judgement.rt: the call of the judge
 
 // The argument that does not fit.
-fn wrong(i: usize) {
+fn wrong(rt: HostRuntime, i: usize) {
     let mut word = io::buffer();
-    let n = os::arg(i, &mut word);
-    io::write_all(STDERR_FILENO, b"fence: this argument does not fit: ");
-    io::write_all(STDERR_FILENO, &word[..n]);
-    io::write_all(STDERR_FILENO, b"\nfence --help tells the calls\n");
+    let n = input::argument(rt, i, &mut word).unwrap_or(0);
+    io::write_all(STDERR, b"fence: this argument does not fit: ");
+    io::write_all(STDERR, &word[..n]);
+    io::write_all(STDERR, b"\nfence --help tells the calls\n");
 }
 
 // An argument is missing.
 fn short() {
     io::write_all(
-        STDERR_FILENO,
+        STDERR,
         b"fence: an argument is missing\nfence --help tells the calls\n",
     );
 }
 
 // A call without a sheet.
-fn answer(call: Call) {
+fn answer(rt: HostRuntime, call: Call) {
     match call {
-        Call::Query(allowance, file) => verdict::verdict(file, allowance),
-        Call::Sheet(allowance, file) => verdict::searched(file, allowance, true),
-        Call::Judge(query, graph) => judgement::judge(query, graph),
+        Call::Query(allowance, file) => verdict::verdict(rt, file, allowance),
+        Call::Sheet(allowance, file) => verdict::searched(rt, file, allowance, true),
+        Call::Judge(query, graph) => judgement::judge(rt, query, graph),
         Call::Help => help::write_help(),
-        Call::Wrong(i) => wrong(i),
+        Call::Wrong(i) => wrong(rt, i),
         _ => short(),
     }
 }
 
-fn main() {
-    let call = input::call();
+fn main(rt: HostRuntime) {
+    let call = input::call(rt);
     let of_sheet = sheets::of_call(call);
     match of_sheet {
-        OfSheet::Asks(asked, query, sheet) => sheets::with_sheet(asked, query, sheet),
-        OfSheet::Nothing => answer(call),
+        OfSheet::Asks(asked, query, sheet) => sheets::with_sheet(rt, asked, query, sheet),
+        OfSheet::Nothing => answer(rt, call),
     }
 }

@@ -5,10 +5,10 @@ ghost use Rattle.outcome_lines.specs.Shown.{longest_line};
 
 use draw::Drawing;
 use layout::{PROGRAM_ALLOWANCE, WORD_AT};
-use libc::{STDERR_FILENO, STDOUT_FILENO};
 use refusals::Reason;
 use search_outcomes::Outcome;
 use sheet_checked::Checked;
+use streams::{STDERR, STDOUT};
 
 // Writes the first n bytes of the memory.
 pub fn write(fd: i32, out: &[u8], n: usize) {
@@ -18,20 +18,20 @@ pub fn write(fd: i32, out: &[u8], n: usize) {
 // Says on standard error what a refusal means.
 fn explain(why: Reason, place: usize, text: &[u8], out: &mut [u8]) {
     let n = refusal_texts::refusal(out, why, place, text);
-    write(STDERR_FILENO, out, n);
+    write(STDERR, out, n);
 }
 
 // Writes the line of a refusal, and what it means.
 fn refuse(why: Reason, place: usize, text: &[u8], out: &mut [u8]) {
     let n = print_line::refusal_line(out, why, place);
-    write(STDOUT_FILENO, out, n);
+    write(STDOUT, out, n);
     explain(why, place, text, out);
 }
 
 // Writes the line of an outcome.
 fn show(r: Outcome, text: &[u8], buffer: &[u8], out: &mut [u8]) {
     let n = outcome_lines::outcome_line(r, buffer, out);
-    write(STDOUT_FILENO, out, n);
+    write(STDOUT, out, n);
     if let Outcome::Refused(why, place) = r {
         explain(why, place, text, out);
     }
@@ -43,17 +43,17 @@ pub fn show_sheet(r: Outcome, text: &[u8], buffer: &[u8], out: &mut [u8]) {
         refuse(why, place, text, out);
         return;
     }
-    io::write_all(STDOUT_FILENO, outcome_lines::sheet_of(r, buffer));
+    io::write_all(STDOUT, outcome_lines::sheet_of(r, buffer));
 }
 
 // The line of the sheet check.
 pub fn show_check(r: Checked, text: &[u8], out: &mut [u8]) {
     match r {
         Checked::Proved => {
-            io::write_all(STDOUT_FILENO, b"passes proved\n");
+            io::write_all(STDOUT, b"passes proved\n");
         }
         Checked::Refuted => {
-            io::write_all(STDOUT_FILENO, b"passes refuted\n");
+            io::write_all(STDOUT, b"passes refuted\n");
         }
         Checked::Refused(why, place) => refuse(why, place, text, out),
     }
@@ -71,27 +71,27 @@ pub fn show_graph(
     match r {
         Drawing::Graph(n) => {
             if !as_text {
-                write(STDOUT_FILENO, graph, n);
+                write(STDOUT, graph, n);
                 return;
             }
             if WORD_AT <= sheet.len() {
                 let m = dot::dot(text, &sheet[WORD_AT..], texts::first(graph, n), out);
-                write(STDOUT_FILENO, out, m);
+                write(STDOUT, out, m);
             }
         }
         Drawing::TooLarge(n) => {
-            io::write_all(STDERR_FILENO, b"fence: the drawn graph has ");
-            io::print_decimal(STDERR_FILENO, n as u64);
-            io::write_all(STDERR_FILENO, b" events; graph bytes have at most 64\n");
+            io::write_all(STDERR, b"fence: the drawn graph has ");
+            io::print_decimal(STDERR, n as u64);
+            io::write_all(STDERR, b" events; graph bytes have at most 64\n");
         }
         Drawing::Proved => {
             io::write_all(
-                STDERR_FILENO,
+                STDERR,
                 b"fence: the sheet passes and says proved: there is no counterexample to draw\n",
             );
         }
         Drawing::Short => {
-            io::write_all(STDERR_FILENO, b"fence: there is no room for the graph\n");
+            io::write_all(STDERR, b"fence: there is no room for the graph\n");
         }
         Drawing::Refused(why, place) => refuse(why, place, text, out),
     }
@@ -108,7 +108,7 @@ pub fn query(text: &[u8], allowance: usize, words: &mut [u64], buffer: &mut [u8]
         return;
     }
     let said = fence_line::line(text, out);
-    write(STDOUT_FILENO, out, said.bytes);
+    write(STDOUT, out, said.bytes);
     let r = said.outcome;
     if let Outcome::Refused(why, place) = r {
         explain(why, place, text, out);

@@ -41,6 +41,7 @@ fn answer(asked: Asked, query: &[u8], sheet: &[u8], graph: &mut [u8], out: &mut 
 
 // The query and the sheet are read into the memory, and what is asked is answered.
 fn sheet_into(
+    rt: HostRuntime,
     asked: Asked,
     query: usize,
     sheet: usize,
@@ -49,10 +50,10 @@ fn sheet_into(
     graph: &mut [u8],
     out: &mut [u8],
 ) {
-    let Input::Bytes(n) = crate::input::read(query, text) else {
+    let Input::Bytes(n) = crate::input::read(rt, query, text) else {
         return;
     };
-    let Input::Bytes(m) = crate::input::read(sheet, buffer) else {
+    let Input::Bytes(m) = crate::input::read(rt, sheet, buffer) else {
         return;
     };
     answer(
@@ -66,12 +67,13 @@ fn sheet_into(
 
 // A call with a sheet, with memory for the longest sheet and a standing more, and for every drawn graph: only where all steps of a ring have one
 // relation does closing join every event with every other, so that there are no more edges than one relation may have.
-pub fn with_sheet(asked: Asked, query: usize, sheet: usize) {
+pub fn with_sheet(rt: HostRuntime, asked: Asked, query: usize, sheet: usize) {
     let mut text = [0u8; TEXT];
     let mut buffer = [0u8; SHEET];
     let mut graph = [0u8; GRAPH];
     let mut out = [0u8; 262144];
     sheet_into(
+        rt,
         asked,
         query,
         sheet,

@@ -10,6 +10,7 @@ const LINE: usize = 32768;
 
 // The query is read into the memory, searched and shown. The last memory is required to hold the longest line, so that no line is cut.
 fn search_into(
+    rt: HostRuntime,
     file: usize,
     allowance: usize,
     as_sheet: bool,
@@ -20,7 +21,7 @@ fn search_into(
 )
     requires { longest_line ≤ length out.old }
 {
-    let Input::Bytes(n) = crate::input::read(file, text) else {
+    let Input::Bytes(n) = crate::input::read(rt, file, text) else {
         return;
     };
     if as_sheet {
@@ -32,12 +33,13 @@ fn search_into(
 }
 
 // The query program of document 01, at its allowance: the line is made with memory of its own, so that none is lent.
-fn queried(file: usize) {
+fn queried(rt: HostRuntime, file: usize) {
     let mut text = [0u8; TEXT];
     let mut words = [0u64; 0];
     let mut buffer = [0u8; 0];
     let mut out = [0u8; LINE];
     search_into(
+        rt,
         file,
         PROGRAM_ALLOWANCE,
         false,
@@ -49,12 +51,13 @@ fn queried(file: usize) {
 }
 
 // The call of a verdict or its sheet, with memory for the largest allowance, its longest sheet and its longest line.
-pub fn searched(file: usize, allowance: usize, as_sheet: bool) {
+pub fn searched(rt: HostRuntime, file: usize, allowance: usize, as_sheet: bool) {
     let mut text = [0u8; TEXT];
     let mut words = [0u64; MOST_WORDS];
     let mut buffer = [0u8; LONGEST_SHEET];
     let mut out = [0u8; LINE];
     search_into(
+        rt,
         file,
         allowance,
         as_sheet,
@@ -66,10 +69,10 @@ pub fn searched(file: usize, allowance: usize, as_sheet: bool) {
 }
 
 // The call of a verdict.
-pub fn verdict(file: usize, allowance: usize) {
+pub fn verdict(rt: HostRuntime, file: usize, allowance: usize) {
     if allowance == PROGRAM_ALLOWANCE {
-        queried(file);
+        queried(rt, file);
         return;
     }
-    searched(file, allowance, false);
+    searched(rt, file, allowance, false);
 }

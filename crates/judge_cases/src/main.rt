@@ -2,14 +2,15 @@
 // line of the judgement is written; behind a line `edits` the answers to the graph cut anywhere, and for each place of it those to every byte
 // there.
 #![tactic(auto)]
+
 use case_checks::Asked;
 use case_lines::{Case, Cases};
-use libc::STDOUT_FILENO;
+use streams::STDOUT;
 
 // Writes the line of the judgement.
 fn judged(query: &[u8], graph: &[u8], out: &mut [u8]) {
     let n = judge_line::line(graph::judge(query, graph), out);
-    io::write_all(STDOUT_FILENO, texts::first(out, n));
+    io::write_all(STDOUT, texts::first(out, n));
 }
 
 // Answers a case: the graph in hex, and the query behind a space.

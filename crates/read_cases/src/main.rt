@@ -1,14 +1,15 @@
 // Runs the stored cases for reading. Standard input has one query a line, escaped as vectors/README.md says; for each the program writes
 // what the reader says of it. Of a query 4,097 bytes are kept: from there on it is too long, whatever follows.
 #![tactic(auto)]
+
 use case_lines::{Case, Cases};
-use libc::STDOUT_FILENO;
+use streams::STDOUT;
 
 // Writes what the reader says of a query.
 fn answer(text: &[u8]) {
     let mut out = [0u8; reading_line::LONGEST];
     let n = reading_line::line(text, &mut out);
-    io::write_all(STDOUT_FILENO, texts::first(&out, n));
+    io::write_all(STDOUT, texts::first(&out, n));
 }
 
 // Answers the cases of standard input, one after the other.

@@ -2,11 +2,12 @@
 // vectors/README.md says; for each the program writes the line of the query program. Behind a line that is the word `sheet` it writes the
 // bytes of the sheet in hex instead, or the refusal.
 #![tactic(auto)]
+
 use case_lines::{Case, Cases};
 use layout::{MOST_STANDINGS, RING_FIELD, RING_WORDS, VERDICT};
-use libc::STDOUT_FILENO;
 use memory::wide;
 use search_outcomes::Outcome;
+use streams::STDOUT;
 
 // The words of the working memory at the largest allowance.
 const WORDS: usize = RING_WORDS * MOST_STANDINGS;
@@ -29,7 +30,7 @@ fn asks_sheets(text: &[u8], n: usize) -> bool {
 fn write_line(r: Outcome, buffer: &[u8], out: &mut [u8]) {
     let m = outcome_lines::outcome_line(r, buffer, out);
     if m <= out.len() {
-        io::write_all(STDOUT_FILENO, &out[..m]);
+        io::write_all(STDOUT, &out[..m]);
     }
 }
 
@@ -37,10 +38,10 @@ fn write_line(r: Outcome, buffer: &[u8], out: &mut [u8]) {
 fn write_hex(bytes: &[u8]) {
     let mut i = 0;
     while i < bytes.len() {
-        io::print_hex(STDOUT_FILENO, wide(bytes[i]), 2);
+        io::print_hex(STDOUT, wide(bytes[i]), 2);
         i += 1;
     }
-    io::write_all(STDOUT_FILENO, b"\n");
+    io::write_all(STDOUT, b"\n");
 }
 
 // Writes the sheet of an answer, or the line of a refusal.
