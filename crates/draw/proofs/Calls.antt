@@ -169,6 +169,8 @@ module _ (text sheet : List ℕ) (c : Checked) (says : Says (check_call text she
     where
       go : (x : Result Passed) → Says x RefutedSheet → x ≡ ok passed_refuted
       go (ok passed_refuted) s = refl
+      go (refused _) s = elim s [ ]
+      go (ok passed_proved) s = elim s [ ]
 
 -- what a sheet that passes as refuted is
 pub record Refutes (text sheet out : List ℕ) : Type 0 where

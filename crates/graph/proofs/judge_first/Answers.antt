@@ -23,18 +23,18 @@ slice_bounds-judge-end c = simp length-take (omega arith)
 
 pub slice_bounds-args-end-2 : goal.slice_bounds-args-end-2
 slice_bounds-args-end-2 c =
-    let k = simp length-take at c.find_args.auto.1 in
+    let k = simp length-take at c.find_args.auto.args in
     simp (length-append, length-drop) (omega arith)
 
 pub slice_bounds-judge-end-2 : goal.slice_bounds-judge-end-2
 slice_bounds-judge-end-2 c =
-    let k = simp length-take at c.find_args.auto.1 in
+    let k = simp length-take at c.find_args.auto.args in
     simp (length-take, length-append, length-drop) (omega arith)
 
 pub returns : goal.returns
 returns c =
     let t = c in
-    let k = simp length-take at t.find_args.auto.1 in
+    let k = simp length-take at t.find_args.auto.args in
     let s = c in
     let a = s.args in
     items_read a.listed.now a.codes.now _ _ a.n _ _ _ t.find_args.ensures (omega arith) s.least-m.ensures c.judge.ensures

@@ -1,0 +1,19 @@
+-- `reading_line::answer_line` meets its contract. By the case of the answer.
+-- Assumes nothing.
+use Rattle.reading_line.proofs.Shown.{as_accepted, as_refused}
+use Rattle.reading_line.proofs.Short.{answer_accepted, answer_refused}
+use borrow.Author.Rules.{rules}
+use Rattle.reading_line.proofs.answer_line.Goals as goal
+
+pub returns-in-Accepted : goal.returns-in-Accepted
+returns-in-Accepted c =
+    let (puts, short) = c.accepted_line.ensures in
+    let e = c.in-Accepted.is in
+    record { puts = as_accepted _ _ e puts; short = answer_accepted _ _ e short }
+
+
+pub returns-in-Refused : goal.returns-in-Refused
+returns-in-Refused c =
+    let e = c.in-Refused.is in
+    record { puts = as_refused _ _ _ e c.refusal_line.ensures; short = answer_refused _ _ _ e (search rules) }
+
