@@ -2,6 +2,7 @@
 // which call they ask for in the end. A file is known by the number of the argument that names it, from 1; 0 stands for none. What each argument
 // does is a definition, and so is the call in the end.
 #![tactic(auto)]
+
 ghost use Rattle.std.specs.Prelude.{◌≤◌, ◌≡◌};
 ghost use Rattle.arguments.specs.ArgumentWords.{verb_of, kind_of, dashes_first, more, allowance_in};
 ghost use Rattle.arguments.specs.Arguments.{nothing_behind, none_seen, begun, wrong_at, with_count, with_file, with_argument, taken, asks};

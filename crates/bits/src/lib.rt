@@ -2,6 +2,7 @@
 // row past its end is empty. In a set, members are taken lowest number first (document 01, "The form for each place"): each loop walks
 // a set by its trailing zeros, and the count of its ones falls.
 #![tactic(auto)]
+
 ghost use Rattle.std.specs.Prelude.{◌≡◌, cond};
 ghost use Rattle.claims.specs.Query.{bit};
 ghost use Rattle.bits.specs.Sets.{including, all_below, union_rows, meets_rows, any_member};

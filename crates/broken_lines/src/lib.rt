@@ -1,5 +1,6 @@
 // The first line that a judged graph breaks.
 #![tactic(auto)]
+
 ghost use Rattle.std.specs.Prelude.{◌≡◌};
 ghost use Rattle.broken_lines.specs.BrokenLine.{broken_line};
 

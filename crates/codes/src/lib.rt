@@ -1,5 +1,6 @@
 // The codes of a query's syntax, by name (`specs/Codes.antt` says where each stands), and what a walk over them keeps of the lets.
 #![tactic(auto)]
+
 ghost use Rattle.std.specs.Prelude.{◌≡◌, cond, ◌+◌, ◌<◌, ◌^◌, eqb};
 ghost use Rattle.codes.specs.Codes.{LET-LINE, claim_kind};
 ghost use Rattle.codes.specs.Lets.{kept};

@@ -1,6 +1,7 @@
 // The search, and the check of the sheet that it wrote: an outcome is handed on only where the check keeps it. (Document 01, "Sheet and graph
 // bytes".) The two calls share only the reading of the query; `specs/ThirdDemand.antt` says what they owe together.
 #![tactic(auto)]
+
 ghost use Rattle.std.specs.Prelude.{◌≡◌};
 ghost use Rattle.claims.specs.Calls.{check_call};
 ghost use Rattle.search_outcomes.specs.Outcomes.{lent_of, SearchGives};

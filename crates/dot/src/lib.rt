@@ -1,6 +1,7 @@
 // A drawn graph as text for the program `dot`: an event with its number and the tests that hold of it, an edge with its relation, by the query's own
 // names; solid where it is a step of the word, dashed where it comes from closing. What does not fit is left out.
 #![tactic(auto)]
+
 ghost use Rattle.std.specs.Prelude.{◌*◌, ◌≤◌, ◌≡◌, [], not, cond, length, drop};
 ghost use Rattle.kat.specs.Lists.{is_empty};
 ghost use Rattle.claims.specs.Query.{bit};

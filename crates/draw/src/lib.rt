@@ -2,6 +2,7 @@
 // query's assumptions and breaks its claim. (Document 01, "Words", Drawn graph, and "Sheet and graph bytes".) The query and the sheet are checked
 // first, refusals 1 to 8, 13 and 14. For every input the answer is said, and every byte that was lent.
 #![tactic(auto)]
+
 ghost use Rattle.std.specs.Prelude.{ℕ, ◌≤◌, ◌≡◌, length, take};
 ghost use Rattle.codes.specs.Codes.{MOST-RELATIONS};
 ghost use Rattle.side_relations.specs.Relations.{closed_set};

@@ -2,6 +2,7 @@
 // "Words", Drawn graph, and "Sheet and graph bytes".) They can be counted before they are written; what does not fit is not written. The
 // numbers of events and of relations are bytes, as those in the fields are, so that no count is too large.
 #![tactic(auto)]
+
 ghost use Rattle.std.specs.Prelude.{ℕ, ◌≤◌, ◌≡◌, List, get_or, length};
 ghost use Rattle.claims.specs.GraphWriting.{event_field, edge_field, edge_of};
 ghost use Rattle.print_line.specs.Puts.{Puts};

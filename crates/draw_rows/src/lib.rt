@@ -2,6 +2,7 @@
 // "Words", Drawn graph.) The steps of a word lead from each event to the next, the last of a ring to the first; a closed relation is then
 // closed. All relations are drawn into one memory before a byte is written: what an edge is is decided here alone.
 #![tactic(auto)]
+
 ghost use Rattle.std.specs.Prelude.{ℕ, ◌≤◌, ◌<◌, ◌≡◌, length};
 ghost use Rattle.memory.specs.Memory.{words};
 ghost use Rattle.draw_rows.specs.Rows.{event_count, next_event, step_row, relation_rows, drawn_rows, table_at};

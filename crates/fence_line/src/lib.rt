@@ -1,6 +1,7 @@
 // The line of the query program, from the bytes of a query. (Document 01, "The desk's cases".) The memory is the call's own, enough for any
 // answer at the program's allowance.
 #![tactic(auto)]
+
 ghost use Rattle.std.specs.Prelude.{◌≤◌, ◌≡◌, ◌++◌, length, drop};
 ghost use Rattle.layout.specs.Layout.{PROGRAM-ALLOWANCE};
 ghost use Rattle.claims.specs.Printed.{program_allowance, program_result, printed};

@@ -1,6 +1,7 @@
 // Fields in bytes: a one-byte tag, a two-byte big-endian length, contents. (Document 01, "Sheet and graph bytes".) Sheets and graphs are read
 // by these functions, from any place on; no refusal is known here.
 #![tactic(auto)]
+
 ghost use Rattle.std.specs.Prelude.{◌+◌, ◌≤◌, ◌<◌, ◌≡◌, length, drop};
 ghost use Rattle.claims.specs.Fields.{next_field};
 ghost use Rattle.claims.specs.SheetReading.{tagged};

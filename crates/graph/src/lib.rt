@@ -2,6 +2,7 @@
 // the lowest event or pair that breaks it. (Document 01, "Sheet and graph bytes", last paragraph.) The query is read first, refusals 1 to 8, and
 // then the graph, refusal 12 at its first wrong field. It knows nothing of words, standings or sheets.
 #![tactic(auto)]
+
 ghost use Rattle.std.specs.Prelude.{min, ◌≡◌, length, take};
 ghost use Rattle.claims.specs.Refusals.{ok};
 ghost use Rattle.claims.specs.Judgement.{Judgement};

@@ -2,6 +2,7 @@
 // tables that wait. (Document 01, "Sheet and graph bytes", last paragraph.) The first broken line and what breaks the claim are kept. What is
 // required of a state is what the loop over the codes keeps: the places of tables and the number of a line are sums.
 #![tactic(auto)]
+
 ghost use Rattle.std.specs.Prelude.{◌+◌, ◌^◌, ◌≤◌, ◌<◌, ◌≡◌, false, cond, not, ◌&&◌, eqb};
 ghost use Rattle.rows.specs.Rows.{lowest_pair};
 ghost use Rattle.side_items.specs.Items.{paired};

@@ -1,6 +1,7 @@
 // A graph read field by field: its events' atoms and its relations as rows of sets, or the first wrong field. (Document 01, "Sheet and graph
 // bytes" and refusal 12.) An edge repeated is found by its bit.
 #![tactic(auto)]
+
 ghost use Rattle.std.specs.Prelude.{ℕ, ◌+◌, ◌≤◌, ◌<◌, min, ◌≡◌, Bool, true, drop};
 ghost use Rattle.claims.specs.Fields.{next_field};
 ghost use Rattle.claims.specs.GraphBytes.{Listed, with_event, with_edge, with_field, graph_in};

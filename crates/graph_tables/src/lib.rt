@@ -2,6 +2,7 @@
 // memory has TABLES tables, a row for each event: first one for each let, and behind them those that wait, the last on top. A graph is the memory
 // that `graph_read` fills. That at most MOST_WAITING tables wait is what the judge's loop keeps.
 #![tactic(auto)]
+
 ghost use Rattle.std.specs.Prelude.{◌+◌, ◌≤◌, ◌<◌, ◌≡◌, length, get_or, set};
 ghost use Rattle.memory.specs.Memory.{words};
 ghost use Rattle.rows.specs.Rows.{blank, joined, composed, reflexive, rounds};

@@ -2,6 +2,7 @@
 // (Document 01, "Sheet and graph bytes", last paragraph.) Whatever does not fit is not written; for memory that is long enough the whole line
 // stands there.
 #![tactic(auto)]
+
 ghost use Rattle.std.specs.Prelude.{◌+◌, [], ◌∷◌, ◌++◌, ◌≡◌};
 ghost use Rattle.claims.specs.Bytes.{text as quoted};
 ghost use Rattle.claims.specs.Printed.{decimal};

@@ -1,5 +1,6 @@
 // Plain memory: a word at a place, a store, all words 0, words copied, a byte as a word, and two small functions on places.
 #![tactic(auto)]
+
 ghost use Rattle.std.specs.Prelude.{◌-◌, ◌<◌, min, ◌≡◌, length, get_or, set};
 ghost use Rattle.memory.specs.Memory.{zeros, copied};
 

@@ -1,6 +1,7 @@
 // What is shown of an outcome: its line, as bytes in lent memory, and its sheet, as the part of the buffer that it is. (Document 01, "The desk's
 // cases" and "Sheet and graph bytes".) The word of a refuted claim is read off the sheet.
 #![tactic(auto)]
+
 ghost use Rattle.std.specs.Prelude.{◌+◌, ◌*◌, ◌≡◌, take, drop};
 ghost use Rattle.layout.specs.Layout.{WORD-AT};
 ghost use Rattle.print_line.specs.Puts.{Puts};

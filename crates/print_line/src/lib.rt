@@ -1,6 +1,7 @@
 // The line that the query program prints, as bytes in lent memory. (Document 01, "The desk's cases".) Whatever does not fit is not written,
 // and the place after a piece of text is at most the length of the memory; for memory that is long enough the whole line stands there.
 #![tactic(auto)]
+
 ghost use Rattle.std.specs.Prelude.{◌-◌, ◌≤◌, [], ◌∷◌, ◌++◌, ◌≡◌, length, take, drop};
 ghost use Rattle.claims.specs.Bytes.{text as quoted};
 ghost use Rattle.claims.specs.Printed.{decimal, spaced};

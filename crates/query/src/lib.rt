@@ -1,6 +1,7 @@
 // From the bytes of a query to its decision: what the search, the sheet check and the judge of graphs start from. (Document 01, "The query",
 // "Words", "Standings" and "Refusals with an example each".) Every list of bytes gets an answer, and every lent word is said.
 #![tactic(auto)]
+
 ghost use Rattle.std.specs.Prelude.{◌≡◌, take};
 ghost use Rattle.claims.specs.Reading.{read as reading};
 ghost use Rattle.read_text.specs.Reading.{left_codes};

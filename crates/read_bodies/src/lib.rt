@@ -1,5 +1,6 @@
 // What stands behind the first word of a line, by the kind of line, and its codes. (Document 01, "The query".) After a fault no code is left.
 #![tactic(auto)]
+
 ghost use Rattle.std.specs.Prelude.{◌≡◌, Bool, true, false, ◌+◌, ◌-◌, ◌≤◌, length};
 ghost use Rattle.claims.specs.Grammar.{name_next};
 ghost use Rattle.claims.specs.Tree.{Name, Tree, Line, closed_line};

@@ -1,6 +1,7 @@
 // The state between two lines, the end of a line and its fate, and lines that declare a name. (Document 01, "The query".) A fault of the
 // notation anywhere in the line comes before a slip of a name, and that before one declaration too many.
 #![tactic(auto)]
+
 ghost use Rattle.std.specs.Prelude.{◌≡◌, ◌&&◌, ◌+◌, ◌-◌, ◌≤◌, drop};
 ghost use Rattle.claims.specs.Tokens as Notation;
 ghost use Rattle.claims.specs.Tokens.{tokens};

@@ -3,6 +3,7 @@
 // postfixes are read by loops, so that only brackets take the machine's stack. At each round bracket two numbers fall: how many may still be
 // opened, and the bytes left.
 #![tactic(auto)]
+
 ghost use Rattle.std.specs.Prelude.{◌≡◌, ◌≤◌};
 ghost use Rattle.claims.specs.Lines.{expression};
 ghost use Rattle.read_next.specs.Next.{mark_next};

@@ -1,6 +1,7 @@
 // The lines of a query, one at a time. (Document 01, "The query".) A line's codes are written before its end and its names are judged:
 // a fault of the notation anywhere in the line comes before a slip of a name, and that before one declaration too many.
 #![tactic(auto)]
+
 ghost use Rattle.std.specs.Prelude.{◌≡◌, ◌∷◌, ◌+◌, ◌-◌, ◌≤◌, length};
 ghost use Rattle.claims.specs.Tokens as Notation;
 ghost use Rattle.claims.specs.Tree.{Name};

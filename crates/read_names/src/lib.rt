@@ -1,5 +1,6 @@
 // Names by their keys: the words that are no names, the table of declared names, and the slips of names. (Document 01, "The query".)
 #![tactic(auto)]
+
 ghost use Rattle.std.specs.Prelude.{◌≡◌, ◌<◌};
 ghost use Rattle.read_names.specs.Keys.{same_key, reserved_key, word_key, find_in, entered};
 ghost use Rattle.read_names.specs.Slips.{declared_slip, relation_number, first_of, slip_of_code};

@@ -1,6 +1,7 @@
 // What stands next in a line, as a reader asks for it: a given mark, a given word, a run of one mark; and codes written or cleared.
 // (Document 01, "The query".)
 #![tactic(auto)]
+
 ghost use Rattle.std.specs.Prelude.{◌≡◌};
 ghost use Rattle.memory.specs.Memory.{zeros};
 ghost use Rattle.read_next.specs.Next.{mark_next, word_next, MarksNext};

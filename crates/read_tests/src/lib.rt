@@ -4,6 +4,7 @@
 // so that only brackets take the machine's stack. At each bracket two numbers fall: how many may still be opened, and the bytes left. The
 // place of a reader serves the readers of E too.
 #![tactic(auto)]
+
 ghost use Rattle.std.specs.Prelude.{◌≡◌, ◌≤◌};
 ghost use Rattle.claims.specs.Lines.{condition};
 ghost use Rattle.memory.specs.Memory.{zeros};

@@ -1,6 +1,7 @@
 // The reader of queries: every list of bytes gets an answer. (Document 01, "The query" and "Refusals with an example each".) It reads
 // line by line over a state that carries what the lines so far declare, and writes the query's syntax as codes, children before parents.
 #![tactic(auto)]
+
 ghost use Rattle.std.specs.Prelude.{◌≡◌, ◌+◌, ◌≤◌, length, take, drop};
 ghost use Rattle.claims.specs.Reading.{bad_line};
 ghost use Rattle.read_tokens.specs.Scan.{front};

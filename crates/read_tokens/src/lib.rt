@@ -1,6 +1,7 @@
 // The tokens of a line. (Document 01, "The query".) A token is found at a position of the line's bytes; a word comes with its key, the
 // two machine words that its at most 16 bytes fill, so that two names are compared by two comparisons.
 #![tactic(auto)]
+
 ghost use Rattle.std.specs.Prelude.{◌≡◌, ◌+◌, ◌*◌, ◌≤◌, length, take, drop, get_or};
 ghost use Rattle.claims.specs.Bytes.{letter as isLetter};
 ghost use Rattle.read_tokens.specs.Scan.{is_space, word_byte, is_mark, front, half_of, key_of, word_at, token_at, first_byte};

@@ -1,6 +1,7 @@
 // What the reader says of a query, as one line: `refusal N line P`, or `accepted path L R` or `accepted ring L R` with the numbers of left and
 // right occurrences. It is made as bytes in lent memory.
 #![tactic(auto)]
+
 ghost use Rattle.std.specs.Prelude.{◌≤◌, length};
 ghost use Rattle.claims.specs.Reading.{read as reading};
 ghost use Rattle.print_line.specs.Puts.{Puts};

@@ -2,6 +2,7 @@
 // each", has the causes; the words are ours.) Every cause has its own words, and says whether its place is a line of the query: a cause that is
 // added is a line of each of the two tables. Texts are put at a place within the memory, which is required: the place after the piece before it.
 #![tactic(auto)]
+
 ghost use Rattle.std.specs.Prelude.{◌≤◌, ◌≡◌, map, length};
 ghost use Rattle.print_line.specs.Puts.{Puts};
 ghost use Rattle.refusal_texts.specs.CauseText.{cause_text, of_query};

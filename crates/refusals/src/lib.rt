@@ -1,5 +1,6 @@
 // Every cause of a refusal, and its number. (Document 01, "Refusals with an example each".) Causes are finer than numbers.
 #![tactic(auto)]
+
 ghost use Rattle.std.specs.Prelude.{◌≡◌};
 ghost use Rattle.claims.specs.Refusals.{number as number_of};
 ghost use Rattle.refusals.specs.Causes.{cause_of};

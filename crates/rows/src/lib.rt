@@ -2,6 +2,7 @@
 // bytes", last paragraph.) `|`, `;`, `?` and `[T]` give each row from its number and what stands there. `+` goes by rounds: in round k a row
 // that has k is joined with row k, which itself does not change. A row past a table is empty.
 #![tactic(auto)]
+
 ghost use Rattle.std.specs.Prelude.{◌≡◌, cond, length};
 ghost use Rattle.std.specs.Int.Bits.{bit_or};
 ghost use Rattle.claims.specs.Query.{bit};

@@ -2,6 +2,7 @@
 // graph bytes" and "Refusals with an example each".) The query is read first, refusals 1 to 8; then come 9, 10 and 11. For every input the
 // outcome is said, and every record, word and byte that was lent.
 #![tactic(auto)]
+
 ghost use Rattle.std.specs.Prelude.{List, replicate};
 ghost use Rattle.search_records.specs.declared.Record.{Record};
 ghost use Rattle.search_records.specs.Records.{blank};

@@ -2,6 +2,7 @@
 // "Standings".) At alike atoms the tables of the two sides lead to the same occurrences, and in a ring claim the same right words may end, so that
 // the search tries the lowest of them alone.
 #![tactic(auto)]
+
 ghost use Rattle.std.specs.Prelude.{◌≡◌, cond, true, length};
 ghost use Rattle.standings.specs.Alike.{row_alike, rows_alike, ends_alike};
 ghost use Rattle.memory.specs.Memory.{words};

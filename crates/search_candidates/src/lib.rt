@@ -1,6 +1,7 @@
 // One standing of a level, and one letter behind a place: whether the standing completes a refuting word, and the candidate that the letter
 // leads to. (Document 01, "Standings".) A candidate of a ring claim is noted, one of a path claim is offered.
 #![tactic(auto)]
+
 ghost use Rattle.std.specs.Prelude.{ℕ, ◌+◌, ◌*◌, ◌-◌, ◌≤◌, ◌<◌, ◌≡◌, true, List, length};
 ghost use Rattle.search_standings.specs.declared.Shape.{Shape};
 ghost use Rattle.search_records.specs.Rows.{record_at};

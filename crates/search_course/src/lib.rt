@@ -3,6 +3,7 @@
 // memory is the queue: a level is a range of standings. Place 0 is the empty prefix, place i + 1 is standing i. The standing past the
 // allowance is counted and not kept.
 #![tactic(auto)]
+
 ghost use Rattle.std.specs.Prelude.{ℕ, ◌+◌, ◌-◌, ◌≤◌, ◌<◌, ◌≡◌, List, []};
 ghost use Rattle.search_standings.specs.declared.Shape.{Shape};
 ghost use Rattle.search_grow.specs.Masks.{letters_left};

@@ -2,6 +2,7 @@
 // refuting word. (Document 01, "Standings".) The turns of M are closed once, on a copy of its columns and in place: in round k a column that
 // has k is joined with column k, which itself does not change. The cover test then seeks an end, or a pair of N, among the closed turns.
 #![tactic(auto)]
+
 ghost use Rattle.std.specs.Prelude.{◌+◌, ◌≤◌, ◌≡◌, cond, ◌||◌, ◌&&◌, length, get_or, set, take};
 ghost use Rattle.std.specs.Int.Bits.{bit_or};
 ghost use Rattle.claims.specs.Query.{bit};

@@ -3,6 +3,7 @@
 // of N are their upper halves. A field is put at the start of the slice that is lent, which past it is left as it is, and the number of its
 // bytes is returned.
 #![tactic(auto)]
+
 ghost use Rattle.std.specs.Prelude.{◌+◌, ◌*◌, ◌≤◌, ◌<◌, ◌≡◌, ◌∷◌, true, false, length};
 ghost use Rattle.claims.specs.Fields.{big_endian};
 ghost use Rattle.search_contents.specs.Written.{written, over};

@@ -2,6 +2,7 @@
 // the order of their least prefix. Place 0 is the empty prefix, place i + 1 is standing i. The standing past the allowance is counted and
 // not kept. What is required of the room is what the search call has tested (refusal 9), and of the relations what the reader lets through.
 #![tactic(auto)]
+
 ghost use Rattle.std.specs.Prelude.{ℕ, ◌+◌, ◌*◌, ◌-◌, ◌≤◌, ◌<◌, ◌≡◌, true, List, length, take};
 ghost use Rattle.std.specs.Int.Count.{count_trailing_zeros};
 ghost use Rattle.search_standings.specs.declared.Shape.{Shape};

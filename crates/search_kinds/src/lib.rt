@@ -1,6 +1,7 @@
 // Standings by the kind of the claim, path or ring. (Document 01, "Standings".) Of the words of a standing on its way those count that tell it
 // from another: the first two of a path claim, and the first TOLD of a ring claim.
 #![tactic(auto)]
+
 ghost use Rattle.std.specs.Prelude.{◌≡◌, take};
 ghost use Rattle.search_standings.specs.Systems.{width, begin_words, onward_words, finals_words};
 ghost use Rattle.search_standings.specs.First.{first_or};

@@ -4,6 +4,7 @@
 // candidate up, decides, and keeps a record; only `turn` and `levels` know the records, and they know nothing else. What is required
 // of the room is what the search call has tested (refusal 9), and of the relations what the reader lets through.
 #![tactic(auto)]
+
 ghost use Rattle.std.specs.Prelude.{ℕ, suc, ◌-◌, ◌≤◌, ◌<◌, ◌≡◌, List, length};
 ghost use Rattle.search_standings.specs.declared.Shape.{Shape};
 ghost use Rattle.search_records.specs.Rows.{rows, record_at};

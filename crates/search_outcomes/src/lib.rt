@@ -1,6 +1,7 @@
 // The outcome of a search, and the sheet of what it found, from the memory that it leaves. (Document 01, "Sheet and graph bytes" and "Refusals
 // with an example each".) One record of the memory is read a turn; refusals 10 and 11 are told here, an answer once its sheet is written.
 #![tactic(auto)]
+
 ghost use Rattle.std.specs.Prelude.{ℕ, ◌<◌, ◌≡◌, Bool, false, true, List};
 ghost use Rattle.search_records.specs.Rows.{rows, record_at};
 ghost use Rattle.search_outcomes.specs.inner.Found.{found_in, Reports, Reportable};

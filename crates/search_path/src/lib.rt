@@ -1,6 +1,7 @@
 // Path standings in memory: the first two of its words, P and then S, bit p - 1 for occurrence p. (Document 01, "Standings".) The standing of
 // a prefix of one relation, that of a prefix one relation longer, and the lowest atom that completes a refuting word.
 #![tactic(auto)]
+
 ghost use Rattle.std.specs.Prelude.{◌≤◌, ◌≡◌, not, ◌&&◌, [], ◌∷◌, length, take, drop};
 ghost use Rattle.standings.specs.Steps.{ends_set};
 ghost use Rattle.search_standings.specs.Layout.{PATH-TOLD};

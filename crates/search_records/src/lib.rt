@@ -2,6 +2,7 @@
 // A parent's place is 0 for the empty prefix, and i + 1 for standing i; a letter is 16 * atom + relation. (Document 01, "Standings".)
 // What is required is that as many records were lent as are looked at, which the search call has tested (refusal 9).
 #![tactic(auto)]
+
 ghost use Rattle.std.specs.Prelude.{◌≤◌, ◌≡◌, cond, length, get_or, set};
 ghost use Rattle.claims.specs.Calls.{cleared};
 ghost use Rattle.search_records.specs.Records.{blank, Found};

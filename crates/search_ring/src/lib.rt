@@ -2,6 +2,7 @@
 // that a step of both is one union: the word of each column goes into the columns to which its occurrence may go. The standing of a prefix of
 // one relation is the same union over the numbers that stand for themselves.
 #![tactic(auto)]
+
 ghost use Rattle.std.specs.Prelude.{suc, ◌≤◌, ◌^◌, ◌≡◌, not, ◌||◌, ◌++◌, eqb, length, get_or, drop, take};
 ghost use Rattle.kat.specs.Lists.{upto};
 ghost use Rattle.memory.specs.Memory.{zeros};

@@ -1,6 +1,7 @@
 // The search on a decision: refusals 9, 10 and 11, the sheet, and the lent memory that is left behind. (Document 01, "Standings" and "Refusals
 // with an example each".) After refusal 9 nothing is changed; after 10, 11 and an answer the needed working memory is zero.
 #![tactic(auto)]
+
 ghost use Rattle.std.specs.Prelude.{◌≤◌, ◌<◌, List, replicate};
 ghost use Rattle.claims.specs.Sides.{Decision};
 ghost use Rattle.claims.specs.Calls.{Asked, search_asked, searched, finish};

@@ -2,6 +2,7 @@
 // 01, "Standings", and "Refusals with an example each", 9.) Level 1 of a ring claim tries all letters, and else the atoms that are alike are
 // tried once. The needed words are cleared behind a search.
 #![tactic(auto)]
+
 ghost use Rattle.std.specs.Prelude.{ℕ, ◌+◌, ◌*◌, ◌≤◌, ◌<◌, ◌≡◌, cond, List, length};
 ghost use Rattle.claims.specs.Calls.{cleared};
 ghost use Rattle.search_alike.specs.Masks.{masks_of};

@@ -4,6 +4,7 @@
 // there; the buffer around it is left as it is. What is required of the room in it is what the search call has tested (refusal 11), and of the
 // memory what the search leaves there.
 #![tactic(auto)]
+
 ghost use Rattle.std.specs.Prelude.{ℕ, ◌+◌, ◌*◌, ◌≤◌, ◌≡◌, true, List, length};
 ghost use Rattle.claims.specs.Fields.{big_endian, field};
 ghost use Rattle.search_records.specs.Rows.{record_at};

@@ -1,6 +1,7 @@
 // What the search knows of a decision beside the tables of its two sides, and where the parts of a standing are among its words. (Document 01,
 // "Standings".) `specs/Layout.antt` has the same places; what the words mean is `specs/PathWords.antt` and `specs/RingWords.antt`.
 #![tactic(auto)]
+
 use layout::{RING_WORDS, WIDTH};
 
 // Whether the claim is one of rings, the number of right occurrences, the set of the atoms that no `never` removes, and the number of

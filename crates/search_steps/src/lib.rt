@@ -1,6 +1,7 @@
 // One letter on, for a set of occurrences as a machine word, by the table of a side; and whether a word may end. (Document 01,
 // "Standings".) Path and ring claims share these functions. A number past the table's end gives the empty set.
 #![tactic(auto)]
+
 ghost use Rattle.std.specs.Prelude.{◌+◌, ◌*◌, ◌≤◌, min, ◌≡◌, length, get_or};
 ghost use Rattle.standings.specs.Steps.{step_from, step_set, enders, ends_set, null_at};
 ghost use Rattle.side_tables.specs.Layout.{TABLE, ROW};

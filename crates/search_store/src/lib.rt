@@ -3,6 +3,7 @@
 // words for each one of a ring claim. A parent is a place: 0 is the empty prefix, i + 1 is standing i. A letter is 16 * atom + relation. What is
 // required of the room is what the search call has tested (refusal 9).
 #![tactic(auto)]
+
 ghost use Rattle.std.specs.Prelude.{ℕ, ◌+◌, ◌*◌, ◌≤◌, ◌≡◌, true, false, List, [], ◌∷◌, length, take};
 ghost use Rattle.search_standings.specs.Systems.{width};
 ghost use Rattle.search_records.specs.Rows.{record_at};

@@ -4,6 +4,7 @@
 // a standing has its parent: they are gathered before each other at the end of an array, and then the word's field is written forward. What
 // is required of the sheet is how the turn before has left it, and of the standings what the allowance lets through.
 #![tactic(auto)]
+
 ghost use Rattle.std.specs.Prelude.{ℕ, ◌+◌, ◌*◌, ◌-◌, ◌≤◌, ◌<◌, ◌≡◌, Bool, true, List, length};
 ghost use Rattle.search_records.specs.Rows.{record_at};
 ghost use Rattle.search_store.specs.Store.{Room};

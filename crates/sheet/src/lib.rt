@@ -2,6 +2,7 @@
 // "Refusals with an example each".) The query is read first, refusals 1 to 8; then comes 13 at the first wrong field, and 14 for a
 // well-formed sheet that does not pass. It uses nothing of the search.
 #![tactic(auto)]
+
 ghost use Rattle.std.specs.Prelude.{◌≡◌};
 ghost use Rattle.claims.specs.Calls.{check_call};
 ghost use Rattle.sheet_checked.specs.Checks.{Says};

@@ -2,6 +2,7 @@
 // the same standings. (Document 01, "Standings".) Two atoms are alike where the tables of the two sides lead to the same occurrences from them; in a
 // ring claim also the right words that end there are the same.
 #![tactic(auto)]
+
 ghost use Rattle.std.specs.Prelude.{◌≡◌, cond, true, length};
 ghost use Rattle.standings.specs.Alike.{row_alike, rows_alike, ends_alike};
 ghost use Rattle.memory.specs.Memory.{words};

@@ -1,6 +1,7 @@
 // The answer to a sheet on a decision: what the passing sheet says, or 13 and 14. (Document 01, "Sheet and graph bytes" and "Refusals with an
 // example each".) What `sheet` and `draw` do with a query that was read.
 #![tactic(auto)]
+
 ghost use Rattle.std.specs.Prelude.{◌≡◌};
 ghost use Rattle.claims.specs.Sides.{Decision};
 ghost use Rattle.claims.specs.Calls.{checked};

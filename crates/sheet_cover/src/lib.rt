@@ -2,6 +2,7 @@
 // 01, "Standings".) The turns of M are closed once, on its rows: in round k a row that has k is joined with row k, which itself does not
 // change. P is read as one word, so its cells have to be of four bytes, below CELL.
 #![tactic(auto)]
+
 ghost use Rattle.std.specs.Prelude.{◌+◌, ◌≤◌, ◌<◌, ℕ, ◌≡◌, cond, ◌||◌, not, ◌&&◌, length, get_or};
 ghost use Rattle.std.specs.Int.Bits.{bit_or};
 ghost use Rattle.kat.specs.Lists.{member, is_empty};

@@ -3,6 +3,7 @@
 // that it read ended; all that is decided of a field is decided by `step`. Each standing is looked up among those before it by an index,
 // which is left behind for the check.
 #![tactic(auto)]
+
 ghost use Rattle.std.specs.Prelude.{ℕ, ◌+◌, ◌-◌, ◌<◌, ◌≡◌, true, List, drop};
 ghost use Rattle.claims.specs.Sides.{Decision};
 ghost use Rattle.claims.specs.Fields.{next_field};

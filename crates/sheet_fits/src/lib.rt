@@ -3,6 +3,7 @@
 // or anything in such a row, is too large; so are bit 0 in a row of M and anything in row 0 of N. The functions on cells require that each has four
 // bytes, as they are read from a sheet: two of them are then a word of 64 bits.
 #![tactic(auto)]
+
 ghost use Rattle.std.specs.Prelude.{suc, ◌+◌, ◌^◌, ◌≤◌, ◌<◌, ◌*◌, ◌≡◌, true, false, ltb, eqb, get_or, take, drop, length};
 ghost use Rattle.claims.specs.SheetReading.{row_of_m, row_of_n, rows_pass};
 ghost use Rattle.sheet_standings.specs.Layout.{cell_count, wide, field_length, listed_cells, CELL, CELLS, N-AT, PATH-CELLS};

@@ -5,6 +5,7 @@
 // That the standings lie in the sheet is required because whoever lists them has read them there; that there are no more than
 // MOST_STANDINGS, because a sheet with more is refused.
 #![tactic(auto)]
+
 ghost use Rattle.std.specs.Prelude.{suc, ◌+◌, ◌*◌, ◌≤◌, ◌<◌, ◌≡◌, length, take};
 ghost use Rattle.fields.specs.Places.{cells_at};
 ghost use Rattle.sheet_standings.specs.Layout.{cell_count, field_length, cell_start, listed_cells, CELLS};

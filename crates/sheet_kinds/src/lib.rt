@@ -2,6 +2,7 @@
 // (Document 01, "Standings" and "Sheet and graph bytes".) Of the cells that are held the first PATH_CELLS, or all, count. What is required of cells is
 // that each has four bytes, as those of a sheet and of a step have.
 #![tactic(auto)]
+
 ghost use Rattle.std.specs.Prelude.{ℕ, ◌<◌, ◌≡◌, not, get_or, take};
 ghost use Rattle.kat.specs.Lists.{is_empty, member};
 ghost use Rattle.sheet_standings.specs.Layout.{cell_count, CELL};

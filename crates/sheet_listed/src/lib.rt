@@ -1,6 +1,7 @@
 // Whether the standings one letter on are listed in a part of a sheet. (Document 01, "Sheet and graph bytes".) The standings listed lie in
 // the sheet and are found by an index; what is required of it, and that they lie there, is what the reader of the part leaves.
 #![tactic(auto)]
+
 ghost use Rattle.std.specs.Prelude.{◌<◌, ◌≡◌, take};
 ghost use Rattle.sheet_standings.specs.Layout.{cell_count};
 ghost use Rattle.sheet_listed.specs.Listed.{Ready, part_cells, Small, listed_among, atoms_tried, stepped, atoms_listed, letters_listed};

@@ -1,6 +1,7 @@
 // The cells of a listed standing, loaded from the sheet, and whether a left occurrence is possible after a standing. (Document 01, "Sheet and
 // graph bytes".)
 #![tactic(auto)]
+
 ghost use Rattle.std.specs.Prelude.{◌+◌, ◌*◌, ◌≤◌, ◌<◌, ◌≡◌, not, eqb, ◌++◌, length, take, drop};
 ghost use Rattle.fields.specs.Places.{cells_at};
 ghost use Rattle.sheet_standings.specs.Layout.{standing_cells, cell_count, CELL, CELLS, PATH-CELLS};

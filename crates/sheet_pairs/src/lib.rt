@@ -1,6 +1,7 @@
 // The rows of N of a ring standing, one letter on: a row is sent into the rows of the occurrences that may be read next, and so are the
 // pairs that open. (Document 01, "Standings".) A row is a set of numbers from 0 to MOST_RIGHT.
 #![tactic(auto)]
+
 ghost use Rattle.std.specs.Prelude.{◌/◌, ◌^◌, ◌<◌, ◌≡◌, cond, eqb, length};
 ghost use Rattle.kat.specs.Lists.{upto};
 ghost use Rattle.memory.specs.Memory.{words};

@@ -1,6 +1,7 @@
 // One part of a sheet, on a decision and from any start: what it says and whether it passes. (Document 01, "Sheet and graph bytes" and
 // refusals 13 and 14.) The index over the standings is this call's own, two local arrays.
 #![tactic(auto)]
+
 ghost use Rattle.std.specs.Prelude.{ℕ, ◌-◌, ◌≤◌, ◌≡◌, length, take, drop};
 ghost use Rattle.claims.specs.Sides.{Decision};
 ghost use Rattle.claims.specs.SheetReading.{part_in};

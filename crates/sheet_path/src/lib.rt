@@ -2,6 +2,7 @@
 // relation, that of a prefix one relation longer, and whether a standing completes a refuting word. A cell has four bytes: what is read of
 // a standing requires that its cells are below CELL, and what is written of one ensures it.
 #![tactic(auto)]
+
 ghost use Rattle.std.specs.Prelude.{ℕ, ◌≤◌, ◌<◌, ◌≡◌, not, ◌&&◌, length, get_or, take, drop};
 ghost use Rattle.kat.specs.Lists.{is_empty, some, member};
 ghost use Rattle.bits.specs.Sets.{members};

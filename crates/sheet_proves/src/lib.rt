@@ -2,6 +2,7 @@
 // of level 1 is listed; from each listed one every letter leads to one that is listed; none completes a refuting word. What is required of
 // the index, and that the standings lie in the sheet, is what the reader of the part leaves.
 #![tactic(auto)]
+
 ghost use Rattle.std.specs.Prelude.{◌+◌, ◌*◌, ◌^◌, ◌<◌, ◌≡◌, false, not, ◌&&◌};
 ghost use Rattle.kat.specs.Lists.{is_empty};
 ghost use Rattle.standings.specs.Steps.{null_at, alone_words};

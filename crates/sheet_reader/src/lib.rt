@@ -1,6 +1,7 @@
 // A sheet and the place in it from which is read, as one value. (Document 01, "Sheet and graph bytes": "The sheet is read field by field from
 // where the last one ended".) The work is that of crate `fields`: each function here says of a reader what it says of bytes and a place.
 #![tactic(auto)]
+
 ghost use Rattle.std.specs.Prelude.{◌≡◌, drop};
 ghost use Rattle.claims.specs.Fields.{next_field};
 ghost use Rattle.fields.specs.Places.{Stands};

@@ -2,6 +2,7 @@
 // N is sent into the rows of the occurrences that may be read next, and so are the pairs that open, in `sheet_pairs`. A cell has four bytes: what
 // is read of a standing requires that its cells are below CELL, and what is written of one ensures it.
 #![tactic(auto)]
+
 ghost use Rattle.std.specs.Prelude.{◌/◌, ◌<◌, ℕ, ◌≤◌, ◌≡◌, ◌++◌, cond, not, ◌||◌, length, get_or, take, eqb};
 ghost use Rattle.memory.specs.Memory.{words, zeros};
 ghost use Rattle.standings.specs.Steps.{step_from, step_set, joined};

@@ -1,6 +1,7 @@
 // The standings of a sheet as cells: numbers of four bytes, as they lie in the sheet. Where what stands among them has a name here; `specs/`
 // has steps and completion on cells, `proofs/` that they are those of the definition. No code.
 #![tactic(auto)]
+
 use layout::WIDTH;
 
 // The numbers of a cell are below this.

@@ -2,6 +2,7 @@
 // "Standings".) The sheet check steps listed standings by these functions, of path and of ring claims. A number past the table's end gives
 // the empty set.
 #![tactic(auto)]
+
 ghost use Rattle.std.specs.Prelude.{◌+◌, ◌*◌, ◌≤◌, ◌<◌, min, ◌≡◌, length, get_or};
 ghost use Rattle.standings.specs.Steps.{step_from, step_set, enders, ends_set, null_at};
 ghost use Rattle.side_tables.specs.Layout.{TABLE, ROW};

@@ -1,6 +1,7 @@
 // The word of a sheet: whether its bytes are one, atoms and relations in turn, each below its number; and whether it is a refuting word, by the
 // steps and the completion of standings on cells. (Document 01, "Sheet and graph bytes" and "Standings".)
 #![tactic(auto)]
+
 ghost use Rattle.std.specs.Prelude.{◌<◌, ℕ, ◌≤◌, ◌≡◌, get_or, length, take, drop};
 ghost use Rattle.kat.specs.Lists.{member};
 ghost use Rattle.claims.specs.Passing.{completes, refuting};

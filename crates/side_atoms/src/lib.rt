@@ -1,6 +1,7 @@
 // The set of the atoms that satisfy a T, from the codes of the T: a loop over the codes with a stack of sets. (Document 01, "The query"
 // and "Words".) A set of atoms is a word, bit a for atom a.
 #![tactic(auto)]
+
 ghost use Rattle.std.specs.Prelude.{◌≤◌, ◌≡◌, [], length};
 ghost use Rattle.std.proofs.Math.Seq.{slice};
 ghost use Rattle.memory.specs.Memory.{zeros};

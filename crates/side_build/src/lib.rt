@@ -1,6 +1,7 @@
 // The tables of the two sides of a decision, from a program; and of the claim of a query, from its codes. (Document 01, "Words" and
 // "Standings".)
 #![tactic(auto)]
+
 ghost use Rattle.std.specs.Prelude.{◌+◌, ◌≤◌, min, ◌≡◌, length, take};
 ghost use Rattle.memory.specs.Memory.{zeros};
 ghost use Rattle.side_items.specs.Items.{items_of};

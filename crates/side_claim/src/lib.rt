@@ -1,5 +1,6 @@
 // The two sides of a decision, on a table and the parts that wait in memory. (Document 01, "Words".)
 #![tactic(auto)]
+
 ghost use Rattle.std.specs.Prelude.{◌≡◌};
 ghost use Rattle.memory.specs.Memory.{zeros};
 ghost use Rattle.side_parts.specs.Machine.{machine_in};

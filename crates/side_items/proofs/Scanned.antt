@@ -102,7 +102,7 @@ tests_after s [] t =
     rw (add-zero s.at, append-nil s.pending)
 tests_after s (k ∷ ks) (h, t) =
     ap (λ x. after x ks) (test_scanned k h s)
-    ∙ tests_after (record {at = s.at + 1; line = s.line; pending = s.pending ++ k ∷ []; starts = s.starts}) ks t
+    ∙ tests_after (record { at = s.at + 1; line = s.line; pending = s.pending ++ k ∷ []; starts = s.starts }) ks t
     ∙ ap₂ (λ a p. record { at = a; line = s.line; pending = p; starts = s.starts }) (omega arith) (append_assoc s.pending (k ∷ []) ks)
 
 pub tests_items : (s : Scan) (ks : List ℕ) → Tested ks → items_from s ks ≡ plain ks

@@ -1,5 +1,6 @@
 // What each code of a query needs: the set of a bracketed test, and the start of a let's line. (Document 01, "The query" and "Words".)
 #![tactic(auto)]
+
 ghost use Rattle.std.specs.Prelude.{◌+◌, ◌≤◌, ◌<◌, ◌≡◌, cond, leb, length};
 ghost use Rattle.std.proofs.Math.Seq.{slice};
 ghost use Rattle.codes.specs.Codes.{LINE};

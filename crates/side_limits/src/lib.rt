@@ -2,6 +2,7 @@
 // limits that refusal 8 is for (document 01, "Standings", Limits). Nothing is expanded: a let counts what its expression counted, and every
 // sum stops at 1,000, above all limits.
 #![tactic(auto)]
+
 ghost use Rattle.std.specs.Prelude.{◌≡◌, cond, [], ℕ, ◌+◌, replicate};
 ghost use Rattle.side_limits.specs.Tally.{capped, tally, relation_count};
 ghost use Rattle.side_limits.specs.Places.{count_at, count_kind};

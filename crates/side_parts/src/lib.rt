@@ -1,5 +1,6 @@
 // One code of an expression, on its table and the parts that wait in memory. (Document 01, "Standings".)
 #![tactic(auto)]
+
 ghost use Rattle.std.specs.Prelude.{ℕ, ◌+◌, ◌^◌, ◌<◌, ◌≡◌, List, get_or};
 ghost use Rattle.side_parts.specs.Machine.{machine_in, given, fresh, united, in_order, again, optional, any_star, stepped, nothing_built, told_table};
 

@@ -1,6 +1,7 @@
 // What the lines of a query say of its relations and atoms, from its codes and what they need, as many as there are of both: where the step of each relation may start,
 // stop and follow itself, which atoms are removed, and which are left. (Document 01, "The query" and "Words".)
 #![tactic(auto)]
+
 ghost use Rattle.std.specs.Prelude.{◌+◌, ◌≤◌, ◌^◌, min, ◌≡◌, cond, eqb, length};
 ghost use Rattle.claims.specs.Query.{bit};
 ghost use Rattle.kat.specs.Lists.{some};

@@ -2,6 +2,7 @@
 // (Document 01, "Words": lets are expanded.) A program is the codes of a query and `needs`, in which stand behind one another what each code
 // needs, the sets of the relations and the set of the lines that are left out of the assumptions.
 #![tactic(auto)]
+
 ghost use Rattle.std.specs.Prelude.{ℕ, ◌+◌, ◌<◌, ◌^◌, ◌≡◌, ◌&&◌, List, eqb, length};
 ghost use Rattle.side_items.specs.Items.{starts_of};
 ghost use Rattle.side_parts.specs.Machine.{machine_in};

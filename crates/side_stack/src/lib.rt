@@ -1,6 +1,7 @@
 // The parts of an expression that wait while its table is built, in lent memory: how many occurrences there are, how many parts wait, and two
 // words for each part. (Document 01, "Standings".)
 #![tactic(auto)]
+
 ghost use Rattle.std.specs.Prelude.{◌+◌, ◌*◌, ◌^◌, ◌≤◌, ◌<◌, min, ◌≡◌, cond, [], length};
 ghost use Rattle.side_stack.specs.Stack.{top_part, under_part, push_part, parts_in, used_in, height_in, stack_in};
 

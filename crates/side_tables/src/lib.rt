@@ -1,6 +1,7 @@
 // The table of a side in lent memory, changed in place from part to part of its expression. (Document 01, "Standings".) The layout is that of
 // `specs/SideTable.antt`.
 #![tactic(auto)]
+
 ghost use Rattle.std.specs.Prelude.{◌+◌, ◌≤◌, ◌<◌, ◌≡◌, length};
 ghost use Rattle.kat.specs.Lists.{upto};
 ghost use Rattle.bits.specs.Sets.{members};

@@ -1,6 +1,7 @@
 // Numbers by arithmetic alone, so that another program can make the same ones, and the bytes of small graphs. (vectors/README.md, "The
 // circle") A graph has at most 8 events; a relation on them is a word, bit 8 * from + to for an edge. Definitions say what each result is.
 #![tactic(auto)]
+
 ghost use Rattle.std.specs.Prelude.{◌<◌, cond, [], ◌∷◌, ◌≡◌, take};
 ghost use Rattle.small_graphs.specs.Graphs.{edge_field, edge_fields, event_field, event_fields, graph_bytes};
 ghost use Rattle.case_lines.specs.Fields.{Puts};

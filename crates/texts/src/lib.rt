@@ -1,6 +1,7 @@
 // Pieces of a text: whether two are the same, a line by its number, the name that a line declares. (Document 01, "The query".) For words and
 // names beside an answer; the reader of queries is built apart.
 #![tactic(auto)]
+
 ghost use Rattle.std.specs.Prelude.{◌+◌, ◌≤◌, min, ◌≡◌, length, take, drop};
 ghost use Rattle.claims.specs.Bytes.{same as sameBytes};
 ghost use Rattle.texts.specs.Lines.{front, back, in_line, in_word, behind, line_at, declared_by, name_at};

@@ -18,7 +18,6 @@ use Rattle.bits.proofs.any_member.Goals as goal
 abbrev passes : List ℕ → ℕ → ℕ → Bool
 passes rows k p = bit k (row rows p)
 
-
 pub loop-left-init : goal.loop-left-init
 loop-left-init c = (search rules, refl)
 

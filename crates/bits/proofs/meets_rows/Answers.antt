@@ -18,7 +18,6 @@ use Rattle.bits.proofs.meets_rows.Goals as goal
 abbrev passes : List ℕ → ℕ → ℕ → Bool
 passes rows t k = meets (row rows k) t
 
-
 pub loop-left-init : goal.loop-left-init
 loop-left-init c = (search rules, refl)
 

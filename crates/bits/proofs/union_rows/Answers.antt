@@ -12,7 +12,6 @@ use Rattle.bits.proofs.Lowest.{Lowest, lowest}
 use Rattle.bits.proofs.Walk.{union_end, union_more}
 use Rattle.bits.proofs.union_rows.Goals as goal
 
-
 pub loop-left-init : goal.loop-left-init
 unfolding union_rows
 loop-left-init c = (search rules, refl)

@@ -47,7 +47,6 @@ returns-in-Refused c =
     let d = refusal_drawn _ _ _ (refused_says _ _ r.result r.ensures.0 _ _ c.in-Refused.is) _ _ _ refl in
     record { draws = d; breaks = graph_breaks _ _ _ _ _ d }
 
-
 pub returns-in-Proved : goal.returns-in-Proved
 returns-in-Proved c =
     let k = c in
@@ -57,7 +56,6 @@ returns-in-Proved c =
     let d = proved_drawn _ _ k.check_decided-checked.result says _ c.in-Proved.is in
     record { draws = d; breaks = graph_breaks _ _ _ _ _ d }
 
-
 pub returns-in-Refused-checked : goal.returns-in-Refused-checked
 returns-in-Refused-checked c =
     let k = c in
@@ -66,7 +64,6 @@ returns-in-Refused-checked c =
     let says = accepted_says _ _ r.result r.ensures.0 _ a.in-Accepted.is _ _ r.ensures.2 r.ensures.3 _ k.check_decided-checked.ensures in
     let d = refusal_drawn _ _ k.check_decided-checked.result says _ _ _ c.in-Refused-checked.is in
     record { draws = d; breaks = graph_breaks _ _ _ _ _ d }
-
 
 pub returns-in-Refuted : goal.returns-in-Refuted
 returns-in-Refuted c =
@@ -81,4 +78,3 @@ returns-in-Refuted c =
     refl _ _ refl c.draw_word.ensures
     in
     record { draws = d; breaks = graph_breaks _ _ _ _ _ d }
-

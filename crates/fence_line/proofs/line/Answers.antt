@@ -23,4 +23,3 @@ returns c =
     puts_same (program_line _ _ _ _ t.search_alone-r.result refl refl g.says (ap (λ (m : Lent). m.buffer) g.leaves))
     o.outcome_line-n.ensures in
     record { puts = (line, program_says _ _ _ _ refl refl g.says, g.sized); whole = λ h. puts_all _ _ _ _ line (omega (arith, printed_within program_allowance text)) }
-

@@ -14,7 +14,6 @@ returns-in-Refused c =
     let says = query_refused _ _ r.result r.ensures.0 _ _ c.in-Refused.is in
     record { judges = says; means = answer_means _ _ _ says }
 
-
 pub returns-in-Wrong : goal.returns-in-Wrong
 returns-in-Wrong c =
     let g = c.read-r in
@@ -23,7 +22,6 @@ returns-in-Wrong c =
     let said = subst (Says (read _)) a.in-Accepted.is r.ensures.0 in
     let says = wrong_field _ _ said _ r.ensures.1 _ _ refl g.result g.ensures.says _ c.in-Wrong.is in
     record { judges = says; means = answer_means _ _ _ says }
-
 
 pub returns-in-Events : goal.returns-in-Events
 returns-in-Events c =
@@ -37,4 +35,3 @@ returns-in-Events c =
     (t.close_relations.ensures ∙ g.ensures.leaves) c.judge_codes-s.ensures.sized _ c.judge_codes-s.ensures.judged c.answer.result c.answer.ensures
     in
     record { judges = says; means = answer_means _ _ _ says }
-

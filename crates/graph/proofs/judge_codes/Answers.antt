@@ -5,4 +5,3 @@ use Rattle.graph.proofs.judge_codes.Goals as goal
 
 pub returns : goal.returns
 returns c = record { sized = c.judge_first-arg-1.given; judged = c.judge_first.ensures }
-

@@ -21,7 +21,6 @@ returns-in_default c =
     let l = c.loop-at in
     let f = c.add_field in record { says = so_far_wrong l.invariant (omega arith) f.new.listed c.in_default.is (f.ensures l.invariant.graph l.invariant.held); leaves = tt }
 
-
 pub overflow_add-k : goal.overflow_add-k
 overflow_add-k c =
     let l = c.loop-at in
@@ -45,4 +44,3 @@ loop-at-preserved c =
 
 pub returns : goal.returns
 returns c = record { says = (so_far_end c.loop-at.invariant (omega arith)).0; leaves = (so_far_end c.loop-at.invariant (omega arith)).1 }
-

@@ -16,9 +16,7 @@ returns-in-Events c =
     let f = c.add_fields-r in
     record { says = (as_many _ _ _ _ _ _ c.least.ensures (read_whole _ f.new.listed c.in-Events.is f.ensures.says f.ensures.leaves)).0; leaves = (as_many _ _ _ _ _ _ c.least.ensures (read_whole _ f.new.listed c.in-Events.is f.ensures.says f.ensures.leaves)).1 }
 
-
 pub returns-in-Wrong : goal.returns-in-Wrong
 returns-in-Wrong c =
     let f = c.add_fields-r in
     record { says = (as_many _ _ _ _ _ _ c.least.ensures (read_wrong _ c.clear-in-Wrong.new.out c.in-Wrong.is f.ensures.says (c.clear-in-Wrong.ensures ∙ ap zeros c.clear-arg-in-Wrong-1.given.0.1))).0; leaves = (as_many _ _ _ _ _ _ c.least.ensures (read_wrong _ c.clear-in-Wrong.new.out c.in-Wrong.is f.ensures.says (c.clear-in-Wrong.ensures ∙ ap zeros c.clear-arg-in-Wrong-1.given.0.1))).1 }
-

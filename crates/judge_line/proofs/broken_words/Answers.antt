@@ -1,4 +1,3 @@
-
 use Rattle.judge_line.proofs.JudgedLaws.{words_line, words_none, words_claim}
 use borrow.Author.Rules.{rules}
 use Rattle.judge_line.proofs.broken_words.Goals as goal

@@ -1,4 +1,3 @@
-
 use Rattle.print_line.proofs.Putting.{puts_append}
 use borrow.Author.Rules.{rules}
 use Rattle.judge_line.proofs.holds_line.Goals as goal

@@ -1,4 +1,3 @@
-
 use Rattle.judge_line.proofs.JudgedLaws.{as_judged}
 use borrow.Author.Rules.{rules}
 use Rattle.graph.specs.Answers.{result_of}

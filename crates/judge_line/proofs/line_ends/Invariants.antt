@@ -1,4 +1,3 @@
-
 use native.Mathlib.Nat.{zero-add}
 use Rattle.judge_line.proofs.JudgedLaws.{ends_here, ends_later, ends_no_more}
 use Rattle.judge_line.specs.JudgedWords.{line_ends}

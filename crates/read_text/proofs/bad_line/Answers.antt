@@ -30,8 +30,8 @@ pub loop-i-preserved : goal.loop-i-preserved
 loop-i-preserved c =
     let l = c.loop-i in
     elim c.if-b-eq10.branch [
-      then-b-eq10 w ↦ (omega arith, omega (arith, w.line-is), ap (λ n. bad_line n (drop (l.i + 1) c.args.text.now)) w.line-is ∙ byte_ends l.line _ l.i (omega arith) w.if-b-eq10.true ∙ l.invariant.2)
-    | else-b-eq10+else-b-lt32+else-b-gt126 w ↦ (omega arith, omega (arith, w.line-is), ap (λ n. bad_line n (drop (l.i + 1) c.args.text.now)) w.line-is ∙ byte_allowed l.line _ l.i (omega arith) w.if-b-eq10.false w.if-b-lt32.false w.if-b-gt126.false ∙ l.invariant.2)
+      | then-b-eq10 w ↦ (omega arith, omega (arith, w.line-is), ap (λ n. bad_line n (drop (l.i + 1) c.args.text.now)) w.line-is ∙ byte_ends l.line _ l.i (omega arith) w.if-b-eq10.true ∙ l.invariant.2)
+      | else-b-eq10+else-b-lt32+else-b-gt126 w ↦ (omega arith, omega (arith, w.line-is), ap (λ n. bad_line n (drop (l.i + 1) c.args.text.now)) w.line-is ∙ byte_allowed l.line _ l.i (omega arith) w.if-b-eq10.false w.if-b-lt32.false w.if-b-gt126.false ∙ l.invariant.2)
     ]
 
 pub returns : goal.returns

@@ -9,6 +9,8 @@ pub returns : goal.returns
 returns c =
     let n = c in
     let k = c in
-    let a = k.args in record { puts = accepted_pieces _ _ _ k.put_text-a.ensures k.put_kind-b.ensures
-          n.put_spaced-c.ensures n.put_spaced-d.ensures c.put_byte.ensures; short = accepted_short a.ring a.left a.right (search rules) (search rules) }
-
+    let a = k.args in record {
+      puts = accepted_pieces _ _ _ k.put_text-a.ensures k.put_kind-b.ensures
+          n.put_spaced-c.ensures n.put_spaced-d.ensures c.put_byte.ensures;
+      short = accepted_short a.ring a.left a.right (search rules) (search rules);
+    }

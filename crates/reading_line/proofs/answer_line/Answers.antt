@@ -7,13 +7,11 @@ use Rattle.reading_line.proofs.answer_line.Goals as goal
 
 pub returns-in-Accepted : goal.returns-in-Accepted
 returns-in-Accepted c =
-    let (puts, short) = c.accepted_line.ensures in
+    let l = c.accepted_line in
     let e = c.in-Accepted.is in
-    record { puts = as_accepted _ _ e puts; short = answer_accepted _ _ e short }
-
+    record { puts = as_accepted _ _ e l.ensures.puts; short = answer_accepted _ _ e l.ensures.short }
 
 pub returns-in-Refused : goal.returns-in-Refused
 returns-in-Refused c =
     let e = c.in-Refused.is in
     record { puts = as_refused _ _ _ e c.refusal_line.ensures; short = answer_refused _ _ _ e (search rules) }
-

@@ -27,5 +27,5 @@ returns-in-Accepted c =
     let m = lent_of a.records.now a.words.now a.buffer.now in
     let m' = lent_of d.new.records d.new.words d.new.buffer in
     let w = with_words a.text.now a.allowance m m' d.result
-        (accepted_gives a.text.now r.result r.ensures.0 _ c.in-Accepted.is r.new.left r.new.right r.ensures.2 r.ensures.3 a.allowance m m' d.result d.ensures)
+    (accepted_gives a.text.now r.result r.ensures.0 _ c.in-Accepted.is r.new.left r.new.right r.ensures.2 r.ensures.3 a.allowance m m' d.result d.ensures)
     in record { gives = w.0; by_words = w.1 }

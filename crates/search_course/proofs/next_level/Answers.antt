@@ -9,13 +9,18 @@ use Rattle.search_course.proofs.next_level.Goals as goal
 pub returns-then-t-cap : goal.returns-then-t-cap
 returns-then-t-cap c = let a = c.args in record { quiet = refl; falls = ends_level _ _ (omega arith); on = λ k left right first later r w ready low on. level_spent k left right first later a.cap a.t r w ready low on c.if-t-cap.true }
 
-
 pub returns-then-t : goal.returns-then-t
-returns-then-t c = let a = c.args in record { quiet = refl; falls = ends_level _ _ (omega arith); on = λ k left right first later r w ready low on.
-        level_proved k left right first later a.cap a.t r w ready low on c.if-t-cap.false c.if-t.true }
-
+returns-then-t c = let a = c.args in record {
+  quiet = refl;
+  falls = ends_level _ _ (omega arith);
+  on = λ k left right first later r w ready low on.
+      level_proved k left right first later a.cap a.t r w ready low on c.if-t-cap.false c.if-t.true;
+}
 
 pub returns : goal.returns
-returns c = let a = c.args in record { quiet = refl; falls = completes_level _ refl; on = λ k left right first later r w ready low on.
-        level_completes k left right first later a.cap a.t r w ready low on c.if-t-cap.false c.if-t.false }
-
+returns c = let a = c.args in record {
+  quiet = refl;
+  falls = completes_level _ refl;
+  on = λ k left right first later r w ready low on.
+      level_completes k left right first later a.cap a.t r w ready low on c.if-t-cap.false c.if-t.false;
+}

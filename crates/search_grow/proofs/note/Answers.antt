@@ -19,45 +19,55 @@ Notes cap w n w' m s parent letter k =
     (left right : List ℕ) (rows : List (List ℕ)) → Noted k left right cap (state rows w n) (state rows w' m) (standing_in true s) parent letter
 
 pub returns-then-s-eq0 : goal.returns-then-s-eq0
-returns-then-s-eq0 c = let a = c.args in record { inside = λ rows. inside_none true a.cap (state rows a.words.now a.n) c.requires.2; noted = by_ring (Notes a.cap a.words.now a.n a.words.now a.n a.s.now a.parent a.letter)
+returns-then-s-eq0 c = let a = c.args in record {
+  inside = λ rows. inside_none true a.cap (state rows a.words.now a.n) c.requires.2;
+  noted = by_ring (Notes a.cap a.words.now a.n a.words.now a.n a.s.now a.parent a.letter)
       (λ x y z left right rows old low.
       note_impossible (record { ring = true; right = x; live = y; relations = z }) left right a.cap (state rows a.words.now a.n) old
-      a.parent a.letter _ (first_word true _ ∙ c.if-s-eq0.true)) }
-
+      a.parent a.letter _ (first_word true _ ∙ c.if-s-eq0.true));
+}
 
 pub returns-then-cap-n : goal.returns-then-cap-n
-returns-then-cap-n c = let a = c.args in record { inside = λ rows. inside_none true a.cap (state rows a.words.now a.n) c.requires.2; noted = by_ring (Notes a.cap a.words.now a.n a.words.now a.n a.s.now a.parent a.letter)
+returns-then-cap-n c = let a = c.args in record {
+  inside = λ rows. inside_none true a.cap (state rows a.words.now a.n) c.requires.2;
+  noted = by_ring (Notes a.cap a.words.now a.n a.words.now a.n a.s.now a.parent a.letter)
       (λ x y z left right rows old low.
       note_spent (record { ring = true; right = x; live = y; relations = z }) left right a.cap (state rows a.words.now a.n) old
-      a.parent a.letter _ c.if-cap-n.true) }
-
+      a.parent a.letter _ c.if-cap-n.true);
+}
 
 pub returns-then-at-n : goal.returns-then-at-n
 returns-then-at-n c = let a = c.args in
-    let f = c.find-at in record { inside = λ rows. inside_none true a.cap (state rows a.words.now a.n) c.requires.2; noted = by_ring (Notes a.cap a.words.now a.n a.words.now a.n a.s.now a.parent a.letter)
+    let f = c.find-at in record {
+      inside = λ rows. inside_none true a.cap (state rows a.words.now a.n) c.requires.2;
+      noted = by_ring (Notes a.cap a.words.now a.n a.words.now a.n a.s.now a.parent a.letter)
           (λ x y z left right rows old low.
           note_found (record { ring = true; right = x; live = y; relations = z }) left right a.cap (state rows a.words.now a.n) old
-          a.parent a.letter _ f.result (ring_place rows _ _ _ _ f.ensures) c.if-at-n.true (omega arith)) }
-
+          a.parent a.letter _ f.result (ring_place rows _ _ _ _ f.ensures) c.if-at-n.true (omega arith));
+    }
 
 pub returns-then-n-cap : goal.returns-then-n-cap
 returns-then-n-cap c = let a = c.args in
     let f = c.find-at in
-    let w = c.append.new.words in record { inside = λ rows.
+    let w = c.append.new.words in record {
+      inside = λ rows.
           inside_appended true a.cap rows a.words.now a.n a.s.now a.parent a.letter rows w
-          (ring_records rows a.n a.s.now a.parent a.letter) c.append.ensures (omega arith); noted = by_ring (Notes a.cap a.words.now a.n w (a.n + 1) a.s.now a.parent a.letter)
+          (ring_records rows a.n a.s.now a.parent a.letter) c.append.ensures (omega arith);
+      noted = by_ring (Notes a.cap a.words.now a.n w (a.n + 1) a.s.now a.parent a.letter)
           (λ x y z left right rows old low.
           note_kept (record { ring = true; right = x; live = y; relations = z }) left right a.cap (state rows a.words.now a.n) old
           a.parent a.letter a.s.now f.result (λ e. c.if-s-eq0.false (sym (first_word true _) ∙ e)) (ring_place rows _ _ _ _ f.ensures) (omega arith) low
           (ring_room rows a.words.now (a.n + 1) (omega arith)) (omega arith) rows w
-          (ring_records rows a.n a.s.now a.parent a.letter) c.append.ensures) }
-
+          (ring_records rows a.n a.s.now a.parent a.letter) c.append.ensures);
+    }
 
 pub returns : goal.returns
 returns c = let a = c.args in
-    let f = c.find-at in record { inside = λ rows.
-          inside_count true a.cap (state rows a.words.now a.n) (state rows a.words.now (a.n + 1)) refl refl (omega arith) (omega arith); noted = by_ring (Notes a.cap a.words.now a.n a.words.now (a.n + 1) a.s.now a.parent a.letter)
+    let f = c.find-at in record {
+      inside = λ rows.
+          inside_count true a.cap (state rows a.words.now a.n) (state rows a.words.now (a.n + 1)) refl refl (omega arith) (omega arith);
+      noted = by_ring (Notes a.cap a.words.now a.n a.words.now (a.n + 1) a.s.now a.parent a.letter)
           (λ x y z left right rows old low.
           note_over (record { ring = true; right = x; live = y; relations = z }) left right a.cap (state rows a.words.now a.n) old
-          a.parent a.letter a.s.now f.result (λ e. c.if-s-eq0.false (sym (first_word true _) ∙ e)) (ring_place rows _ _ _ _ f.ensures) (omega arith) (omega arith)) }
-
+          a.parent a.letter a.s.now f.result (λ e. c.if-s-eq0.false (sym (first_word true _) ∙ e)) (ring_place rows _ _ _ _ f.ensures) (omega arith) (omega arith));
+    }

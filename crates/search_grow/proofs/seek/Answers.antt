@@ -46,7 +46,7 @@ loop-atoms-preserved c = let l = c.loop-atoms in
 
 pub returns : goal.returns
 returns c = let l = c.loop-atoms in record {
-      same = l.invariant.2;
-      tried = λ z. absurd (z c.loop-atoms-test.false);
-      falls = l.invariant.3;
-    }
+  same = l.invariant.2;
+  tried = λ z. absurd (z c.loop-atoms-test.false);
+  falls = l.invariant.3;
+}

@@ -25,7 +25,7 @@ loop-x-preserved c =
     let a = c.args in (
       c.put-x.auto.buffer ∙ c.loop-x.invariant.0,
       (c.put-x.ensures (rows a.records.now) a.buffer.now (c.load-from.ensures ∙ rows_at a.records.now c.loop-x.x.at) c.loop-x-test.true
-      c.loop-x.invariant.1).0,
+          c.loop-x.invariant.1).0,
     )
 
 pub returns : goal.returns

@@ -9,9 +9,11 @@ use Rattle.search_run.proofs.decide.Goals as goal
 
 pub run-requires : goal.run-requires
 run-requires c =
-    let a = c.args in
-    (run_asks a.f a.left.now a.right.now a.allowance a.records.now a.words.now a.buffer.now c.if-allowance-eq0.false
-    c.if-allowance-gt-MOST_STANDINGS.false c.count-slots.result c.count-slots.ensures c.enough-room.result c.enough-room.ensures (ap not c.if-not-room.false), c.requires)
+    let a = c.args in (
+      run_asks a.f a.left.now a.right.now a.allowance a.records.now a.words.now a.buffer.now c.if-allowance-eq0.false
+          c.if-allowance-gt-MOST_STANDINGS.false c.count-slots.result c.count-slots.ensures c.enough-room.result c.enough-room.ensures (ap not c.if-not-room.false),
+      c.requires,
+    )
 
 pub returns-then-allowance-eq0 : goal.returns-then-allowance-eq0
 returns-then-allowance-eq0 c =

@@ -11,9 +11,7 @@ returns-then-f c = let a = c.args in
     let m = c.masks.ensures ∙ ap (λ k. masks_of k a.f.left a.left.now a.right.now) c.shape_of-k.ensures in
     record { first_ones = c.all_live.ensures ∙ ring_masks a.f a.left.now a.right.now c.if-f.true; later_ones = m }
 
-
 pub returns : goal.returns
 returns c = let a = c.args in
     let m = c.masks.ensures ∙ ap (λ k. masks_of k a.f.left a.left.now a.right.now) c.shape_of-k.ensures in
     record { first_ones = m ∙ path_masks a.f a.left.now a.right.now c.if-f.false; later_ones = m }
-

@@ -17,11 +17,9 @@ returns-then-words-base c =
     let l = c.loop-j in
     record { alike = λ z. absurd (true_not_false z refl); unlike = λ _ f. c.if-words-base.true (f l.j (omega arith)) }
 
-
 pub loop-j-preserved : goal.loop-j-preserved
 loop-j-preserved c = (omega arith, below_more _ _ c.loop-j.invariant.1 c.if-words-base.false)
 
 pub returns : goal.returns
 returns c =
     record { alike = λ _ j h. c.loop-j.invariant.1 j (omega arith); unlike = λ z. absurd (true_not_false refl z) }
-

@@ -15,7 +15,6 @@ put_kept-more-requires c =
     let s = c in
     let a = s.args in record { i_in_bounds = (λ e. omega (arith, s.requires.0 e)); ring_in_bounds = omega (arith, length-take (length a.buffer.now - a.to) (drop a.to a.buffer.now), length-drop a.to a.buffer.now) }
 
-
 pub returns-then-i-n : goal.returns-then-i-n
 returns-then-i-n c =
     let a = c.args in

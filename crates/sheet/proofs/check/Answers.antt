@@ -11,11 +11,9 @@ returns-in-Refused c =
     let says = refused_says _ _ r.result r.ensures.0 _ _ c.in-Refused.is in
     record { says = says; proved = passes_proved _ _ _ says; refuted = passes_refuted _ _ _ says }
 
-
 pub returns-in-Accepted : goal.returns-in-Accepted
 returns-in-Accepted c =
     let a = c in
     let r = a.read_sides-asked in
     let says = accepted_says _ _ r.result r.ensures.0 _ a.in-Accepted.is _ _ r.ensures.1 r.ensures.2 _ c.check_decided.ensures in
     record { says = says; proved = passes_proved _ _ _ says; refuted = passes_refuted _ _ _ says }
-

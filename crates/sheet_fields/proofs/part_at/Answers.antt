@@ -14,4 +14,3 @@ returns c =
     let s = c.read-s in
     let A = subst⁻¹ (Answered a.f a.sheet.now a.at s.new.heads s.new.chain) c.answer.ensures s.ensures in
     record { inside = A.inside; read = A.read }
-

@@ -10,9 +10,7 @@ returns-then-ring c =
     let l = ring_begun_length _ _ _ _ c.begin.ensures.0 in
     record { begun = begin_ring _ _ _ e _ _ l c.begin.ensures.0; small = ring_small _ e _ l c.begin.ensures.1 }
 
-
 pub returns : goal.returns
 returns c =
     let e = c.if-ring.false in
     record { begun = begin_path _ _ _ e _ _ c.begin-2.ensures.0; small = path_small _ e _ c.begin-2.ensures.2 }
-

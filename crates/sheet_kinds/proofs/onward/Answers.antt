@@ -12,7 +12,6 @@ returns-then-ring c =
     let l = ring_grown_length _ _ _ _ _ c.onward.ensures.0 in
     record { grown = onward_ring _ _ _ e _ _ _ l c.all-1.given c.onward.ensures.0; small = ring_small _ e _ l c.onward.ensures.1 }
 
-
 pub onward-requires-2 : goal.onward-requires-2
 onward-requires-2 c = small_path _ c.if-ring.false _ c.requires
 
@@ -20,4 +19,3 @@ pub returns : goal.returns
 returns c =
     let e = c.if-ring.false in
     record { grown = onward_path _ _ _ e _ _ _ c.onward-2.ensures.0; small = path_small _ e _ c.onward-2.ensures.2 }
-

@@ -34,21 +34,24 @@ returns-in-Proved c =
     let x = c in
     let a = x.args in
     let e = c.in-Proved.is in
-    let few = listed_few _ _ _ _ _ x.part_at-p.result x.part_at-p.ensures.inside _ _ _ e in record { few = omega (arith, few); tested = λ D d k.
+    let few = listed_few _ _ _ _ _ x.part_at-p.result x.part_at-p.ensures.inside _ _ _ e in record {
+      few = omega (arith, few);
+      tested = λ D d k.
           proved_tests d a.sheet.now a.at _ _ k x.part_at-p.result x.part_at-p.ensures.inside (part_in D k (drop a.at a.sheet.now))
-          (x.part_at-p.ensures.read _ _ D d k) _ _ _ e _ c.proves-passes.ensures }
-
+          (x.part_at-p.ensures.read _ _ D d k) _ _ _ e _ c.proves-passes.ensures;
+    }
 
 pub returns-in-Refuted : goal.returns-in-Refuted
 returns-in-Refuted c =
     let x = c in
-    let a = x.args in record { few = omega arith; tested = λ D d k.
+    let a = x.args in record {
+      few = omega arith;
+      tested = λ D d k.
           refuted_tests d a.sheet.now a.at _ _ k x.part_at-p.result x.part_at-p.ensures.inside (part_in D k (drop a.at a.sheet.now)) (x.part_at-p.ensures.read _ _ D d k) _ _ c.in-Refuted.is _
-          c.word_refutes-passes.ensures }
-
+          c.word_refutes-passes.ensures;
+    }
 
 pub returns-in-Wrong : goal.returns-in-Wrong
 returns-in-Wrong c =
     let x = c in
     let a = x.args in record { few = wrong_few _ _ _ _ _ x.part_at-p.result x.part_at-p.ensures.inside _ c.in-Wrong.is; tested = λ D d k. wrong_tests d a.sheet.now a.at [] [] k x.part_at-p.result (part_in D k (drop a.at a.sheet.now)) (x.part_at-p.ensures.read _ _ D d k) _ c.in-Wrong.is }
-

@@ -14,7 +14,6 @@ use Prim.Native.Nat.{◌^◌, ◌<◌}
 use borrow.Author.Rules.{rules}
 use Rattle.side_tables.proofs.put_into.Goals as goal
 
-
 pub loop-left-init : goal.loop-left-init
 loop-left-init c = (search rules, refl, refl)
 
