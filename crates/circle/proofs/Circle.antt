@@ -4,9 +4,9 @@ use Prim.Native.Nat.{ℕ}
 use native.Mathlib.Omega.{arith}
 use mathlib.Core.Path.{◌≡◌, refl, sym, ◌∙◌, subst}
 use lib.ListN.{take}
-use Rattle.claims.specs.Refusals.{Result, ok}
+use Rattle.claims.specs.Refusals.{Result, ok, refused}
 use Rattle.claims.specs.Judgement.{holds_in, breaks_at, breaks_from, Judgement}
-use Rattle.claims.specs.Calls.{Passed, passed_proved, check_call}
+use Rattle.claims.specs.Calls.{Passed, passed_proved, check_call, passed_refuted}
 use Rattle.claims.proofs.Demand3.{passing_proved_called_to_hold}
 use Rattle.sheet_checked.specs.declared.Checked.{Checked}
 use Rattle.sheet_checked.specs.declared.Checked.TheVariants.{Proved}
@@ -32,6 +32,8 @@ says_proved_lem x c s e = go x (subst (Says x) e s)
   where
     go : (x : Result Passed) → Says x Proved → x ≡ ok passed_proved
     go (ok passed_proved) s = refl
+    go (ok passed_refuted) s = elim s [ ]
+    go (refused _) s = elim s [ ]
 
 -- what breaks is no claim that holds
 not_broken : (r : Judged) → MeetsAndBreaks r
@@ -41,6 +43,8 @@ not_broken (BreaksAt l x) z =
     (record { line = l; outcome = breaks_at x }, refl, z, λ e. let y : ◌≡◌ {A = ℕ} 0 1 = cc in omega arith)
 not_broken (BreaksFrom l x y) z =
     (record { line = l; outcome = breaks_from x y }, refl, z, λ e. let y : ◌≡◌ {A = ℕ} 0 1 = cc in omega arith)
+not_broken (Refused _ _) z = elim z [ ]
+not_broken (Holds _) z = elim z [ ]
 
 pub circle : Circle
 circle =

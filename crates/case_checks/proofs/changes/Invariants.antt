@@ -1,0 +1,12 @@
+-- `case_checks::changes` is safe and ends: it goes once over the bytes; the bytes stay as they were.
+-- Assumes nothing.
+use Prim.Native.Nat.{◌-◌, ◌≤◌}
+use mathlib.Core.Path.{◌≡◌}
+use borrow.Author.Rules.{rules}
+use Rattle.case_checks.proofs.changes.Given as goal
+
+abbrev pub invariant-loop-b : goal.invariant-loop-b
+invariant-loop-b l = (b ≤ 255) × (l.r ≡ l.initial.buffer)
+
+abbrev pub decreases-loop-b : goal.decreases-loop-b
+decreases-loop-b l = 255 - b

@@ -1,0 +1,8 @@
+
+use Rattle.case_lines.proofs.Putting.{puts_append}
+use borrow.Author.Rules.{rules}
+use Rattle.small_graphs.proofs.put_edge.Goals as goal
+
+pub returns : goal.returns
+returns c =
+    puts_append c.put-a.ensures (puts_append c.put-b.ensures (puts_append c.put-c.ensures (puts_append c.put-d.ensures (puts_append c.put-e.ensures c.put.ensures))))
