@@ -9,7 +9,7 @@ use borrow.Author.Rules.{rules}
 use Rattle.case_checks.proofs.cuts.Given as goal
 
 abbrev pub invariant-loop-i : goal.invariant-loop-i
-invariant-loop-i l = i ≤ length l.bytes
+invariant-loop-i l = l.i ≤ length l.bytes
 
 abbrev pub decreases-loop-i : goal.decreases-loop-i
-decreases-loop-i l = length l.bytes - i
+decreases-loop-i l = length l.bytes - l.i
