@@ -20,13 +20,14 @@ pub enum Input {
     Unread,
 }
 
-// Puts argument i at the start of the memory, as much of it as fits, and tells how many bytes that are; or there is no such argument.
+// Puts argument i at the start of the memory, and tells how many bytes it has, 0 for one that is longer than the memory; or there is no such
+// argument.
 pub fn argument(rt: HostRuntime, i: usize, word: &mut [u8]) -> Option<usize>
     ensures { IfSome result (λ n. n ≤ length word.new) }
 {
     match rt.arg(i, word) {
         Ok(n) => Some(n),
-        Err(FillError::TooLong) => Some(word.len()),
+        Err(FillError::TooLong) => Some(0),
         Err(FillError::NotPresent) => None,
     }
 }

@@ -1,4 +1,3 @@
-
 use Rattle.small_graphs.proofs.Bits.{bit_rest}
 use native.Mathlib.Omega.{arith}
 use mathlib.Core.Path.{sym}

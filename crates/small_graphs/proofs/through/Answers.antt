@@ -1,4 +1,3 @@
-
 use Prim.Native.Nat.{◌-◌, ◌≤◌}
 use native.Mathlib.Omega.{arith}
 use mathlib.Core.Path.{sym, ◌∙◌}
@@ -18,8 +17,8 @@ loop-from-preserved c =
     let a = c.args in
     let e = c.has.ensures in
     elim c.if-has.branch [
-      then-has w ↦ (omega arith, round_with a.r a.middle at.all at.from _ w.all-is (sym e ∙ w.if-has.true) at.invariant.1)
-    | else-has w ↦ (omega arith, round_without a.r a.middle at.all at.from _ w.all-is (sym e ∙ w.if-has.false) at.invariant.1)
+      | then-has w ↦ (omega arith, round_with a.r a.middle at.all at.from _ w.all-is (sym e ∙ w.if-has.true) at.invariant.1)
+      | else-has w ↦ (omega arith, round_without a.r a.middle at.all at.from _ w.all-is (sym e ∙ w.if-has.false) at.invariant.1)
     ]
 
 pub returns : goal.returns

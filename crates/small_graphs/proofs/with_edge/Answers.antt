@@ -1,4 +1,3 @@
-
 use Rattle.small_graphs.proofs.Bits.{edge_more, edge_from, edge_to}
 use native.Mathlib.Omega.{arith}
 use borrow.Author.Rules.{rules}

@@ -1,4 +1,3 @@
-
 use Rattle.case_lines.proofs.Putting.{puts_append}
 use Prim.Native.Nat.{◌-◌, ◌≤◌}
 use native.Mathlib.Omega.{arith}
