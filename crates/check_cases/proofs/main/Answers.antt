@@ -1,0 +1,25 @@
+-- `check_cases::main` is safe and ends: each array that it lends has the length that its type says.
+-- Assumes nothing.
+use mathlib.Core.Path.{sym}
+use Prim.Native.Nat.{ℕ}
+use lib.ListN.{length-replicate}
+use borrow.Author.Rules.{rules}
+use Rattle.check_cases.proofs.main.Goals as goal
+
+pub slice_bounds-run-end : goal.slice_bounds-run-end
+slice_bounds-run-end c = sym (length-replicate {A = ℕ} 65536 0)
+
+pub slice_bounds-run-end-2 : goal.slice_bounds-run-end-2
+slice_bounds-run-end-2 c = sym (length-replicate {A = ℕ} 163840 0)
+
+pub slice_bounds-run-end-3 : goal.slice_bounds-run-end-3
+slice_bounds-run-end-3 c = sym (length-replicate {A = ℕ} 163840 0)
+
+pub slice_bounds-run-end-4 : goal.slice_bounds-run-end-4
+slice_bounds-run-end-4 c = sym (length-replicate {A = ℕ} 1101828 0)
+
+pub slice_bounds-run-end-5 : goal.slice_bounds-run-end-5
+slice_bounds-run-end-5 c = sym (length-replicate {A = ℕ} 24832 0)
+
+pub slice_bounds-run-end-6 : goal.slice_bounds-run-end-6
+slice_bounds-run-end-6 c = sym (length-replicate {A = ℕ} 262144 0)
