@@ -1,4 +1,3 @@
-
 use mathlib.Core.Path.{sym, ◌∙◌}
 use Rattle.case_lines.proofs.FieldLaws.{hex_none, hex_some}
 use borrow.Author.Rules.{rules}

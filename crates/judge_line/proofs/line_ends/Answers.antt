@@ -16,8 +16,8 @@ loop-i-init c = (omega arith, omega arith, zero-add (line_ends c.args.text.now))
 pub loop-i-preserved : goal.loop-i-preserved
 loop-i-preserved c =
     elim c.if-text-i-eq10.branch [
-      then-text-i-eq10 w ↦ (omega arith, omega arith, ends_here _ _ _ _ _ w.n-is c.loop-i-test.true w.if-text-i-eq10.true c.loop-i.invariant.2)
-    | else-text-i-eq10 w ↦ (omega arith, omega arith, ends_later _ _ _ _ _ w.n-is c.loop-i-test.true w.if-text-i-eq10.false c.loop-i.invariant.2)
+      | then-text-i-eq10 w ↦ (omega arith, omega arith, ends_here _ _ _ _ _ w.n-is c.loop-i-test.true w.if-text-i-eq10.true c.loop-i.invariant.2)
+      | else-text-i-eq10 w ↦ (omega arith, omega arith, ends_later _ _ _ _ _ w.n-is c.loop-i-test.true w.if-text-i-eq10.false c.loop-i.invariant.2)
     ]
 
 pub returns : goal.returns
