@@ -1,4 +1,5 @@
 #!/usr/bin/env python3
+# Of the older kit (rattle-kit-5b-plain): see tools/derive-over-records. The checker proves functions over lent records itself today.
 """contract.py TWIN CRATE FUNCTION ELEM=STRUCT [REQUIRES ENSURES]: prints the contract module of FUNCTION (proofs/Contracts/Function.antt)"""
 import sys, re, os
 sys.path.insert(0, os.path.dirname(__file__))

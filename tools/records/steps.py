@@ -1,4 +1,5 @@
 #!/usr/bin/env python3
+# Of the older kit (rattle-kit-5b-plain): see tools/derive-over-records. The checker proves functions over lent records itself today.
 """steps.py TWIN CRATE FUNCTION ELEM=STRUCT [COVERED,..] [OPTIONS]
 
 Prints the derivation of FUNCTION as one term (for proofs/FUNCTION/Proof/Steps.antt), from what Rattle makes for the covered twin.

@@ -1,4 +1,5 @@
 #!/usr/bin/env python3
+# Of the older kit (rattle-kit-5b-plain): see tools/derive-over-records. The checker proves functions over lent records itself today.
 """twin.py: what contract.py and steps.py share: reading printed antt, its names, and the twin's types replaced by the struct's."""
 import re, sys, os
 
