@@ -5,13 +5,11 @@ use native.Mathlib.Omega.{arith}
 use mathlib.Core.Path.{◌≡◌, sym, ◌∙◌, ap}
 use mathlib.Core.Bool.{Bool, true, false, cond}
 use mathlib.Core.List.{List}
-use lib.Dec.{eqb, ltb}
+use lib.Dec.{eqb}
 use borrow.Author.Tests.{lt-ltb, le-ltb, eq-eqb, ne_eqb}
 use Rattle.arguments.specs.declared.Verb.{Verb}
-use Rattle.arguments.specs.declared.Verb.TheVariants as verbs
 use Rattle.arguments.specs.declared.Kind.{Kind}
 use Rattle.arguments.specs.declared.Kind.TheVariants as kinds
-use Rattle.arguments.specs.declared.Count.{Count}
 use Rattle.arguments.specs.ArgumentWords.{verb_of, kind_of, allowance_in}
 use Rattle.arguments.specs.declared.Wanted.{Wanted}
 use Rattle.arguments.specs.declared.Seen.{Seen}

@@ -1,19 +1,18 @@
 -- What an argument is, by the tests that it passes in their order; an allowance, digit by digit.
 -- Assumes nothing.
 use Prim.Native.Nat.{ℕ, suc, ◌+◌, ◌-◌, ◌≤◌, ◌<◌}
-use native.Mathlib.Omega.{arith}
 use native.Mathlib.Numerals.{add-one}
 use mathlib.Core.Path.{◌≡◌, sym, ap}
 use mathlib.Core.Bool.{true, false, cond}
 use mathlib.Core.List.{List}
-use lib.Dec.{eqb, ltb}
+use lib.Dec.{ltb}
 use lib.ListN.{length, get_or, drop, drop_of_length-le}
 use lib.Seq.{drop-cons}
 use borrow.Author.Tests.{lt-ltb, le-ltb, eq-eqb, ne_eqb}
 use Rattle.claims.specs.Bytes.{text, same}
 use Rattle.arguments.specs.declared.Verb.TheVariants as verbs
 use Rattle.arguments.specs.declared.Kind.TheVariants as kinds
-use Rattle.arguments.specs.declared.Count.TheVariants as counts
+use Rattle.std.specs.Prelude.{Some, None}
 use Rattle.arguments.specs.ArgumentWords.{verb_of, kind_of, dashes_first, more, count_from, allowance_in}
 
 module _ (w : List ℕ) where
@@ -62,7 +61,7 @@ module _ (w : List ℕ) where
   is_file a b c = rw (a, b, c)
 
   -- an allowance: no digits, a byte that is none, a digit more, the end
-  pub no_digits : length w ≡ 0 → counts.Nothing ≡ allowance_in w
+  pub no_digits : length w ≡ 0 → None ≡ allowance_in w
   unfolding allowance_in
   no_digits e = rw (eq-eqb (length w) 0 e)
 
@@ -71,14 +70,14 @@ module _ (w : List ℕ) where
   some_digits n = rw (ne_eqb (length w) 0 n)
 
   at_place : (v i : ℕ) → i < length w
-      → count_from v (drop i w) ≡ cond (ltb (get_or w i 0) 48) counts.Nothing (cond (ltb 57 (get_or w i 0)) counts.Nothing (count_from (more v (get_or w i 0 - 48)) (drop (suc i) w)))
+      → count_from v (drop i w) ≡ cond (ltb (get_or w i 0) 48) None (cond (ltb 57 (get_or w i 0)) None (count_from (more v (get_or w i 0 - 48)) (drop (suc i) w)))
   unfolding count_from
   at_place v i h = ap (count_from v) (drop-cons w i 0 h)
 
-  pub below_digits : (v i : ℕ) → i < length w → get_or w i 0 < 48 → counts.Nothing ≡ count_from v (drop i w)
+  pub below_digits : (v i : ℕ) → i < length w → get_or w i 0 < 48 → None ≡ count_from v (drop i w)
   below_digits v i h k = rw (at_place v i h, lt-ltb (get_or w i 0) 48 k)
 
-  pub above_digits : (v i : ℕ) → i < length w → 48 ≤ get_or w i 0 → 57 < get_or w i 0 → counts.Nothing ≡ count_from v (drop i w)
+  pub above_digits : (v i : ℕ) → i < length w → 48 ≤ get_or w i 0 → 57 < get_or w i 0 → None ≡ count_from v (drop i w)
   above_digits v i h j k = rw (at_place v i h, le-ltb (get_or w i 0) 48 j, lt-ltb 57 (get_or w i 0) k)
 
   pub digit_more : (v u i : ℕ) → i < length w → 48 ≤ get_or w i 0 → get_or w i 0 ≤ 57 → u ≡ more v (get_or w i 0 - 48)
@@ -86,6 +85,6 @@ module _ (w : List ℕ) where
   digit_more v u i h j k e =
       rw (at_place v i h, le-ltb (get_or w i 0) 48 j, le-ltb 57 (get_or w i 0) k, e, add-one i)
 
-  pub digits_end : (v i : ℕ) → length w ≤ i → counts.Of v ≡ count_from v (drop i w)
+  pub digits_end : (v i : ℕ) → length w ≤ i → Some v ≡ count_from v (drop i w)
   unfolding count_from
   digits_end v i h = sym (ap (count_from v) (drop_of_length-le w {i = i} h))

@@ -1,14 +1,12 @@
 -- What a single argument of the program is.
 -- Assumes nothing.
-use Rattle.std.specs.Prelude.{ℕ, ◌+◌, ◌-◌, ◌*◌, Bool, false, cond, List, [], ◌∷◌, eqb, ltb, length, get_or}
+use Rattle.std.specs.Prelude.{ℕ, ◌+◌, ◌-◌, ◌*◌, Bool, false, cond, List, [], ◌∷◌, eqb, ltb, length, get_or, Some, None, Option}
 use Rattle.claims.specs.Bytes.{text, same}
 use Rattle.layout.specs.Layout.{MOST-STANDINGS}
 use Rattle.arguments.specs.declared.Verb.{Verb}
 use Rattle.arguments.specs.declared.Verb.TheVariants as verbs
 use Rattle.arguments.specs.declared.Kind.{Kind}
 use Rattle.arguments.specs.declared.Kind.TheVariants as kinds
-use Rattle.arguments.specs.declared.Count.{Count}
-use Rattle.arguments.specs.declared.Count.TheVariants as counts
 
 -- the call that the first argument names
 unfoldable pub verb_of : List ℕ → Verb
@@ -35,10 +33,10 @@ unfoldable pub more : ℕ → ℕ → ℕ
 more v d = cond (ltb MOST-STANDINGS v) v (10 * v + d)
 
 -- the allowance that digits are, behind those of the number v
-unfoldable pub count_from : ℕ → List ℕ → Count
-count_from v [] = counts.Of v
-count_from v (b ∷ bs) = cond (ltb b 48) counts.Nothing (cond (ltb 57 b) counts.Nothing (count_from (more v (b - 48)) bs))
+unfoldable pub count_from : ℕ → List ℕ → Option ℕ
+count_from v [] = Some v
+count_from v (b ∷ bs) = cond (ltb b 48) None (cond (ltb 57 b) None (count_from (more v (b - 48)) bs))
 
 -- the allowance that an argument is, if it is one
-unfoldable pub allowance_in : List ℕ → Count
-allowance_in w = cond (eqb (length w) 0) counts.Nothing (count_from 0 w)
+unfoldable pub allowance_in : List ℕ → Option ℕ
+allowance_in w = cond (eqb (length w) 0) None (count_from 0 w)

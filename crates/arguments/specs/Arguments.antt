@@ -1,13 +1,11 @@
 -- What the arguments of the program ask for, one after the other.
 -- Assumes nothing.
-use Rattle.std.specs.Prelude.{ℕ, true, false, cond, List, eqb, ltb}
+use Rattle.std.specs.Prelude.{ℕ, true, false, cond, List, eqb, ltb, Some, None, Option}
 use Rattle.layout.specs.Layout.{PROGRAM-ALLOWANCE}
 use Rattle.arguments.specs.declared.Verb.{Verb}
 use Rattle.arguments.specs.declared.Verb.TheVariants as verbs
 use Rattle.arguments.specs.declared.Kind.{Kind}
 use Rattle.arguments.specs.declared.Kind.TheVariants as kinds
-use Rattle.arguments.specs.declared.Count.{Count}
-use Rattle.arguments.specs.declared.Count.TheVariants as counts
 use Rattle.arguments.specs.ArgumentWords.{verb_of, kind_of, allowance_in}
 use Rattle.arguments.specs.declared.Seen.{Seen}
 use Rattle.arguments.specs.declared.Call.{Call}
@@ -41,10 +39,10 @@ unfoldable pub begun : Verb → ℕ → Seen
 begun v i = cond (wanted_by v).known (nothing_behind v) (wrong_at (nothing_behind v) i)
 
 -- an allowance where one is awaited
-unfoldable pub with_count : Seen → Count → ℕ → Seen
-with_count s (counts.Of n) i =
+unfoldable pub with_count : Seen → Option ℕ → ℕ → Seen
+with_count s (Some n) i =
     record { verb = s.verb; allowance = n; counting = false; dot = s.dot; query = s.query; sheet = s.sheet; wrong = 0 }
-with_count s counts.Nothing i = wrong_at s i
+with_count s None i = wrong_at s i
 
 -- a file: the query and then the sheet or graph, as many as the call has
 unfoldable pub with_file : Seen → ℕ → Seen

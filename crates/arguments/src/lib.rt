@@ -31,13 +31,6 @@ enum Kind {
     File,
 }
 
-// An allowance, or an argument that is none.
-#[derive(Clone, Copy)]
-enum Count {
-    Of(usize),
-    Nothing,
-}
-
 // The call that the first argument names.
 fn verb_in(word: &[u8]) -> Verb
     ensures { result ≡ verb_of word.now }
@@ -103,27 +96,24 @@ fn one_more(value: usize, digit: u8) -> usize
     10 * value + digit as usize
 }
 
-// The allowance that a word of decimal digits is.
-fn count_in(word: &[u8]) -> Count
+// The allowance that a word of decimal digits is, if it is one.
+fn count_in(word: &[u8]) -> Option<usize>
     ensures { result ≡ allowance_in word.now }
 {
     if word.len() == 0 {
-        return Count::Nothing;
+        return None;
     }
     let mut value: usize = 0;
-    let mut i = 0;
-    while i < word.len() {
-        let b = word[i];
+    for &b in word {
         if b < 48 {
-            return Count::Nothing;
+            return None;
         }
         if 57 < b {
-            return Count::Nothing;
+            return None;
         }
         value = one_more(value, b - 48);
-        i += 1;
     }
-    Count::Of(value)
+    Some(value)
 }
 
 // What the arguments so far say: the call, the allowance, whether the next argument is the allowance, whether the graph is asked for as text,
@@ -214,16 +204,7 @@ pub fn start() -> Seen
 fn wrong_at(s: Seen, i: usize) -> Seen
     ensures { result ≡ wrong_at s i }
 {
-    let v = s.verb;
-    Seen {
-        verb: v,
-        allowance: s.allowance,
-        counting: s.counting,
-        dot: s.dot,
-        query: s.query,
-        sheet: s.sheet,
-        wrong: i,
-    }
+    Seen { wrong: i, ..s }
 }
 
 // The first argument is the call.
@@ -238,21 +219,17 @@ fn begin(v: Verb, i: usize) -> Seen
 }
 
 // An allowance where one is awaited.
-fn with_count(s: Seen, n: Count, i: usize) -> Seen
+fn with_count(s: Seen, n: Option<usize>, i: usize) -> Seen
     ensures { result ≡ with_count s n i }
 {
-    let v = s.verb;
     match n {
-        Count::Of(allowance) => Seen {
-            verb: v,
+        Some(allowance) => Seen {
             allowance,
             counting: false,
-            dot: s.dot,
-            query: s.query,
-            sheet: s.sheet,
             wrong: 0,
+            ..s
         },
-        Count::Nothing => wrong_at(s, i),
+        None => wrong_at(s, i),
     }
 }
 
@@ -260,18 +237,15 @@ fn with_count(s: Seen, n: Count, i: usize) -> Seen
 fn with_file(s: Seen, i: usize) -> Seen
     ensures { result ≡ with_file s i }
 {
-    let v = s.verb;
-    let most = wanted_by(v).files;
+    let most = wanted_by(s.verb).files;
     if s.query == 0 {
         if 0 < most {
             return Seen {
-                verb: v,
-                allowance: s.allowance,
                 counting: false,
-                dot: s.dot,
                 query: i,
                 sheet: 0,
                 wrong: 0,
+                ..s
             };
         }
         return wrong_at(s, i);
@@ -279,13 +253,10 @@ fn with_file(s: Seen, i: usize) -> Seen
     if s.sheet == 0 {
         if 1 < most {
             return Seen {
-                verb: v,
-                allowance: s.allowance,
                 counting: false,
-                dot: s.dot,
-                query: s.query,
                 sheet: i,
                 wrong: 0,
+                ..s
             };
         }
         return wrong_at(s, i);
@@ -297,32 +268,24 @@ fn with_file(s: Seen, i: usize) -> Seen
 fn with_argument(s: Seen, k: Kind, i: usize) -> Seen
     ensures { result ≡ with_argument s k i }
 {
-    let v = s.verb;
     match k {
         Kind::Allowance => {
-            if wanted_by(v).allowance {
+            if wanted_by(s.verb).allowance {
                 return Seen {
-                    verb: v,
-                    allowance: s.allowance,
                     counting: true,
-                    dot: s.dot,
-                    query: s.query,
-                    sheet: s.sheet,
                     wrong: 0,
+                    ..s
                 };
             }
             wrong_at(s, i)
         }
         Kind::Dot => {
-            if wanted_by(v).draws {
+            if wanted_by(s.verb).draws {
                 return Seen {
-                    verb: v,
-                    allowance: s.allowance,
                     counting: false,
                     dot: true,
-                    query: s.query,
-                    sheet: s.sheet,
                     wrong: 0,
+                    ..s
                 };
             }
             wrong_at(s, i)
@@ -358,8 +321,7 @@ pub fn asked(s: Seen) -> Call
     if s.counting {
         return Call::Short;
     }
-    let v = s.verb;
-    match v {
+    match s.verb {
         Verb::Query => Call::Query(s.allowance, s.query),
         Verb::Sheet => {
             if s.query == 0 {

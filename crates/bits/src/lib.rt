@@ -1,11 +1,13 @@
 // Sets of numbers below 64 as machine words: number k is a member where bit k is set. A table of such sets is a slice of rows, and a
-// row past its end is empty. In a set, members are taken lowest number first (document 01, "The form for each place"): each loop walks
-// a set by its trailing zeros, and the count of its ones falls.
+// row past its end is empty. In a set, members are taken lowest number first (document 01, "The form for each place"): `Elements` gives
+// them one after another, each as the trailing zeros of the word that is left.
 #![tactic(auto)]
 
 ghost use Rattle.std.specs.Prelude.{◌≡◌, cond};
 ghost use Rattle.claims.specs.Query.{bit};
-ghost use Rattle.bits.specs.Sets.{including, all_below, union_rows, meets_rows, any_member};
+ghost use Rattle.std.specs.Iterator.{YieldsFirst, item_count};
+ghost use Rattle.bits.specs.Sets.{including, all_below, members, union_rows, meets_rows, any_member};
+ghost use Rattle.bits.specs.Walk.{members_left};
 
 use memory::word;
 
@@ -40,46 +42,55 @@ pub fn marked(w: u64, p: usize, on: bool) -> u64
     if on { with(w, p) } else { w }
 }
 
+// The members of a set, lowest first: those whose bits are still set.
+#[derive(Clone, Copy)]
+pub struct Elements {
+    pub left: u64,
+}
+
+impl Elements {
+    // The members of s.
+    pub fn of(s: u64) -> Elements
+        ensures { members_left result ≡ members s }
+    {
+        Elements { left: s }
+    }
+}
+
+impl Iterator for Elements {
+    type Item = usize;
+
+    ghost next_gives = { YieldsFirst members_left };
+
+    ghost remaining = { item_count members_left };
+
+    fn next(&mut self) -> Option<usize> {
+        if self.left == 0 {
+            return None;
+        }
+        let k = self.left.trailing_zeros() as usize;
+        self.left &= self.left - 1;
+        Some(k)
+    }
+}
+
 // The union of the rows of the members of s.
 pub fn union_rows(rows: &[u64], s: u64) -> u64
     ensures { result ≡ union_rows rows.now s }
 {
-    let mut left = s;
-    let mut all = 0;
-    while left != 0 {
-        let k = u64::trailing_zeros(left) as usize;
-        all = all | word(rows, k);
-        left = left & (left - 1);
-    }
-    all
+    Elements::of(s).fold(0, |all, k| all | word(rows, k))
 }
 
 // Whether the row of some member of s has a member in common with t.
 pub fn meets_rows(rows: &[u64], s: u64, t: u64) -> bool
     ensures { result ≡ meets_rows rows.now s t }
 {
-    let mut left = s;
-    while left != 0 {
-        let k = u64::trailing_zeros(left) as usize;
-        if (word(rows, k) & t) != 0 {
-            return true;
-        }
-        left = left & (left - 1);
-    }
-    false
+    Elements::of(s).any(|k| (word(rows, k) & t) != 0)
 }
 
 // Whether k is in the row of some member of s.
 pub fn any_member(rows: &[u64], s: u64, k: usize) -> bool
     ensures { result ≡ any_member rows.now s k }
 {
-    let mut left = s;
-    while left != 0 {
-        let p = u64::trailing_zeros(left) as usize;
-        if member(word(rows, p), k) {
-            return true;
-        }
-        left = left & (left - 1);
-    }
-    false
+    Elements::of(s).any(|p| member(word(rows, p), k))
 }

@@ -2,10 +2,10 @@
 // row counted. What is written no contract can say, and the cases compare it; the bytes are left as they were.
 #![tactic(auto)]
 
-ghost use Rattle.std.specs.Prelude.{◌<◌, ◌≡◌};
+ghost use Rattle.std.specs.Prelude.{◌≡◌};
 
 use graph::Judged;
-use refusals::Reason;
+use refusals::Refusal;
 use sheet_checked::Checked;
 use streams::STDOUT;
 
@@ -16,143 +16,133 @@ pub enum Asked {
     Judge,
 }
 
-// A number below 1,048,576, as every number of an answer is.
-fn low(x: usize) -> u64
-    ensures { result < 1048576 }
-{
-    (x % 1048576) as u64
+// What the check or the judge answers; a refusal has its number and its place.
+#[derive(Clone, Copy, PartialEq, Eq)]
+enum Answer {
+    PassesProved,
+    PassesRefuted,
+    Judged(Judged),
+    Refused(u64, usize),
 }
 
-// An answer as a number: its form, which is below 8, and up to three numbers.
-fn packed(form: u64, a: usize, b: usize, c: usize) -> u64 {
-    form % 8 + 8 * low(a) + 8388608 * low(b) + 8796093022208 * low(c)
-}
-
-// The number of a refusal, as packed.
-fn refused(why: Reason, place: usize) -> u64 {
-    packed(2, (refusals::number(why) % 16) as usize, place, 0)
-}
-
-// An answer of the check as a number.
-fn code(r: Checked) -> u64 {
+// An answer of the check.
+fn of_check(r: Checked) -> Answer {
     match r {
-        Checked::Proved => packed(0, 0, 0, 0),
-        Checked::Refuted => packed(1, 0, 0, 0),
-        Checked::Refused(why, place) => refused(why, place),
+        Checked::Proved => Answer::PassesProved,
+        Checked::Refuted => Answer::PassesRefuted,
+        Checked::Refused(why, place) => Answer::Refused(refusals::number(why), place),
     }
 }
 
-// A judgement as a number.
-fn judged_code(j: Judged) -> u64 {
-    match j {
-        Judged::Holds(line) => packed(3, line, 0, 0),
-        Judged::BreaksAt(line, event) => packed(4, line, event, 0),
-        Judged::BreaksFrom(line, from, to) => packed(5, line, from, to),
-        Judged::Refused(why, place) => refused(why, place),
+// An answer of the judge.
+fn of_judge(r: Result<Judged, Refusal>) -> Answer {
+    match r {
+        Ok(j) => Answer::Judged(j),
+        Err(e) => Answer::Refused(refusals::number(e.why), e.place),
     }
 }
 
-// The answer to a query and the bytes of a sheet or a graph, as a number.
-fn answer(of: Asked, query: &[u8], bytes: &[u8]) -> u64 {
+// The answer to a query and the bytes of a sheet or a graph.
+fn answer_of(of: Asked, query: &[u8], bytes: &[u8]) -> Answer {
     match of {
-        Asked::Check => code(sheet::check(query, bytes)),
-        Asked::Judge => judged_code(graph::judge(query, bytes)),
+        Asked::Check => of_check(sheet::check(query, bytes)),
+        Asked::Judge => of_judge(graph::judge(query, bytes)),
     }
 }
 
-// Writes a judgement of this form, with its numbers.
-fn write_judged(form: u64, line: u64, a: u64, b: u64) {
+// Writes the line that a judgement names, and whether the claim holds.
+fn write_line(line: usize, claim: &[u8]) {
     io::write_all(STDOUT, b"line ");
-    io::print_decimal(STDOUT, line);
-    if form == 3 {
-        io::write_all(STDOUT, b" holds");
-        return;
-    }
-    io::write_all(STDOUT, b" breaks ");
-    io::print_decimal(STDOUT, a);
-    if form == 5 {
-        io::write_all(STDOUT, b" ");
-        io::print_decimal(STDOUT, b);
+    io::print_decimal(STDOUT, line as u64);
+    io::write_all(STDOUT, claim);
+}
+
+// Writes a judgement.
+fn write_judged(j: Judged) {
+    match j {
+        Judged::Holds(line) => write_line(line, b" holds"),
+        Judged::BreaksAt(line, event) => {
+            write_line(line, b" breaks ");
+            io::print_decimal(STDOUT, event as u64);
+        }
+        Judged::BreaksFrom(line, from, to) => {
+            write_line(line, b" breaks ");
+            io::print_decimal(STDOUT, from as u64);
+            io::write_all(STDOUT, b" ");
+            io::print_decimal(STDOUT, to as u64);
+        }
     }
 }
 
 // Writes an answer, without the end of a line.
-fn write_code(c: u64) {
-    let form = c % 8;
-    let a = c / 8 % 1048576;
-    let b = c / 8388608 % 1048576;
-    if form == 0 {
-        io::write_all(STDOUT, b"passes proved");
-        return;
+fn write_answer(a: Answer) {
+    match a {
+        Answer::PassesProved => {
+            io::write_all(STDOUT, b"passes proved");
+        }
+        Answer::PassesRefuted => {
+            io::write_all(STDOUT, b"passes refuted");
+        }
+        Answer::Judged(j) => write_judged(j),
+        Answer::Refused(number, place) => {
+            io::write_all(STDOUT, b"refusal ");
+            io::print_decimal(STDOUT, number);
+            io::write_all(STDOUT, b" line ");
+            io::print_decimal(STDOUT, place as u64);
+        }
     }
-    if form == 1 {
-        io::write_all(STDOUT, b"passes refuted");
-        return;
-    }
-    if form == 2 {
-        io::write_all(STDOUT, b"refusal ");
-        io::print_decimal(STDOUT, a);
-        io::write_all(STDOUT, b" line ");
-        io::print_decimal(STDOUT, b);
-        return;
-    }
-    write_judged(form, a, b, c / 8796093022208);
 }
 
 // Equal answers in a row: how many, and which.
 #[derive(Clone, Copy)]
 struct Run {
     count: u64,
-    code: u64,
+    answer: Answer,
 }
 
 // Writes the answers of a row.
 fn write_run(r: Run) {
     io::print_decimal(STDOUT, r.count);
     io::write_all(STDOUT, b" ");
-    write_code(r.code);
+    write_answer(r.answer);
 }
 
 // One more answer; a row that it ends is written.
-fn more(r: Run, c: u64) -> Run {
-    if r.count == 0 {
-        return Run { count: 1, code: c };
-    }
-    if r.code == c {
-        if r.count < 1048576 {
-            return Run {
-                count: r.count + 1,
-                code: c,
-            };
-        }
+fn more(so_far: Option<Run>, answer: Answer) -> Run {
+    let Some(r) = so_far else {
+        return Run { count: 1, answer };
+    };
+    if r.answer == answer && r.count < 1048576 {
+        return Run {
+            count: r.count + 1,
+            answer,
+        };
     }
     write_run(r);
     io::write_all(STDOUT, b", ");
-    Run { count: 1, code: c }
+    Run { count: 1, answer }
 }
 
 // The answers to the bytes cut at every place, and whole.
 fn cuts(of: Asked, query: &[u8], bytes: &[u8]) {
-    let mut r = Run { count: 0, code: 0 };
-    let mut i = 0;
-    while i < bytes.len() {
-        r = more(r, answer(of, query, &bytes[..i]));
-        i += 1;
+    let mut r = None;
+    for i in 0..bytes.len() {
+        r = Some(more(r, answer_of(of, query, &bytes[..i])));
     }
-    write_run(more(r, answer(of, query, bytes)));
+    write_run(more(r, answer_of(of, query, bytes)));
     io::write_all(STDOUT, b"\n");
 }
 
 // The answer to the first n bytes of the buffer with another byte at a place; the byte that was there is put back.
-fn changed(of: Asked, query: &[u8], buffer: &mut [u8], n: usize, at: usize, b: u8) -> u64
+fn changed(of: Asked, query: &[u8], buffer: &mut [u8], n: usize, at: usize, b: u8) -> Answer
     ensures { buffer.new ≡ buffer.old }
 {
     if buffer.len() <= at {
-        return 0;
+        return answer_of(of, query, texts::first(buffer, n));
     }
     let old = buffer[at];
     buffer[at] = b;
-    let c = answer(of, query, texts::first(buffer, n));
+    let c = answer_of(of, query, texts::first(buffer, n));
     buffer[at] = old;
     c
 }
@@ -161,11 +151,9 @@ fn changed(of: Asked, query: &[u8], buffer: &mut [u8], n: usize, at: usize, b: u
 fn changes(of: Asked, query: &[u8], buffer: &mut [u8], n: usize, at: usize)
     ensures { buffer.new ≡ buffer.old }
 {
-    let mut r = Run { count: 0, code: 0 };
-    let mut b: u8 = 0;
-    while b < 255 {
-        r = more(r, changed(of, query, buffer, n, at, b));
-        b += 1;
+    let mut r = None;
+    for b in 0..255 {
+        r = Some(more(r, changed(of, query, buffer, n, at, b)));
     }
     write_run(more(r, changed(of, query, buffer, n, at, 255)));
     io::write_all(STDOUT, b"\n");
@@ -177,9 +165,7 @@ pub fn edits(of: Asked, query: &[u8], buffer: &mut [u8], n: usize)
     ensures { buffer.new ≡ buffer.old }
 {
     cuts(of, query, texts::first(buffer, n));
-    let mut i = 0;
-    while i < n {
+    for i in 0..n {
         changes(of, query, buffer, n, i);
-        i += 1;
     }
 }

@@ -5,7 +5,6 @@ use native.Mathlib.Omega.{arith}
 use mathlib.Core.Path.{◌≡◌, refl, sym, ◌∙◌, ap, subst}
 use mathlib.Core.List.{List, [], ◌∷◌, ◌++◌, append_assoc}
 use lib.Bits.{bit_or, or_shifted}
-use lib.Dec.{eqb}
 use borrow.Author.Tests.{eq-eqb, ne_eqb, le-leb, lt-leb}
 use Rattle.case_lines.specs.declared.escape.Next.{Next}
 use Rattle.case_lines.specs.declared.escape.Next.TheVariants.{Plain, Escape, High, Low}

@@ -1,9 +1,8 @@
 -- The next case of the input. Nothing can be said of what is read, but that what was left of the part before and what was read after it are
 -- the line, its end, and what is left of the part then; and that the case's bytes are those that the line stands for.
 -- Assumes nothing.
-use Rattle.std.specs.Prelude.{ℕ, ◌≡◌, Bool, true, false, cond, List, [], ◌∷◌, ◌++◌, eqb, take, drop}
+use Rattle.std.specs.Prelude.{ℕ, ◌≡◌, Bool, true, false, cond, List, [], ◌∷◌, ◌++◌, eqb, take, drop, Some, None, Option}
 use Rattle.case_lines.specs.declared.Case.{Case}
-use Rattle.case_lines.specs.declared.Case.TheVariants as cases
 use Rattle.case_lines.specs.declared.Found.{Found}
 use Rattle.case_lines.specs.declared.Found.TheVariants as founds
 use Rattle.case_lines.specs.declared.escape.Next.TheVariants.{Plain}
@@ -48,8 +47,8 @@ abbrev pub line_start : Place
 line_start = record { used = 0; next = Plain }
 
 -- the next case, with `bytes` left of the part before
-abbrev pub Told : List ℕ → List ℕ → Case → List ℕ → List ℕ → Type 0
-Told bytes text (cases.Line n u) part₁ text₁ =
-    (read : List ℕ) × Ended text line_start (bytes ++ read) (left part₁ u.at u.filled) n text₁
-Told bytes text cases.End part₁ text₁ =
+abbrev pub Told : List ℕ → List ℕ → Option Case → List ℕ → List ℕ → Type 0
+Told bytes text (Some c) part₁ text₁ =
+    (read : List ℕ) × Ended text line_start (bytes ++ read) (left part₁ c.behind.at c.behind.filled) c.bytes text₁
+Told bytes text None part₁ text₁ =
     (read : List ℕ) × (rest : List ℕ) × (p : Place) × Begun text line_start (bytes ++ read) rest p text₁

@@ -7,7 +7,7 @@ ghost use Rattle.case_lines.specs.Fields.{Puts, digits_in, hex_bytes, hex_pairs,
 ghost use Rattle.case_lines.specs.Lines.{Scanned, Told, left};
 
 use escape::Place;
-use streams::STDIN;
+use streams::{STDIN, STDOUT};
 
 mod escape; // escape.rt: the bytes that a line stands for
 
@@ -18,11 +18,11 @@ pub struct Cases {
     pub filled: usize,
 }
 
-// The next case: how many bytes of it stand in the text, and how far the input is used then; or the end of the input.
+// A case: how many bytes of it stand in the text, and how far the input is used behind it.
 #[derive(Clone, Copy)]
-pub enum Case {
-    Line(usize, Cases),
-    End,
+pub struct Case {
+    pub bytes: usize,
+    pub behind: Cases,
 }
 
 // What a part of the input holds from a place on: the end of a line, with the bytes of the case and the place behind it, or more of the line.
@@ -43,44 +43,45 @@ pub struct Digits {
 fn scan(part: &[u8], from: usize, filled: usize, text: &mut [u8], start: Place) -> Found
     ensures { Scanned part.now from filled text.old start result text.new }
 {
-    let mut at = from;
     let mut place = start;
-    while at < filled {
+    for at in from..filled {
         if part.len() <= at {
             return Found::More(place);
         }
         let b = part[at];
-        at += 1;
         if b == 10 {
-            return Found::Line(place.used, at);
+            return Found::Line(place.used, at + 1);
         }
         place = escape::step(text, place, b);
     }
     Found::More(place)
 }
 
-// The next case, its bytes in the text. A line of more than 1,024 parts is taken for the end.
-pub fn next(part: &mut [u8], used: Cases, text: &mut [u8]) -> Case
+// The next case, its bytes in the text, or none at the end of the input. A line of more than 1,024 parts is taken for the end.
+pub fn next(part: &mut [u8], used: Cases, text: &mut [u8]) -> Option<Case>
     ensures { Told (left part.old used.at used.filled) text.old result part.new text.new }
 {
     let mut at = used.at;
     let mut filled = used.filled;
     let mut place = escape::start();
-    let mut left: u64 = 1024;
-    while 0 < left {
+    for _ in 0..1024 {
         let s = scan(part, at, filled, text, place);
         match s {
-            Found::Line(n, behind) => return Case::Line(n, Cases { at: behind, filled }),
+            Found::Line(bytes, at) => {
+                return Some(Case {
+                    bytes,
+                    behind: Cases { at, filled },
+                });
+            }
             Found::More(p) => place = p,
         }
         filled = io::read_full(STDIN, part);
         at = 0;
         if filled == 0 {
-            return Case::End;
+            return None;
         }
-        left -= 1;
     }
-    Case::End
+    None
 }
 
 // A number with one more digit; one over 1,000,000,000 stays as it is.
@@ -100,8 +101,7 @@ pub fn number(text: &[u8], n: usize) -> Digits
         × (result.value ≡ with_digits 0 (digits_in (take 20 (take n text.now)))) }
 {
     let mut value: usize = 0;
-    let mut i = 0;
-    while i < 20 {
+    for i in 0..20 {
         if n <= i {
             return Digits { value, count: i };
         }
@@ -116,9 +116,8 @@ pub fn number(text: &[u8], n: usize) -> Digits
             return Digits { value, count: i };
         }
         value = more(value, (b - b'0') as usize);
-        i += 1;
     }
-    Digits { value, count: i }
+    Digits { value, count: 20 }
 }
 
 // Bytes that stand in hex at the start of a text: how many there are, and how many bytes of the text they take.
@@ -139,8 +138,7 @@ fn hex_byte(high: u8, low: u8) -> u8
 fn hex_pairs(text: &[u8], to: &mut [u8]) -> usize
     ensures { Puts to.old 0 (hex_pairs text.now) result to.new }
 {
-    let mut used = 0;
-    while used < to.len() {
+    for used in 0..to.len() {
         if text.len() - 2 * used < 2 {
             return used;
         }
@@ -148,9 +146,8 @@ fn hex_pairs(text: &[u8], to: &mut [u8]) -> usize
             return used;
         }
         to[used] = hex_byte(text[2 * used], text[2 * used + 1]);
-        used += 1;
     }
-    used
+    to.len()
 }
 
 // Whether a `-` stands at the start of a text.
@@ -176,4 +173,12 @@ pub fn hex(text: &[u8], to: &mut [u8]) -> HexBytes
         bytes: used,
         count: 2 * used,
     }
+}
+
+// Writes bytes in hex, and the end of the line.
+pub fn write_hex(bytes: &[u8]) {
+    for b in bytes {
+        io::print_hex(STDOUT, u64::from(*b), 2);
+    }
+    io::write_all(STDOUT, b"\n");
 }

@@ -7,34 +7,27 @@
 // - `whole`, the same, and for a refuted claim the drawn graph in hex and as text.
 #![tactic(auto)]
 
-use case_lines::{Case, Cases};
+use case_lines::Cases;
 use layout::{EDGE_BYTES, EVENT_BYTES, LONGEST_SHEET, MOST_WORDS};
 use sheets::Part;
 
 mod sheets; // sheets.rt: one case answered
 
-// What a line begins.
-#[derive(Clone, Copy)]
-enum Begins {
-    A(Part),
-    Nothing,
-}
-
 // The part that begins behind the line, where it is one of those words.
-fn part_named(text: &[u8]) -> Begins {
+fn part_named(text: &[u8]) -> Option<Part> {
     if texts::same(text, b"draw") {
-        return Begins::A(Part::Draw);
+        return Some(Part::Draw);
     }
     if texts::same(text, b"edits") {
-        return Begins::A(Part::Edits);
+        return Some(Part::Edits);
     }
     if texts::same(text, b"search") {
-        return Begins::A(Part::Search);
+        return Some(Part::Search);
     }
     if texts::same(text, b"whole") {
-        return Begins::A(Part::Whole);
+        return Some(Part::Whole);
     }
-    Begins::Nothing
+    None
 }
 
 // Answers a case.
@@ -62,8 +55,7 @@ fn take(
     graph: &mut [u8],
     out: &mut [u8],
 ) -> Part {
-    let b = part_named(text);
-    if let Begins::A(next) = b {
+    if let Some(next) = part_named(text) {
         return next;
     }
     answer(text, part, words, buffer, graph, out);
@@ -81,17 +73,13 @@ fn run(
 ) {
     let mut used = Cases { at: 0, filled: 0 };
     let mut part = Part::Check;
-    let mut left: u64 = 1048576;
-    while 0 < left {
-        let c = case_lines::next(input, used, text);
-        match c {
-            Case::Line(n, behind) => {
-                part = take(texts::first(text, n), part, words, buffer, graph, out);
-                used = behind;
-            }
-            Case::End => return,
-        }
-        left -= 1;
+    for _ in 0..1048576 {
+        let Some(case) = case_lines::next(input, used, text) else {
+            return;
+        };
+        let line = texts::first(text, case.bytes);
+        part = take(line, part, words, buffer, graph, out);
+        used = case.behind;
     }
 }
 

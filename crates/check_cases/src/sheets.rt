@@ -3,9 +3,8 @@
 use case_checks::Asked;
 use draw::Drawing;
 use layout::WORD_AT;
-use memory::wide;
-use refusals::Reason;
-use search_outcomes::Outcome;
+use refusals::{Reason, Refusal};
+use search_outcomes::Verdict;
 use sheet_checked::Checked;
 use streams::STDOUT;
 
@@ -39,21 +38,11 @@ fn write_check(r: Checked) {
     }
 }
 
-// Writes bytes in hex as a line.
-fn write_hex(bytes: &[u8]) {
-    let mut i = 0;
-    while i < bytes.len() {
-        io::print_hex(STDOUT, wide(bytes[i]), 2);
-        i += 1;
-    }
-    io::write_all(STDOUT, b"\n");
-}
-
 // Writes the graph in hex, the line of a refusal, or `none`.
 fn write_graph(r: Drawing, graph: &[u8]) {
     match r {
         Drawing::Graph(n) => {
-            write_hex(texts::first(graph, n));
+            case_lines::write_hex(texts::first(graph, n));
         }
         Drawing::TooLarge(_) => {
             io::write_all(STDOUT, b"none\n");
@@ -81,7 +70,7 @@ fn write_text(r: Drawing, query: &[u8], sheet: &[u8], graph: &[u8], out: &mut [u
 }
 
 // Writes the line of an outcome without its end.
-fn write_outcome(r: Outcome, buffer: &[u8], out: &mut [u8]) {
+fn write_outcome(r: Result<Verdict, Refusal>, buffer: &[u8], out: &mut [u8]) {
     let m = outcome_lines::outcome_line(r, buffer, out);
     if 0 < m {
         io::write_all(STDOUT, texts::first(out, m - 1));
@@ -89,8 +78,14 @@ fn write_outcome(r: Outcome, buffer: &[u8], out: &mut [u8]) {
 }
 
 // Draws the graph of a sheet, in hex and as text.
-fn draw_whole(r: Outcome, query: &[u8], sheet: &[u8], graph: &mut [u8], out: &mut [u8]) {
-    let Outcome::Refuted(_, _) = r else {
+fn draw_whole(
+    r: Result<Verdict, Refusal>,
+    query: &[u8],
+    sheet: &[u8],
+    graph: &mut [u8],
+    out: &mut [u8],
+) {
+    let Ok(Verdict::Refuted(_, _)) = r else {
         return;
     };
     let d = draw::draw(query, sheet, graph);
@@ -100,7 +95,7 @@ fn draw_whole(r: Outcome, query: &[u8], sheet: &[u8], graph: &mut [u8], out: &mu
 
 // The line of an outcome, and behind an answer that of the check of its sheet.
 fn write_checked(
-    r: Outcome,
+    r: Result<Verdict, Refusal>,
     query: &[u8],
     whole: bool,
     buffer: &[u8],
@@ -108,7 +103,7 @@ fn write_checked(
     out: &mut [u8],
 ) {
     write_outcome(r, buffer, out);
-    if let Outcome::Refused(_, _) = r {
+    if let Err(_) = r {
         io::write_all(STDOUT, b"\n");
         return;
     }

@@ -4,6 +4,7 @@ use Prim.Native.Nat.{ℕ}
 use native.Mathlib.Omega.{arith}
 use mathlib.Core.Path.{◌≡◌, refl, sym, ◌∙◌, subst}
 use lib.ListN.{take}
+use Rattle.std.specs.Prelude.{Ok, Err}
 use Rattle.claims.specs.Refusals.{Result, ok, refused}
 use Rattle.claims.specs.Judgement.{holds_in, breaks_at, breaks_from, Judgement}
 use Rattle.claims.specs.Calls.{Passed, passed_proved, check_call, passed_refuted}
@@ -13,18 +14,17 @@ use Rattle.sheet_checked.specs.declared.Checked.TheVariants.{Proved}
 use Rattle.sheet_checked.specs.Checks.{Says}
 use Rattle.draw.specs.Breaking.{JudgedToBreak}
 use Rattle.draw.proofs.Breaking.{graph_breaks}
-use Rattle.graph.specs.declared.Judged.{Judged}
-use Rattle.graph.specs.declared.Judged.TheVariants.{Holds, BreaksAt, BreaksFrom, Refused}
-use Rattle.graph.specs.Answers.{result_of}
+use Rattle.graph.specs.declared.Judged.TheVariants.{Holds, BreaksAt, BreaksFrom}
+use Rattle.graph.specs.Answers.{result_of, Answer}
 use Rattle.circle.specs.Circle.{MeetsAndBreaks, Circle}
 
 -- an answer that says line 0 and a broken claim
-says_broken : (r : Judged) (j : Judgement) → result_of r ≡ ok j → j.line ≡ 0 → (j.outcome ≡ holds_in → ⊥) → MeetsAndBreaks r
+says_broken : (r : Answer) (j : Judgement) → result_of r ≡ ok j → j.line ≡ 0 → (j.outcome ≡ holds_in → ⊥) → MeetsAndBreaks r
 unfolding result_of
-says_broken (Holds l) j e z b = b (cc)
-says_broken (BreaksAt l x) j e z b = let same : l ≡ j.line = cc in same ∙ z
-says_broken (BreaksFrom l x y) j e z b = let same : l ≡ j.line = cc in same ∙ z
-says_broken (Refused why p) j e z b = let z : ◌≡◌ {A = ℕ} 0 1 = cc in omega arith
+says_broken (Ok (Holds l)) j e z b = b (cc)
+says_broken (Ok (BreaksAt l x)) j e z b = let same : l ≡ j.line = cc in same ∙ z
+says_broken (Ok (BreaksFrom l x y)) j e z b = let same : l ≡ j.line = cc in same ∙ z
+says_broken (Err y) j e z b = let z : ◌≡◌ {A = ℕ} 0 1 = cc in omega arith
 
 -- a proof that passes, and an answer of line 0
 says_proved_lem : (x : Result Passed) (c : Checked) → Says x c → c ≡ Proved → x ≡ ok passed_proved
@@ -36,15 +36,15 @@ says_proved_lem x c s e = go x (subst (Says x) e s)
     go (refused _) s = elim s [ ]
 
 -- what breaks is no claim that holds
-not_broken : (r : Judged) → MeetsAndBreaks r
+not_broken : (r : Answer) → MeetsAndBreaks r
     → (j : Judgement) × (result_of r ≡ ok j) × (j.line ≡ 0) × (j.outcome ≡ holds_in → ⊥)
 unfolding result_of
-not_broken (BreaksAt l x) z =
+not_broken (Ok (BreaksAt l x)) z =
     (record { line = l; outcome = breaks_at x }, refl, z, λ e. let y : ◌≡◌ {A = ℕ} 0 1 = cc in omega arith)
-not_broken (BreaksFrom l x y) z =
+not_broken (Ok (BreaksFrom l x y)) z =
     (record { line = l; outcome = breaks_from x y }, refl, z, λ e. let y : ◌≡◌ {A = ℕ} 0 1 = cc in omega arith)
-not_broken (Refused _ _) z = elim z [ ]
-not_broken (Holds _) z = elim z [ ]
+not_broken (Err _) z = elim z [ ]
+not_broken (Ok (Holds _)) z = elim z [ ]
 
 pub circle : Circle
 circle =

@@ -20,8 +20,7 @@ use Rattle.claims.proofs.GraphReading.{ranges_of, graph_accepted}
 use Rattle.claims.proofs.Judging.{judgement_is_meaning}
 use Rattle.claims.proofs.OneJudgement.{one_judgement}
 use Rattle.claims.proofs.JudgeCall.{meaning_is_judge_call}
-use Rattle.search_outcomes.specs.declared.Outcome.{Outcome}
-use Rattle.search_outcomes.specs.Outcomes.{Says, SearchGives}
+use Rattle.search_outcomes.specs.Outcomes.{Outcome, Says, SearchGives}
 use Rattle.search_outcomes.proofs.ByWords.{search_by_words}
 use Rattle.graph.specs.Meanings.{IsMeaning}
 use Rattle.graph.proofs.Answered.{answer_means}

@@ -4,7 +4,7 @@
 -- (drawCall text sheet before) d after` is what `draw::draw` ensures of its answer d and of what it leaves, and `result_of r ≡ judge-call text
 -- graph` is what `graph::judge` ensures of its answer r. (Document 01, "Sheet and graph bytes", last paragraph.)
 -- Assumes nothing.
-use Rattle.std.specs.Prelude.{ℕ, ◌≡◌, List, take}
+use Rattle.std.specs.Prelude.{ℕ, ◌≡◌, List, take, Ok, Err}
 use Rattle.claims.specs.Calls.{check_call, judge_call}
 use Rattle.sheet_checked.specs.declared.Checked.{Checked}
 use Rattle.sheet_checked.specs.declared.Checked.TheVariants.{Proved}
@@ -13,20 +13,19 @@ use Rattle.draw.specs.declared.Drawing.{Drawing}
 use Rattle.draw.specs.declared.Drawing.TheVariants.{Graph}
 use Rattle.draw.specs.DrawCall.{draw_call}
 use Rattle.draw.specs.Drawings.{Draws}
-use Rattle.graph.specs.declared.Judged.{Judged}
-use Rattle.graph.specs.declared.Judged.TheVariants.{Holds, BreaksAt, BreaksFrom, Refused}
-use Rattle.graph.specs.Answers.{result_of}
+use Rattle.graph.specs.declared.Judged.TheVariants.{Holds, BreaksAt, BreaksFrom}
+use Rattle.graph.specs.Answers.{result_of, Answer}
 
 -- the judge says that every line is met, line 0, and that an event or a pair breaks the claim
-abbrev pub MeetsAndBreaks : Judged → Type 0
-MeetsAndBreaks (Holds l) = ⊥
-MeetsAndBreaks (BreaksAt l x) = l ≡ 0
-MeetsAndBreaks (BreaksFrom l x y) = l ≡ 0
-MeetsAndBreaks (Refused why p) = ⊥
+abbrev pub MeetsAndBreaks : Answer → Type 0
+MeetsAndBreaks (Ok (Holds l)) = ⊥
+MeetsAndBreaks (Ok (BreaksAt l x)) = l ≡ 0
+MeetsAndBreaks (Ok (BreaksFrom l x y)) = l ≡ 0
+MeetsAndBreaks (Err e) = ⊥
 
 -- what is drawn is judged so, and for a claim that was proved nothing is
 pub record Circle : Type 0 where
   pub drawn : (text sheet before after : List ℕ) (d : Drawing) → Draws (draw_call text sheet before) d after → (n : ℕ) → d ≡ Graph n
-      → (r : Judged) → result_of r ≡ judge_call text (take n after) → MeetsAndBreaks r
+      → (r : Answer) → result_of r ≡ judge_call text (take n after) → MeetsAndBreaks r
   pub proved : (text sheet : List ℕ) (c : Checked) → Says (check_call text sheet) c → c ≡ Proved
-      → (graph : List ℕ) (r : Judged) → result_of r ≡ judge_call text graph → MeetsAndBreaks r → ⊥
+      → (graph : List ℕ) (r : Answer) → result_of r ≡ judge_call text graph → MeetsAndBreaks r → ⊥

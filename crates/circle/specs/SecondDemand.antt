@@ -9,11 +9,9 @@ use Rattle.claims.specs.Refusals.{Refusal, ok, refused}
 use Rattle.claims.specs.Reading.{read}
 use Rattle.claims.specs.Judgement.{Judgement}
 use Rattle.claims.specs.Calls.{Lent, judge_call}
-use Rattle.search_outcomes.specs.declared.Outcome.{Outcome}
-use Rattle.search_outcomes.specs.Outcomes.{Says, SearchGives}
+use Rattle.search_outcomes.specs.Outcomes.{Outcome, Says, SearchGives}
 use Rattle.search_outcomes.specs.ByWords.{SearchedByWords}
-use Rattle.graph.specs.declared.Judged.{Judged}
-use Rattle.graph.specs.Answers.{result_of}
+use Rattle.graph.specs.Answers.{result_of, Answer}
 use Rattle.graph.specs.Meanings.{IsMeaning}
 
 -- the second demand: the search of a query with a claim has the outcome that the words fix; what the reader refuses is refused so, and nothing
@@ -23,5 +21,5 @@ pub record SecondDemand : Type 0 where
       → SearchedByWords text allowance before after r
   pub unread : (text : List ℕ) (allowance : ℕ) (before after : Lent) (r : Outcome) → SearchGives text allowance before r after
       → (why : Refusal) → read text ≡ refused why → Says (refused why) r × (after ≡ before)
-  pub judged : (text graph : List ℕ) (r : Judged) → result_of r ≡ judge_call text graph
+  pub judged : (text graph : List ℕ) (r : Answer) → result_of r ≡ judge_call text graph
       → (j : Judgement) → (result_of r ≡ ok j) ↔ IsMeaning text graph j

@@ -2,7 +2,8 @@
 // judged. (vectors/README.md, "The circle") Whatever is otherwise than it should be is written as a line.
 use draw::Drawing;
 use graph::Judged;
-use search_outcomes::Outcome;
+use refusals::Refusal;
+use search_outcomes::Verdict;
 use sheet_checked::Checked;
 use streams::STDOUT;
 
@@ -45,12 +46,10 @@ fn count_if(counts: &mut [u64], i: usize, test: bool) {
 }
 
 // Whether the claim breaks.
-fn breaks(j: Judged) -> bool {
+fn breaks(j: Result<Judged, Refusal>) -> bool {
     match j {
-        Judged::Holds(_line) => false,
-        Judged::BreaksAt(_line, _event) => true,
-        Judged::BreaksFrom(_line, _from, _to) => true,
-        Judged::Refused(_why, _place) => false,
+        Ok(Judged::Holds(_)) | Err(_) => false,
+        Ok(Judged::BreaksAt(_, _) | Judged::BreaksFrom(_, _, _)) => true,
     }
 }
 
@@ -67,7 +66,7 @@ fn disagrees(place: u64) {
 }
 
 // Counts the judgement of a drawn graph.
-fn drawn_judged(j: Judged, place: u64, counts: &mut [u64]) {
+fn drawn_judged(j: Result<Judged, Refusal>, place: u64, counts: &mut [u64]) {
     let met = broken_lines::broken_line(j) == 0;
     let broken = breaks(j);
     count(counts, DRAWN);
@@ -107,7 +106,13 @@ fn refuted(query: &[u8], sheet: &[u8], place: u64, graph: &mut [u8], counts: &mu
 }
 
 // Counts the judgement of a graph that was made for a proved query.
-fn made_judged(j: Judged, edged: bool, place: u64, number: u64, counts: &mut [u64]) {
+fn made_judged(
+    j: Result<Judged, Refusal>,
+    edged: bool,
+    place: u64,
+    number: u64,
+    counts: &mut [u64],
+) {
     let met = broken_lines::broken_line(j) == 0;
     let broken = breaks(j);
     count(counts, GRAPHS);
@@ -128,8 +133,7 @@ fn proved(query: &[u8], place: u64, from: u64, graph: &mut [u8], counts: &mut [u
     let tests = crate::graphs::declared(query, b"test");
     let relations = crate::graphs::declared(query, b"rel");
     let mut state = from;
-    let mut number: u64 = 1;
-    while number <= 24 {
+    for number in 1..25 {
         let m = crate::graphs::next_graph(query, tests, relations, state, graph);
         state = m.state;
         let n = m.bytes;
@@ -140,14 +144,13 @@ fn proved(query: &[u8], place: u64, from: u64, graph: &mut [u8], counts: &mut [u
             number,
             counts,
         );
-        number += 1;
     }
     state
 }
 
 // One case: the query is searched, and its verdict tried. The number that goes on.
 pub fn tried(
-    r: Outcome,
+    r: Result<Verdict, Refusal>,
     query: &[u8],
     sheet: &[u8],
     place: u64,
@@ -156,11 +159,11 @@ pub fn tried(
     counts: &mut [u64],
 ) -> u64 {
     match r {
-        Outcome::Proved(_, _) => proved(query, place, state, graph, counts),
-        Outcome::Refuted(_, _) => {
+        Ok(Verdict::Proved(_, _)) => proved(query, place, state, graph, counts),
+        Ok(Verdict::Refuted(_, _)) => {
             refuted(query, sheet, place, graph, counts);
             state
         }
-        Outcome::Refused(_, _) => state,
+        Err(_) => state,
     }
 }

@@ -3,29 +3,25 @@
 
 // How many names the lines that begin with this word declare.
 pub fn declared(text: &[u8], word: &[u8]) -> usize {
-    let mut n = 0;
-    while n < 64 {
-        if texts::name(text, word, n).len() == 0 {
+    for n in 0..64 {
+        if texts::name(text, word, n).is_empty() {
             return n;
         }
-        n += 1;
     }
-    n
+    64
 }
 
 // Whether a line says that the relation of this number is closed.
 fn is_closed(text: &[u8], relation: usize) -> bool {
     let name = texts::name(text, b"rel", relation);
-    let mut n = 0;
-    while n < 4096 {
+    for n in 0..4096 {
         let said = texts::name(text, b"closed", n);
-        if said.len() == 0 {
+        if said.is_empty() {
             return false;
         }
         if texts::same(said, name) {
             return true;
         }
-        n += 1;
     }
     false
 }
@@ -110,11 +106,9 @@ fn add_events(
 ) -> Grown {
     let mut count = 0;
     let mut state = from;
-    let mut i = 0;
-    while i < tries {
+    for _ in 0..tries {
         state = small_graphs::next(state);
         count = add_event(text, tests, state, careful, atoms, count, graph);
-        i += 1;
     }
     Grown { count, state }
 }
@@ -157,8 +151,7 @@ fn add_steps(
     graph: &mut [u8],
 ) -> u64 {
     let mut state = from;
-    let mut i = 0;
-    while i < steps {
+    for _ in 0..steps {
         let a = small_graphs::next(state);
         let b = small_graphs::next(a);
         let c = small_graphs::next(b);
@@ -179,7 +172,6 @@ fn add_steps(
             graph,
         );
         state = c;
-        i += 1;
     }
     state
 }
@@ -196,10 +188,8 @@ fn close_one(text: &[u8], relation: usize, edges: &mut [u64]) {
 
 // So are all relations.
 fn close_all(text: &[u8], relations: usize, edges: &mut [u64]) {
-    let mut i = 0;
-    while i < relations {
-        close_one(text, i, edges);
-        i += 1;
+    for relation in 0..relations {
+        close_one(text, relation, edges);
     }
 }
 
@@ -233,14 +223,7 @@ fn add_edges(
 
 // Whether a relation has an edge.
 fn any_edges(edges: &[u64]) -> bool {
-    let mut i = 0;
-    while i < edges.len() {
-        if edges[i] != 0 {
-            return true;
-        }
-        i += 1;
-    }
-    false
+    edges.iter().any(|row| *row != 0)
 }
 
 // The next graph of a query, its bytes in the memory: up to 6 events and up to 8 edges are tried, and half of the graphs are made with care;

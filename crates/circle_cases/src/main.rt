@@ -4,7 +4,7 @@
 // the end how many of each there were.
 #![tactic(auto)]
 
-use case_lines::{Case, Cases};
+use case_lines::Cases;
 use counts::{BREAKING, BROKEN, DRAWN, EDGED, GRAPHS, HOLDING, MEETING, MET, PASSING, REFUTED};
 use layout::{EDGE_BYTES, EVENT_BYTES, LONGEST_SHEET, MOST_WORDS};
 use streams::STDOUT;
@@ -74,25 +74,13 @@ fn run(
 ) {
     let mut used = Cases { at: 0, filled: 0 };
     let mut state: u64 = 1;
-    let mut place: u64 = 1;
-    while place < 1048576 {
-        let c = case_lines::next(input, used, text);
-        match c {
-            Case::Line(n, behind) => {
-                state = take(
-                    texts::first(text, n),
-                    place,
-                    state,
-                    words,
-                    buffer,
-                    graph,
-                    counts,
-                );
-                used = behind;
-            }
-            Case::End => return,
-        }
-        place += 1;
+    for place in 1..1048576 {
+        let Some(case) = case_lines::next(input, used, text) else {
+            return;
+        };
+        let line = texts::first(text, case.bytes);
+        state = take(line, place, state, words, buffer, graph, counts);
+        used = case.behind;
     }
 }
 

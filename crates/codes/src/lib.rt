@@ -110,8 +110,5 @@ pub fn lets_after(n: usize, k: u64) -> usize
 pub fn claim_kind(codes: &[u64]) -> u64
     ensures { result ≡ claim_kind codes.now }
 {
-    if codes.len() == 0 {
-        return 0;
-    }
-    codes[codes.len() - 1]
+    codes.last().copied().unwrap_or(0)
 }

@@ -7,7 +7,7 @@ use Rattle.claims.specs.Refusals.{ok}
 use Rattle.claims.specs.Calls.{Lent, check_call}
 use Rattle.claims.specs.Sheets.{passed_as}
 use Rattle.claims.proofs.Sheets.{written_sheet_passes}
-use Rattle.search_outcomes.specs.declared.Outcome.{Outcome}
+use Rattle.search_outcomes.specs.Outcomes.{Outcome}
 use Rattle.outcome_lines.specs.Sheets.{OwnSheet}
 use Rattle.outcome_lines.proofs.Sheets.{answer_allowed}
 

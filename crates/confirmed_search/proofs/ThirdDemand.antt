@@ -1,13 +1,13 @@
 -- The third demand holds of the calls: from what a passing sheet is evidence of (`sheet`'s laws), and from each answer's own sheet, which
 -- passes as what the search answered.
 -- Assumes nothing.
+use Rattle.std.specs.Prelude.{Ok, Err}
 use mathlib.Core.Path.{◌≡◌, sym, subst}
 use Rattle.claims.specs.Refusals.{Result, ok}
 use Rattle.claims.specs.Calls.{Answer, proved_with, refuted_by, Passed}
 use Rattle.claims.specs.Sheets.{passed_as}
-use Rattle.search_outcomes.specs.declared.Outcome.{Outcome}
-use Rattle.search_outcomes.specs.declared.Outcome.TheVariants.{Proved, Refuted, Refused}
-use Rattle.search_outcomes.specs.Outcomes.{Says as SaysAnswer}
+use Rattle.search_outcomes.specs.declared.Verdict.TheVariants.{Proved, Refuted}
+use Rattle.search_outcomes.specs.Outcomes.{Outcome, Says as SaysAnswer}
 use Rattle.sheet_checked.specs.declared.Checked.{Checked}
 use Rattle.sheet_checked.specs.declared.Checked.TheVariants.{Proved as PassesProved, Refuted as PassesRefuted, Refused}
 use Rattle.sheet_checked.specs.Checks.{Says}
@@ -19,16 +19,16 @@ use Rattle.confirmed_search.proofs.Passing.{own_sheet_passes}
 
 -- an outcome is confirmed by what the sheet of its answer passes as
 confirms : (ans : Answer) (r : Outcome) → SaysAnswer (ok ans) r → (c : Checked) → Says (ok (passed_as ans)) c → Confirms r c
-confirms (proved_with n) (Proved m bytes) s PassesProved p = tt
-confirms (refuted_by w) (Refuted m bytes) s PassesRefuted p = tt
-confirms (refuted_by w) (Refuted m bytes) s PassesProved p = elim p [ ]
-confirms (refuted_by w) (Refuted m bytes) s (Refused _ _) p = elim p [ ]
-confirms (refuted_by w) (Refused _ _) s c p = elim s [ ]
-confirms (refuted_by w) (Proved m bytes) s c p = elim s [ ]
-confirms (proved_with n) (Refuted m bytes) s c p = elim s [ ]
-confirms (proved_with n) (Refused _ _) s c p = elim s [ ]
-confirms (proved_with n) (Proved m bytes) s PassesRefuted p = elim p [ ]
-confirms (proved_with n) (Proved m bytes) s (Refused _ _) p = elim p [ ]
+confirms (proved_with n) (Ok (Proved m bytes)) s PassesProved p = tt
+confirms (refuted_by w) (Ok (Refuted m bytes)) s PassesRefuted p = tt
+confirms (refuted_by w) (Ok (Refuted m bytes)) s PassesProved p = elim p [ ]
+confirms (refuted_by w) (Ok (Refuted m bytes)) s (Refused _ _) p = elim p [ ]
+confirms (refuted_by w) (Err _) s c p = elim s [ ]
+confirms (refuted_by w) (Ok (Proved m bytes)) s c p = elim s [ ]
+confirms (proved_with n) (Ok (Refuted m bytes)) s c p = elim s [ ]
+confirms (proved_with n) (Err _) s c p = elim s [ ]
+confirms (proved_with n) (Ok (Proved m bytes)) s PassesRefuted p = elim p [ ]
+confirms (proved_with n) (Ok (Proved m bytes)) s (Refused _ _) p = elim p [ ]
 
 -- and the check has such an answer
 answered : (ans : Answer) {x : Result Passed} → ok (passed_as ans) ≡ x → (c : Checked) × Says x c

@@ -3,11 +3,11 @@
 -- of its answer c, and `SearchGives text allowance before r after` is what `search::search` ensures of its outcome r and of what it
 -- leaves. (Document 01, "Sheet and graph bytes".)
 -- Assumes nothing.
+use Rattle.std.specs.Prelude.{Ok, Err}
 use Rattle.std.specs.Prelude.{ℕ, ◌≡◌, List, ◌++◌, length, drop}
 use Rattle.claims.specs.Calls.{Lent, check_call}
-use Rattle.search_outcomes.specs.declared.Outcome.{Outcome}
-use Rattle.search_outcomes.specs.declared.Outcome.TheVariants.{Proved as ProvedBySearch, Refuted as RefutedBySearch, Refused as RefusedBySearch}
-use Rattle.search_outcomes.specs.Outcomes.{SearchGives}
+use Rattle.search_outcomes.specs.declared.Verdict.TheVariants.{Proved as ProvedBySearch, Refuted as RefutedBySearch}
+use Rattle.search_outcomes.specs.Outcomes.{Outcome, SearchGives}
 use Rattle.sheet_checked.specs.declared.Checked.{Checked}
 use Rattle.sheet_checked.specs.declared.Checked.TheVariants.{Proved, Refuted, Refused}
 use Rattle.sheet_checked.specs.Checks.{Says}
@@ -16,13 +16,13 @@ use Rattle.outcome_lines.specs.Sheets.{sheet_of, Answers}
 
 -- the check says of the sheet what the search answered ("Sheet and graph bytes")
 abbrev pub Confirms : Outcome → Checked → Type 0
-Confirms (ProvedBySearch n bytes) Proved = Unit {0}
-Confirms (ProvedBySearch n bytes) Refuted = ⊥
-Confirms (ProvedBySearch n bytes) (Refused why p) = ⊥
-Confirms (RefutedBySearch n bytes) Proved = ⊥
-Confirms (RefutedBySearch n bytes) Refuted = Unit {0}
-Confirms (RefutedBySearch n bytes) (Refused why p) = ⊥
-Confirms (RefusedBySearch why p) c = ⊥
+Confirms (Ok (ProvedBySearch n bytes)) Proved = Unit {0}
+Confirms (Ok (ProvedBySearch n bytes)) Refuted = ⊥
+Confirms (Ok (ProvedBySearch n bytes)) (Refused why p) = ⊥
+Confirms (Ok (RefutedBySearch n bytes)) Proved = ⊥
+Confirms (Ok (RefutedBySearch n bytes)) Refuted = Unit {0}
+Confirms (Ok (RefutedBySearch n bytes)) (Refused why p) = ⊥
+Confirms (Err e) c = ⊥
 
 -- a sheet at the start of the buffer, the outcome's, past which the buffer is as it was; the check has an answer to it, and each
 -- answer that it may give confirms the outcome ("Sheet and graph bytes")

@@ -7,41 +7,49 @@ ghost use Rattle.claims.specs.Calls.{check_call};
 ghost use Rattle.search_outcomes.specs.Outcomes.{lent_of, SearchGives};
 ghost use Rattle.confirmed_search.specs.inner.Kept.{kept_proved, kept_refuted, kept as kept_by};
 
-use refusals::Reason;
-use search_outcomes::Outcome;
+use refusals::{Reason, Refusal};
+use search_outcomes::Verdict;
 use search_records::Record;
 use sheet_checked::Checked;
 
+// The refusal of a sheet that the check does not keep.
+const FAILED: Refusal = Refusal {
+    why: Reason::DoesNotPass,
+    place: 0,
+};
+
 // Proved, if the check says so.
-fn kept_proved(n: usize, bytes: usize, c: Checked) -> Outcome
+fn kept_proved(n: usize, bytes: usize, c: Checked) -> Result<Verdict, Refusal>
     ensures { result ≡ kept_proved n bytes c }
 {
     match c {
-        Checked::Proved => Outcome::Proved(n, bytes),
-        Checked::Refuted => Outcome::Refused(Reason::DoesNotPass, 0),
-        Checked::Refused(why, place) => Outcome::Refused(Reason::DoesNotPass, 0),
+        Checked::Proved => Ok(Verdict::Proved(n, bytes)),
+        Checked::Refuted => Err(FAILED),
+        Checked::Refused(why, place) => Err(FAILED),
     }
 }
 
 // Refuted, if the check says so.
-fn kept_refuted(n: usize, bytes: usize, c: Checked) -> Outcome
+fn kept_refuted(n: usize, bytes: usize, c: Checked) -> Result<Verdict, Refusal>
     ensures { result ≡ kept_refuted n bytes c }
 {
     match c {
-        Checked::Proved => Outcome::Refused(Reason::DoesNotPass, 0),
-        Checked::Refuted => Outcome::Refuted(n, bytes),
-        Checked::Refused(why, place) => Outcome::Refused(Reason::DoesNotPass, 0),
+        Checked::Proved => Err(FAILED),
+        Checked::Refuted => Ok(Verdict::Refuted(n, bytes)),
+        Checked::Refused(why, place) => Err(FAILED),
     }
 }
 
 // The outcome, if the check says the same of the sheet.
-fn kept(r: Outcome, text: &[u8], sheet: &[u8]) -> Outcome
+fn kept(r: Result<Verdict, Refusal>, text: &[u8], sheet: &[u8]) -> Result<Verdict, Refusal>
     ensures { result ≡ kept_by r (check_call text.now sheet.now) }
 {
     match r {
-        Outcome::Proved(n, bytes) => kept_proved(n, bytes, sheet::check(text, sheet)),
-        Outcome::Refuted(n, bytes) => kept_refuted(n, bytes, sheet::check(text, sheet)),
-        Outcome::Refused(why, place) => Outcome::Refused(why, place),
+        Ok(verdict) => match verdict {
+            Verdict::Proved(n, bytes) => kept_proved(n, bytes, sheet::check(text, sheet)),
+            Verdict::Refuted(n, bytes) => kept_refuted(n, bytes, sheet::check(text, sheet)),
+        },
+        Err(e) => Err(e),
     }
 }
 
@@ -53,7 +61,7 @@ pub fn search_and_check(
     records: &mut [Record],
     words: &mut [u64],
     buffer: &mut [u8],
-) -> Outcome
+) -> Result<Verdict, Refusal>
     ensures { SearchGives text.now allowance (lent_of records.old words.old buffer.old) result
         (lent_of records.new words.new buffer.new) }
 {

@@ -46,10 +46,8 @@ fn put_tests(out: &mut [u8], at: usize, text: &[u8], atom: u64) -> usize
     ensures { Puts out.old at (tests_text text.now atom) result out.new }
 {
     let mut to = least(at, out.len());
-    let mut i = 0;
-    while i < 6 {
+    for i in 0..6 {
         to = put_test(out, to, text, i, atom);
-        i += 1;
     }
     to
 }

@@ -22,9 +22,8 @@ use Rattle.codes.proofs.Orderly.{Orderly, taken_orderly}
 use Rattle.memory.specs.Memory.{zeros}
 use Rattle.read_text.specs.Reading.{left_codes}
 use Rattle.query.specs.declared.Facts.{Facts}
-use Rattle.query.specs.declared.Answer.{Answer}
-use Rattle.query.specs.declared.Answer.TheVariants.{Accepted as AcceptedFacts}
-use Rattle.query.specs.Answer.{Says, facts_of, left_after, right_after}
+use Rattle.std.specs.Prelude.{Ok}
+use Rattle.query.specs.Answer.{Answer, Says, facts_of, left_after, right_after}
 use Rattle.query.proofs.Asked.{AskedWith, asked_with}
 use Rattle.side_relations.specs.Relations.{closed_set}
 use Rattle.draw_rows.specs.Rows.{event_count, drawn_rows, table_at}
@@ -71,7 +70,7 @@ same_asked : (a b : Asked) → ◌≡◌ {A = Result Asked} (ok a) (ok b) → a 
 same_asked a b e = cc
 
 module _ (text sheet : List ℕ) (passed : check_call text sheet ≡ ok passed_refuted) (x : Answer) (said : Says (read text) x)
-    (f : Facts) (e : x ≡ AcceptedFacts f) (left right codes : List ℕ)
+    (f : Facts) (e : x ≡ Ok f) (left right codes : List ℕ)
     (is-codes : codes ≡ left_codes (read text)) (is-left : left ≡ left_after (read text)) (is_right : right ≡ right_after (read text)) where
   -- the graph that is drawn from what the reader leaves is that of the call
   pub refuted_drawn : (set : ℕ) → set ≡ closed_set 0 codes → (out ws : List ℕ) → ws ≡ take (length sheet - 7) (drop 7 sheet)

@@ -15,7 +15,6 @@ ghost use Rattle.draw.specs.declared.Drawing.TheVariants.{Graph};
 
 use codes::MOST_RELATIONS;
 use layout::WORD_AT;
-use query::Answer;
 use refusals::Reason;
 use sheet_checked::Checked;
 use side_relations::closed_set;
@@ -65,8 +64,8 @@ pub fn draw(text: &[u8], sheet: &[u8], out: &mut [u8]) -> Drawing
     let mut right = [0u64; TABLE];
     let asked = query::read(text, &mut codes, &mut left, &mut right);
     match asked {
-        Answer::Refused(why, place) => Drawing::Refused(why, place),
-        Answer::Accepted(f) => {
+        Err(e) => Drawing::Refused(e.why, e.place),
+        Ok(f) => {
             let checked = sheet_checked::check_decided(f, &left, &right, sheet);
             match checked {
                 Checked::Proved => Drawing::Proved,

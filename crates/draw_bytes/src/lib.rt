@@ -34,10 +34,8 @@ fn put_events(out: &mut [u8], at: usize, word: &[u8], n: u8) -> usize
     ensures { Puts out.old at (events_bytes word.now n) result out.new }
 {
     let mut to = least(at, out.len());
-    let mut i: u8 = 0;
-    while i < n {
+    for i in 0..n {
         to = put_event(out, to, byte(word, 2 * (i as usize)));
-        i += 1;
     }
     to
 }
@@ -69,10 +67,8 @@ fn put_rows(out: &mut [u8], at: usize, r: u8, rows: &[u64], n: u8) -> usize
     ensures { Puts out.old at (rows_bytes r n rows.now) result out.new }
 {
     let mut to = least(at, out.len());
-    let mut x: u8 = 0;
-    while x < n {
+    for x in 0..n {
         to = put_row(out, to, r, x, row(rows, x as usize));
-        x += 1;
     }
     to
 }
@@ -90,10 +86,8 @@ fn put_edges(out: &mut [u8], at: usize, n: u8, tables: &[[u64; 64]], relations: 
     ensures { Puts out.old at (edges_bytes n (table_at tables.now) relations) result out.new }
 {
     let mut to = memory::least(at, out.len());
-    let mut r: u8 = 0;
-    while r < relations {
+    for r in 0..relations {
         to = put_relation(out, to, n, tables, r);
-        r += 1;
     }
     to
 }
@@ -118,10 +112,8 @@ fn rows_length(rows: &[u64], n: u8) -> usize
     ensures { (result ≤ 97920) × ((r : ℕ) → result ≡ length (rows_bytes r n rows.now)) }
 {
     let mut sum = 0;
-    let mut x: u8 = 0;
-    while x < n {
+    for x in 0..n {
         sum += row_length(row(rows, x as usize));
-        x += 1;
     }
     sum
 }
@@ -139,10 +131,8 @@ pub fn graph_length(n: u8, tables: &[[u64; 64]], relations: u8) -> usize
     ensures { (bs : List ℕ) → result ≡ length (bytes_of bs n (table_at tables.now) relations) }
 {
     let mut sum = 4 * (n as usize);
-    let mut r: u8 = 0;
-    while r < relations {
+    for r in 0..relations {
         sum += relation_length(n, tables, r);
-        r += 1;
     }
     sum
 }

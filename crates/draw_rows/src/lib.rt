@@ -51,10 +51,8 @@ fn step_rows(word: &[u8], n: usize, r: usize, rows: &mut [u64])
     requires { length rows.old ≤ 64 }
     ensures { rows.new ≡ words (length rows.old) (step_row word.now n r) }
 {
-    let mut x = 0;
-    while x < rows.len() {
-        rows[x] = step_row(word, n, r, x);
-        x += 1;
+    for (x, row) in rows.iter_mut().enumerate() {
+        *row = step_row(word, n, r, x);
     }
 }
 
@@ -74,10 +72,8 @@ fn relation_rows(word: &[u8], n: usize, r: usize, closed: bool) -> [u64; 64]
 pub fn fill(word: &[u8], n: usize, closed: u64, tables: &mut [[u64; 64]])
     ensures { (r : ℕ) → r < length tables.old → table_at tables.new r ≡ drawn_rows word.now n closed r }
 {
-    let mut r = 0;
-    while r < tables.len() {
-        tables[r] = relation_rows(word, n, r, member(closed, r));
-        r += 1;
+    for (r, table) in tables.iter_mut().enumerate() {
+        *table = relation_rows(word, n, r, member(closed, r));
     }
 }
 

@@ -13,13 +13,6 @@ use streams::STDERR;
 // Room for the longest query and one byte more: from there on it is too long, whatever follows.
 pub const TEXT: usize = layout::LONGEST_QUERY + 1;
 
-// So many bytes of a file, at the start of the memory lent; or it could not be read, which was said on standard error.
-#[derive(Clone, Copy)]
-pub enum Input {
-    Bytes(usize),
-    Unread,
-}
-
 // Puts argument i at the start of the memory, and tells how many bytes it has, 0 for one that is longer than the memory; or there is no such
 // argument.
 pub fn argument(rt: HostRuntime, i: usize, word: &mut [u8]) -> Option<usize>
@@ -74,37 +67,38 @@ fn fail_by(name: &[u8], why: Error) {
     fail(name, words(text.as_str()).as_bytes());
 }
 
-// The bytes that the stream still has, as many as fit; the next read tells whether it failed.
-fn read_all<R: Read + AsRawFd>(from: &mut R, name: &[u8], to: &mut [u8]) -> Input {
+// The bytes that the stream still has, as many as fit, and how many; or none, where it could not be read, which is said on standard error: the next
+// read tells whether it failed.
+fn read_all<R: Read + AsRawFd>(from: &mut R, name: &[u8], to: &mut [u8]) -> Option<usize> {
     let n = io::read_full(from.as_raw_fd(), to);
     let mut next = [0u8; 1];
     if let Err(why) = from.read(&mut next) {
         fail_by(name, why);
-        return Input::Unread;
+        return None;
     }
-    Input::Bytes(n)
+    Some(n)
 }
 
-// The bytes of the file that has this name, as many as fit; `-` is standard input. A file whose name is not UTF-8 cannot be opened.
-fn read_named(rt: HostRuntime, name: &[u8], to: &mut [u8]) -> Input {
+// The same of the file that has this name; `-` is standard input. A file whose name is not UTF-8 cannot be opened.
+fn read_named(rt: HostRuntime, name: &[u8], to: &mut [u8]) -> Option<usize> {
     if texts::same(name, b"-") {
         return read_all(&mut rt.stdin(), name, to);
     }
     let Ok(path) = std::str::from_utf8(name) else {
         fail(name, b"the name is not UTF-8");
-        return Input::Unread;
+        return None;
     };
     match File::open(&rt, path) {
         Ok(mut file) => read_all(&mut file, name, to),
         Err(why) => {
             fail_by(name, why);
-            Input::Unread
+            None
         }
     }
 }
 
-// The bytes of the file that argument i names, as many as fit; 0 stands for standard input.
-pub fn read(rt: HostRuntime, i: usize, to: &mut [u8]) -> Input {
+// The same of the file that argument i names; 0 stands for standard input.
+pub fn read(rt: HostRuntime, i: usize, to: &mut [u8]) -> Option<usize> {
     if i == 0 {
         return read_all(&mut rt.stdin(), b"-", to);
     }

@@ -3,7 +3,7 @@
 // A graph that is not refused has at most 64 events of 4 bytes and 4,096 edges of 6 bytes for each of 16 relations: 393,472 bytes. So the
 // field that stands at the byte behind them is wrong, whatever it is: a 65th event, an event behind an edge, an edge repeated, or no such
 // field; one that is cut is wrong too and has the same number. Hence no more than 393,473 bytes are read.
-use crate::input::{Input, TEXT};
+use crate::input::TEXT;
 use codes::MOST_RELATIONS;
 use layout::{EDGE_BYTES, EVENT_BYTES};
 use streams::{STDERR, STDOUT};
@@ -29,10 +29,10 @@ fn judge_into(
     buffer: &mut [u8],
     out: &mut [u8],
 ) {
-    let Input::Bytes(n) = crate::input::read(rt, query, text) else {
+    let Some(n) = crate::input::read(rt, query, text) else {
         return;
     };
-    let Input::Bytes(m) = crate::input::read(rt, graph, buffer) else {
+    let Some(m) = crate::input::read(rt, graph, buffer) else {
         return;
     };
     show(texts::first(text, n), texts::first(buffer, m), out);

@@ -7,7 +7,6 @@
 #![tactic(auto)]
 
 use arguments::Call;
-use sheets::OfSheet;
 use streams::STDERR;
 
 mod input; // input.rt: the arguments and the files that they name
@@ -48,9 +47,8 @@ fn answer(rt: HostRuntime, call: Call) {
 
 fn main(rt: HostRuntime) {
     let call = input::call(rt);
-    let of_sheet = sheets::of_call(call);
-    match of_sheet {
-        OfSheet::Asks(asked, query, sheet) => sheets::with_sheet(rt, asked, query, sheet),
-        OfSheet::Nothing => answer(rt, call),
+    match sheets::of_call(call) {
+        Some(of) => sheets::with_sheet(rt, of.asked, of.query, of.sheet),
+        None => answer(rt, call),
     }
 }

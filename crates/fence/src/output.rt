@@ -5,8 +5,8 @@ ghost use Rattle.outcome_lines.specs.Shown.{longest_line};
 
 use draw::Drawing;
 use layout::{PROGRAM_ALLOWANCE, WORD_AT};
-use refusals::Reason;
-use search_outcomes::Outcome;
+use refusals::{Reason, Refusal};
+use search_outcomes::Verdict;
 use sheet_checked::Checked;
 use streams::{STDERR, STDOUT};
 
@@ -29,18 +29,18 @@ fn refuse(why: Reason, place: usize, text: &[u8], out: &mut [u8]) {
 }
 
 // Writes the line of an outcome.
-fn show(r: Outcome, text: &[u8], buffer: &[u8], out: &mut [u8]) {
+fn show(r: Result<Verdict, Refusal>, text: &[u8], buffer: &[u8], out: &mut [u8]) {
     let n = outcome_lines::outcome_line(r, buffer, out);
     write(STDOUT, out, n);
-    if let Outcome::Refused(why, place) = r {
-        explain(why, place, text, out);
+    if let Err(e) = r {
+        explain(e.why, e.place, text, out);
     }
 }
 
 // Writes the sheet of an outcome, which stands in the buffer, or the line of a refusal.
-pub fn show_sheet(r: Outcome, text: &[u8], buffer: &[u8], out: &mut [u8]) {
-    if let Outcome::Refused(why, place) = r {
-        refuse(why, place, text, out);
+pub fn show_sheet(r: Result<Verdict, Refusal>, text: &[u8], buffer: &[u8], out: &mut [u8]) {
+    if let Err(e) = r {
+        refuse(e.why, e.place, text, out);
         return;
     }
     io::write_all(STDOUT, outcome_lines::sheet_of(r, buffer));
@@ -110,7 +110,7 @@ pub fn query(text: &[u8], allowance: usize, words: &mut [u64], buffer: &mut [u8]
     let said = fence_line::line(text, out);
     write(STDOUT, out, said.bytes);
     let r = said.outcome;
-    if let Outcome::Refused(why, place) = r {
-        explain(why, place, text, out);
+    if let Err(e) = r {
+        explain(e.why, e.place, text, out);
     }
 }

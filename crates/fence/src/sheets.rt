@@ -1,6 +1,6 @@
 // The calls with a sheet: the query and the sheet are read, and the sheet is checked or its graph drawn. What is read and written no contract
 // can say.
-use crate::input::{Input, TEXT};
+use crate::input::TEXT;
 use arguments::Call;
 use layout::{EDGE_BYTES, EVENT_BYTES, LONGEST_SHEET, RING_FIELD};
 
@@ -17,11 +17,12 @@ pub enum Asked {
     Text,
 }
 
-// What a call asks of a sheet, with the arguments that name the query and the sheet; or it is a call without one.
+// A call with a sheet: what it asks of it, and the arguments that name the query and the sheet.
 #[derive(Clone, Copy)]
-pub enum OfSheet {
-    Asks(Asked, usize, usize),
-    Nothing,
+pub struct OfSheet {
+    pub asked: Asked,
+    pub query: usize,
+    pub sheet: usize,
 }
 
 // Draws the graph of a sheet.
@@ -50,10 +51,10 @@ fn sheet_into(
     graph: &mut [u8],
     out: &mut [u8],
 ) {
-    let Input::Bytes(n) = crate::input::read(rt, query, text) else {
+    let Some(n) = crate::input::read(rt, query, text) else {
         return;
     };
-    let Input::Bytes(m) = crate::input::read(rt, sheet, buffer) else {
+    let Some(m) = crate::input::read(rt, sheet, buffer) else {
         return;
     };
     answer(
@@ -93,10 +94,18 @@ fn drawn(as_text: bool) -> Asked {
 }
 
 // What a call asks of a sheet, if it is one that has a sheet. So the memory of such a call has one place in the program.
-pub fn of_call(call: Call) -> OfSheet {
+pub fn of_call(call: Call) -> Option<OfSheet> {
     match call {
-        Call::Check(query, sheet) => OfSheet::Asks(Asked::Check, query, sheet),
-        Call::Draw(as_text, query, sheet) => OfSheet::Asks(drawn(as_text), query, sheet),
-        _ => OfSheet::Nothing,
+        Call::Check(query, sheet) => Some(OfSheet {
+            asked: Asked::Check,
+            query,
+            sheet,
+        }),
+        Call::Draw(as_text, query, sheet) => Some(OfSheet {
+            asked: drawn(as_text),
+            query,
+            sheet,
+        }),
+        _ => None,
     }
 }

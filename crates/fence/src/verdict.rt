@@ -2,7 +2,7 @@
 ghost use Rattle.std.specs.Prelude.{◌≤◌, length};
 ghost use Rattle.outcome_lines.specs.Shown.{longest_line};
 
-use crate::input::{Input, TEXT};
+use crate::input::TEXT;
 use layout::{LONGEST_SHEET, MOST_WORDS, PROGRAM_ALLOWANCE};
 
 // Room for the longest line.
@@ -21,7 +21,7 @@ fn search_into(
 )
     requires { longest_line ≤ length out.old }
 {
-    let Input::Bytes(n) = crate::input::read(rt, file, text) else {
+    let Some(n) = crate::input::read(rt, file, text) else {
         return;
     };
     if as_sheet {

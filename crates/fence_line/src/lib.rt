@@ -10,7 +10,8 @@ ghost use Rattle.print_line.specs.Puts.{Puts};
 ghost use Rattle.outcome_lines.specs.Shown.{longest_line};
 
 use layout::{PROGRAM_ALLOWANCE, RING_FIELD, RING_WORDS, VERDICT};
-use search_outcomes::Outcome;
+use refusals::Refusal;
+use search_outcomes::Verdict;
 
 // The words of the working memory at the program's allowance.
 const WORDS: usize = RING_WORDS * PROGRAM_ALLOWANCE;
@@ -22,7 +23,7 @@ const BYTES: usize = VERDICT + RING_FIELD * PROGRAM_ALLOWANCE;
 #[derive(Clone, Copy)]
 pub struct Said {
     pub bytes: usize,
-    pub outcome: Outcome,
+    pub outcome: Result<Verdict, Refusal>,
 }
 
 // The line that the query program prints for the query that the text is, as far as it fits, and the outcome. Memory for the longest line has

@@ -10,11 +10,11 @@ use lib.Dec.{leb, eqb}
 use lib.ListN.{length, take, drop, get_or, length-drop, drop_of_length-le}
 use lib.Seq.{drop-cons, drop-drop}
 use borrow.Author.Tests.{le-leb, lt-leb}
+use Rattle.std.specs.Prelude.{Some, None}
 use Rattle.claims.specs.Fields.{Field as FieldRead, whole, cut, contents_of, next_field}
 use Rattle.claims.specs.SheetReading.{tagged}
 use Rattle.fields.specs.Places.{Stands}
 use Rattle.fields.specs.declared.Field.{Field}
-use Rattle.fields.specs.declared.Field.TheVariants.{Whole, Cut}
 
 -- the byte at a place, and what is behind it
 pub byte_first : (bs : List ℕ) (at next : ℕ) → at < length bs → next ≡ at + 1 → drop at bs ≡ get_or bs at 0 ∷ drop next bs
@@ -37,8 +37,8 @@ short_list (a ∷ b ∷ c ∷ bs) h = absurd (omega arith)
 
 module _ (bs : List ℕ) (at : ℕ) where
   -- fewer bytes than a header
-  pub header_cut : length bs < at + 3 → Stands bs at (next_field (drop at bs)) Cut
-  header_cut h = subst⁻¹ (λ f. Stands bs at f Cut) (short_list (drop at bs) (omega (arith, length-drop at bs))) tt
+  pub header_cut : length bs < at + 3 → Stands bs at (next_field (drop at bs)) None
+  header_cut h = subst⁻¹ (λ f. Stands bs at f None) (short_list (drop at bs) (omega (arith, length-drop at bs))) tt
 
   header_read : at + 3 ≤ length bs
       → next_field (drop at bs) ≡ contents_of (get_or bs at 0) (get_or bs (at + 1) 0 * 256 + get_or bs (at + 2) 0) (drop (at + 3) bs)
@@ -54,17 +54,20 @@ module _ (bs : List ℕ) (at : ℕ) where
     picked b = elim b [ true ↦ whole t (take n (drop (at + 3) bs)) (drop n (drop (at + 3) bs)) | false ↦ cut ]
 
     -- fewer bytes than its length says
-    pub contents_cut : length bs - (at + 3) < n → Stands bs at (next_field (drop at bs)) Cut
+    pub contents_cut : length bs - (at + 3) < n → Stands bs at (next_field (drop at bs)) None
     unfolding contents_of picked
     contents_cut l =
-        subst⁻¹ (λ f. Stands bs at f Cut)
+        subst⁻¹ (λ f. Stands bs at f None)
         (length_read ∙ ap picked (lt-leb n (length (drop (at + 3) bs)) (omega (arith, length-drop (at + 3) bs)))) tt
 
     -- a whole field
-    pub field_whole : n ≤ length bs - (at + 3) → Stands bs at (next_field (drop at bs)) (Whole t (at + 3) (at + 3 + n))
+    abbrev here : Field
+    here = record { tag = t; from = at + 3; to = at + 3 + n }
+
+    pub field_whole : n ≤ length bs - (at + 3) → Stands bs at (next_field (drop at bs)) (Some here)
     unfolding contents_of picked
     field_whole l =
-        subst⁻¹ (λ f. Stands bs at f (Whole t (at + 3) (at + 3 + n)))
+        subst⁻¹ (λ f. Stands bs at f (Some here))
         (length_read ∙ ap picked (le-leb n (length (drop (at + 3) bs)) (omega (arith, length-drop (at + 3) bs))))
         (refl, refl, omega arith, omega arith, ap (λ k. take k (drop (at + 3) bs)) size, drop-drop n (at + 3) bs)
       where

@@ -9,23 +9,23 @@ ghost use Rattle.fields.specs.Places.{cell_at, Stands};
 
 use memory::wide;
 
-// A whole field with its tag, the place of its contents and the place behind them, where the next one starts; or fewer bytes than its header,
-// or its length, says.
+// A whole field: its tag, the place of its contents, and the place behind them, where the next one starts.
 #[derive(Clone, Copy)]
-pub enum Field {
-    Whole(u64, usize, usize),
-    Cut,
+pub struct Field {
+    pub tag: u64,
+    pub from: usize,
+    pub to: usize,
 }
 
-// The field that starts at place `at`.
-pub fn next(bytes: &[u8], at: usize) -> Field
+// The field that starts at place `at`; none where there are fewer bytes than its header, or its length, says.
+pub fn next(bytes: &[u8], at: usize) -> Option<Field>
     ensures { Stands bytes.now at (next_field (drop at bytes.now)) result }
 {
     if bytes.len() < 3 {
-        return Field::Cut;
+        return None;
     }
     if bytes.len() - 3 < at {
-        return Field::Cut;
+        return None;
     }
     let tag = wide(bytes[at]);
     let high = wide(bytes[at + 1]);
@@ -33,9 +33,10 @@ pub fn next(bytes: &[u8], at: usize) -> Field
     let from = at + 3;
     let n = (high * 256 + low) as usize;
     if bytes.len() - from < n {
-        return Field::Cut;
+        return None;
     }
-    Field::Whole(tag, from, from + n)
+    let to = from + n;
+    Some(Field { tag, from, to })
 }
 
 // Whether the byte at place `at` is the tag t.

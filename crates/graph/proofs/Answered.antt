@@ -1,6 +1,6 @@
 -- The answer of the judge: from the state behind the last line; and from the reading of the query and of the graph to the call of document 01.
 -- Assumes nothing.
-use Prim.Native.Nat.{ℕ, ◌+◌, ◌-◌, ◌/◌, ◌%◌, ◌≤◌, ◌<◌, min}
+use Prim.Native.Nat.{ℕ, ◌-◌, ◌/◌, ◌%◌, ◌≤◌, ◌<◌, min}
 use native.Mathlib.Omega.{arith}
 use mathlib.Core.Path.{◌≡◌, refl, sym, ◌∙◌, ap, ap₂, subst}
 use mathlib.Core.Logic.{⊎_elim}
@@ -21,7 +21,7 @@ use Rattle.claims.specs.RefusalOrder.{Accepted}
 use Rattle.claims.specs.Calls.{asked, judge_call}
 use Rattle.claims.specs.CallOrder.{asked_as}
 use Rattle.claims.specs.GraphBytes.{Listed, Ranges, graph_in, finite}
-use Rattle.claims.specs.Judgement.{Outcome, holds_in, breaks_at, breaks_from, Judgement, judgement, claimed}
+use Rattle.claims.specs.Judgement.{Outcome, holds_in, breaks_at, breaks_from, Judgement, judgement}
 use Rattle.claims.proofs.Limits.{WithinLimits, read_within, decision_within_limits}
 use Rattle.claims.proofs.Precedence.{read_accepts}
 use Rattle.claims.proofs.SearchOrder.{asked_accepted}
@@ -32,16 +32,15 @@ use Rattle.codes.proofs.Claimed.{Claimed, taken_claimed}
 use Rattle.memory.specs.Memory.{zeros}
 use Rattle.refusals.specs.Causes.{cause_of}
 use Rattle.refusals.specs.declared.Reason.{Reason}
+use Rattle.refusals.specs.declared.Refusal.{Refusal}
 use Rattle.read_text.specs.Reading.{left_codes}
 use Rattle.query.specs.declared.Facts.{Facts}
-use Rattle.query.specs.declared.Answer.{Answer}
-use Rattle.query.specs.declared.Answer.TheVariants.{Accepted as AcceptedFacts, Refused as RefusedQuery}
-use Rattle.query.specs.Answer.{facts_of, Says}
+use Rattle.std.specs.Prelude.{Ok, Err}
+use Rattle.query.specs.Answer.{Answer, facts_of, Says}
 use Rattle.side_items.specs.Items.{args_of, paired, items_of}
 use Rattle.rows.specs.Outcomes.{pair_outcome, event_outcome}
 use Rattle.tree_heights.proofs.LowLines.{low_lines}
-use Rattle.graph_read.specs.declared.GraphRead.{GraphRead}
-use Rattle.graph_read.specs.declared.GraphRead.TheVariants.{Events, Wrong}
+use Rattle.std.specs.Prelude.{Ok, Err, Result as StdResult}
 use Rattle.graph_read.specs.Reading.{listed_words, left_words, Says as SaysGraph}
 use Rattle.graph_tables.specs.declared.JudgedSoFar.{JudgedSoFar}
 use Rattle.graph_judge.specs.Machine.{performed_all, beginning}
@@ -49,9 +48,8 @@ use Rattle.graph_judge.specs.Outcome.{outcome_of}
 use Rattle.graph_judge.proofs.Graphed.{read_graphed}
 use Rattle.graph_judge.proofs.InLines.{ring_claim}
 use Rattle.graph_judge.proofs.Judged.{query_judged}
-use Rattle.graph.specs.declared.Judged.{Judged}
-use Rattle.graph.specs.declared.Judged.TheVariants.{Holds, BreaksAt, BreaksFrom, Refused}
-use Rattle.graph.specs.Answers.{result_of}
+use Rattle.graph.specs.declared.Judged.TheVariants.{Holds, BreaksAt, BreaksFrom}
+use Rattle.graph.specs.Answers.{result_of, Answer as Judging}
 use Rattle.graph.specs.Meanings.{IsMeaning}
 
 -- how many atoms and relations there are
@@ -62,17 +60,17 @@ ranges_as a r = record { atoms = a; relations = r }
 abbrev pub says : ℕ → Outcome → Result Judgement
 says l o = ok (record { line = l; outcome = o })
 
-pub says_holds : (ring : Bool) (l m : ℕ) → 4096 ≤ m → result_of (Holds l) ≡ says l (outcome_of ring m)
+pub says_holds : (ring : Bool) (l m : ℕ) → 4096 ≤ m → result_of (Ok (Holds l)) ≡ says l (outcome_of ring m)
 unfolding result_of pair_outcome event_outcome
 says_holds true l m h = ap (λ c. says l (cond c (breaks_at m) holds_in)) (sym (le-ltb m 4096 h))
 says_holds false l m h = ap (λ c. says l (cond c (breaks_from (m / 64) (m % 64)) holds_in)) (sym (le-ltb m 4096 h))
 
-pub says_at : (ring : Bool) (l m : ℕ) → m < 4096 → ring ≡ true → result_of (BreaksAt l m) ≡ says l (outcome_of ring m)
+pub says_at : (ring : Bool) (l m : ℕ) → m < 4096 → ring ≡ true → result_of (Ok (BreaksAt l m)) ≡ says l (outcome_of ring m)
 unfolding result_of event_outcome
 says_at ring l m h e =
     ap (λ c. says l (cond c (breaks_at m) holds_in)) (sym (lt-ltb m 4096 h)) ∙ ap (λ b. says l (outcome_of b m)) (sym e)
 
-pub says_from : (ring : Bool) (l m : ℕ) → m < 4096 → ring ≡ false → result_of (BreaksFrom l (m / 64) (m % 64)) ≡ says l (outcome_of ring m)
+pub says_from : (ring : Bool) (l m : ℕ) → m < 4096 → ring ≡ false → result_of (Ok (BreaksFrom l (m / 64) (m % 64))) ≡ says l (outcome_of ring m)
 unfolding result_of pair_outcome
 says_from ring l m h e =
     ap (λ c. says l (cond c (breaks_from (m / 64) (m % 64)) holds_in)) (sym (lt-ltb m 4096 h)) ∙ ap (λ b. says l (outcome_of b m)) (sym e)
@@ -104,7 +102,7 @@ same_claim : (c d : Claim) → some c ≡ some d → c ≡ d
 same_claim c d e = cc
 
 -- a query that was read, with its facts and its codes
-module _ (text : List ℕ) (f : Facts) (said : Says (read text) (AcceptedFacts f)) (codes : List ℕ) (is-codes : codes ≡ left_codes (read text)) where
+module _ (text : List ℕ) (f : Facts) (said : Says (read text) (Ok f)) (codes : List ℕ) (is-codes : codes ≡ left_codes (read text)) where
   record ReadQuery : Type 0 where
     query : Query
     claim : Claim
@@ -120,7 +118,7 @@ module _ (text : List ℕ) (f : Facts) (said : Says (read text) (AcceptedFacts f
   unfolding left_codes
   read_query = go (read text) refl said is-codes
     where
-      go : (r : Result Query) → read text ≡ r → Says r (AcceptedFacts f) → codes ≡ left_codes r → ReadQuery
+      go : (r : Result Query) → read text ≡ r → Says r (Ok f) → codes ≡ left_codes r → ReadQuery
       go (refused r) g s k = absurd s
       go (ok q) g (c, h, i) k =
           let a : Accepted text q = (read_accepts text q).0 g in
@@ -161,14 +159,14 @@ module _ (text : List ℕ) (f : Facts) (said : Says (read text) (AcceptedFacts f
       (λ G. ok (judgement (finite G) a.query a.claim)))) z.asks
       ∙ ap (λ S. afterwards (graph_in S gs) (λ G. ok (judgement (finite G) z.query z.claim))) (sym e)
 
-  module _ (gs : List ℕ) (m : ℕ) (few : m ≡ min f.relations 16) (x : GraphRead)
+  module _ (gs : List ℕ) (m : ℕ) (few : m ≡ min f.relations 16) (x : StdResult ℕ ℕ)
       (reads : SaysGraph (graph_in (record { atoms = f.atoms; relations = m }) gs) x) where
     -- a wrong field
-    pub wrong_field : (k : ℕ) → x ≡ Wrong k → result_of (Refused Reason.GraphField k) ≡ judge_call text gs
+    pub wrong_field : (k : ℕ) → x ≡ Err k → result_of (Err (record { why = Reason.GraphField; place = k })) ≡ judge_call text gs
     unfolding result_of cause_of
     wrong_field k e = go (graph_in (ranges_as f.atoms m) gs) refl (subst (SaysGraph (graph_in (ranges_as f.atoms m) gs)) e reads)
       where
-        go : (r : Result Listed) → graph_in (ranges_as f.atoms m) gs ≡ r → SaysGraph r (Wrong k) → result_of (Refused Reason.GraphField k) ≡ judge_call text gs
+        go : (r : Result Listed) → graph_in (ranges_as f.atoms m) gs ≡ r → SaysGraph r (Err k) → result_of (Err (record { why = Reason.GraphField; place = k })) ≡ judge_call text gs
         go (ok G) g s = absurd s
         go (refused r) g (a, b) =
             let z = read_query in
@@ -176,14 +174,14 @@ module _ (text : List ℕ) (f : Facts) (said : Says (read text) (AcceptedFacts f
             ∙ sym (called z gs (ranges_as f.atoms m) (ranges z m few) ∙ ap (λ r. afterwards r (λ G. ok (judgement (finite G) z.query z.claim))) g)
 
     -- a graph: its judgement
-    pub events_judged : (n : ℕ) → x ≡ Events n → (L : List ℕ) → L ≡ left_words (graph_in (record { atoms = f.atoms; relations = m }) gs) → length codes ≡ 4096
+    pub events_judged : (n : ℕ) → x ≡ Ok n → (L : List ℕ) → L ≡ left_words (graph_in (record { atoms = f.atoms; relations = m }) gs) → length codes ≡ 4096
         → (s : JudgedSoFar) → s ≡ (performed_all L (beginning n) (items_of (take (min f.codes 4096) codes))).state
-        → (r : Judged) → result_of r ≡ says s.broken (outcome_of f.ring s.found) → result_of r ≡ judge_call text gs
+        → (r : Judging) → result_of r ≡ says s.broken (outcome_of f.ring s.found) → result_of r ≡ judge_call text gs
     unfolding left_words facts_of judgement
     events_judged n e L is-words size s is_state r is-result =
         go (graph_in (ranges_as f.atoms m) gs) refl (subst (SaysGraph (graph_in (ranges_as f.atoms m) gs)) e reads) is-words
       where
-        go : (u : Result Listed) → graph_in (ranges_as f.atoms m) gs ≡ u → SaysGraph u (Events n) → L ≡ left_words u → result_of r ≡ judge_call text gs
+        go : (u : Result Listed) → graph_in (ranges_as f.atoms m) gs ≡ u → SaysGraph u (Ok n) → L ≡ left_words u → result_of r ≡ judge_call text gs
         go (refused u) g s k = absurd s
         go (ok G) g count words =
             let z = read_query in
@@ -210,17 +208,17 @@ module _ (text : List ℕ) (f : Facts) (said : Says (read text) (AcceptedFacts f
             ∙ sym (called z gs R (ranges z m few) ∙ ap (λ r. afterwards r (λ G. ok (judgement (finite G) q c))) g)
 
 -- a refusal of the reader is handed on
-pub query_refused : (text gs : List ℕ) (x : Answer) → Says (read text) x → (why : Reason) (p : ℕ) → x ≡ RefusedQuery why p
-    → result_of (Refused why p) ≡ judge_call text gs
+pub query_refused : (text gs : List ℕ) (x : Answer) → Says (read text) x → (y : Refusal) → x ≡ Err y
+    → result_of (Err y) ≡ judge_call text gs
 unfolding result_of
-query_refused text gs x said why p e = go (read text) refl (subst (Says (read text)) e said)
+query_refused text gs x said y e = go (read text) refl (subst (Says (read text)) e said)
   where
-    go : (r : Result Query) → read text ≡ r → Says r (RefusedQuery why p) → result_of (Refused why p) ≡ judge_call text gs
+    go : (r : Result Query) → read text ≡ r → Says r (Err y) → result_of (Err y) ≡ judge_call text gs
     go (ok q) g s = absurd s
     go (refused r) g (a, b) = ap₂ (λ c q. refuse c q) a b ∙ sym (judge_reads_first text gs r g)
 
 -- an answer is the meaning of the graph
-pub answer_means : (text gs : List ℕ) (r : Judged) → result_of r ≡ judge_call text gs → (j : Judgement) → result_of r ≡ ok j → IsMeaning text gs j
+pub answer_means : (text gs : List ℕ) (r : Judging) → result_of r ≡ judge_call text gs → (j : Judgement) → result_of r ≡ ok j → IsMeaning text gs j
 answer_means text gs r e j f =
     let J = judge_call_is_meaning text gs j (sym e ∙ f) in
     record {

@@ -1,2 +1,4 @@
 -- The answer of the judge.
 pub mod Answered
+-- An answer that is a judgement.
+pub mod Judging

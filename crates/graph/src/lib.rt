@@ -3,11 +3,10 @@
 // then the graph, refusal 12 at its first wrong field. It knows nothing of words, standings or sheets.
 #![tactic(auto)]
 
-ghost use Rattle.std.specs.Prelude.{min, ◌≡◌, length, take};
+ghost use Rattle.std.specs.Prelude.{min, ◌≡◌, length, take, Ok};
 ghost use Rattle.claims.specs.Refusals.{ok};
 ghost use Rattle.claims.specs.Judgement.{Judgement};
 ghost use Rattle.claims.specs.Calls.{judge_call};
-ghost use Rattle.query.specs.declared.Answer.TheVariants.{Accepted};
 ghost use Rattle.side_items.specs.Items.{items_of};
 ghost use Rattle.graph_judge.specs.Machine.{performed_all, beginning};
 ghost use Rattle.graph_judge.specs.Outcome.{outcome_of};
@@ -15,25 +14,23 @@ ghost use Rattle.graph.specs.Answers.{result_of};
 ghost use Rattle.graph.specs.Meanings.{IsMeaning};
 ghost use Rattle.graph.specs.inner.Closing.{judged_words};
 
-use graph_read::{GRAPH, Graph, GraphRead};
+use graph_read::{GRAPH, Graph};
 use graph_tables::JudgedSoFar;
 use memory::least;
-use query::{Answer, Facts};
-use refusals::Reason;
+use query::Facts;
+use refusals::{Reason, Refusal};
 
-// The first broken line, or 0, and of the claim: it holds, this event breaks it, or the pair from this event to that one does. Or the reason and
-// the place of a refusal.
-#[derive(Clone, Copy)]
+// The first broken line, or 0, and of the claim: it holds, this event breaks it, or the pair from this event to that one does.
+#[derive(Clone, Copy, PartialEq, Eq)]
 pub enum Judged {
     Holds(usize),
     BreaksAt(usize, usize),
     BreaksFrom(usize, usize, usize),
-    Refused(Reason, usize),
 }
 
 // The answer from the first broken line and what was found of the claim, one of rings or not.
 fn answer(ring: bool, line: usize, found: usize) -> Judged
-    ensures { result_of result ≡ ok (record { line = line; outcome = outcome_of ring found }) }
+    ensures { result_of (Ok result) ≡ ok (record { line = line; outcome = outcome_of ring found }) }
 {
     if rows::NOWHERE <= found {
         return Judged::Holds(line);
@@ -68,25 +65,23 @@ fn judge_codes(listed: &Graph, n: usize, codes: &[u64; 4096], k: usize) -> Judge
 }
 
 // Judges the graph for the query that the text is. An answer is the relational meaning of the graph that the bytes are.
-pub fn judge(text: &[u8], graph: &[u8]) -> Judged
+pub fn judge(text: &[u8], graph: &[u8]) -> Result<Judged, Refusal>
     ensures judges { result_of result ≡ judge_call text.now graph.now }
     ensures means { (j : Judgement) → result_of result ≡ ok j → IsMeaning text.now graph.now j }
 {
     let mut codes = [0u64; 4096];
     let mut listed = [0u64; GRAPH];
-    let asked = query::read_codes(text, &mut codes);
-    match asked {
-        Answer::Refused(why, place) => Judged::Refused(why, place),
-        Answer::Accepted(f) => {
-            let r = graph_read::read(graph, f.atoms, f.relations, &mut listed);
-            match r {
-                GraphRead::Wrong(field) => Judged::Refused(Reason::GraphField, field),
-                GraphRead::Events(n) => {
-                    close_relations(&mut listed, n);
-                    let s = judge_codes(&listed, n, &codes, f.codes);
-                    answer(f.ring, s.broken, s.found)
-                }
-            }
+    let f = query::read_codes(text, &mut codes)?;
+    let r = graph_read::read(graph, f.atoms, f.relations, &mut listed);
+    match r {
+        Err(place) => Err(Refusal {
+            why: Reason::GraphField,
+            place,
+        }),
+        Ok(n) => {
+            close_relations(&mut listed, n);
+            let s = judge_codes(&listed, n, &codes, f.codes);
+            Ok(answer(f.ring, s.broken, s.found))
         }
     }
 }

@@ -18,12 +18,7 @@ use rows::NOWHERE;
 fn first_broken(b: bool, broken: usize, line: usize) -> usize
     ensures { result ≡ cond (b && eqb broken 0) line broken }
 {
-    if b {
-        if broken == 0 {
-            return line;
-        }
-    }
-    broken
+    if b && broken == 0 { line } else { broken }
 }
 
 // A line ends that is broken or not.
@@ -32,12 +27,10 @@ fn broken_if(s: JudgedSoFar, b: bool) -> JudgedSoFar
     ensures { result ≡ broken_if b s }
 {
     JudgedSoFar {
-        events: s.events,
         waiting: 0,
-        lets: s.lets,
         line: s.line + 1,
         broken: first_broken(b, s.broken, s.line),
-        found: s.found,
+        ..s
     }
 }
 
@@ -47,12 +40,10 @@ fn found_now(s: JudgedSoFar, m: usize) -> JudgedSoFar
     ensures { result ≡ found_now m s }
 {
     JudgedSoFar {
-        events: s.events,
         waiting: 0,
-        lets: s.lets,
         line: s.line + 1,
-        broken: s.broken,
         found: m,
+        ..s
     }
 }
 
@@ -66,12 +57,10 @@ fn keep(mem: &mut [[u64; 64]], s: JudgedSoFar) -> JudgedSoFar
         let t = load(mem, TOP + s.waiting);
         put(mem, n, t);
         return JudgedSoFar {
-            events: s.events,
             waiting: 0,
             lets: n + 1,
             line: s.line + 1,
-            broken: s.broken,
-            found: s.found,
+            ..s
         };
     }
     broken_if(s, false)
@@ -196,10 +185,8 @@ fn run(
 {
     let mut t = s;
     let n = memory::least(codes.len(), args.len());
-    let mut i = 0;
-    while i < n {
+    for i in 0..n {
         t = perform(listed, mem, t, codes[i], args[i]);
-        i += 1;
     }
     t
 }

@@ -13,10 +13,8 @@ use Rattle.claims.specs.Refusals.{graph_field, Result, ok, refused, refuse}
 use Rattle.claims.specs.GraphBytes.{Listed, Ranges, with_field, fields_in, graph_in}
 use Rattle.memory.specs.Memory.{zeros}
 use Rattle.graph_read.specs.Reading.{left_words, Says}
-use Rattle.graph_read.specs.declared.GraphRead.{GraphRead}
-use Rattle.graph_read.specs.declared.GraphRead.TheVariants.{Events, Wrong}
+use Rattle.std.specs.Prelude.{Some, None, Option as StdOption, Ok, Err, Result as StdResult}
 use Rattle.graph_read.specs.declared.Turn.{Turn}
-use Rattle.graph_read.specs.declared.Turn.TheVariants.{On, Not}
 use Rattle.graph_read.specs.inner.Steps.{Held, Turns, Leaves}
 use Rattle.graph_read.proofs.ListedWords.{nothing, nothing_listed}
 
@@ -62,12 +60,12 @@ fields_more R f k G (b ∷ bs) h = refl
 
 module _ {R : Ranges} {bs : List ℕ} {at n : ℕ} {edged : Bool} {k : ℕ} {ws : List ℕ} (so : SoFar R bs at n edged k ws) where
   -- the end
-  pub so_far_end : length bs ≤ at → Says (graph_in R bs) (Events n) × Leaves (Events n) ws (left_words (graph_in R bs))
+  pub so_far_end : length bs ≤ at → Says (graph_in R bs) (Ok n) × Leaves (Ok n) ws (left_words (graph_in R bs))
   unfolding left_words
   so_far_end h =
       let e : graph_in R bs ≡ ok so.graph =
       sym so.left ∙ ap (fields_in R so.fuel k so.graph) (drop_of_length-le bs h) ∙ fields_end R so.fuel k so.graph in (
-        subst (λ r. Says r (Events n)) (sym e) so.held.events,
+        subst (λ r. Says r (Ok n)) (sym e) so.held.events,
         so.held.listed ∙ sym (ap left_words e),
       )
 
@@ -88,21 +86,21 @@ module _ {R : Ranges} {bs : List ℕ} {at n : ℕ} {edged : Bool} {k : ℕ} {ws 
     with = with_field R so.graph (next_field (drop at bs))
 
     -- a wrong field
-    pub so_far_wrong : (us : List ℕ) {t : Turn} → t ≡ Not → Turns bs at with us t → Says (graph_in R bs) (Wrong k)
+    pub so_far_wrong : (us : List ℕ) {t : StdOption Turn} → t ≡ None → Turns bs at with us t → Says (graph_in R bs) (Err k)
     so_far_wrong us e s =
         go with refl (subst (Turns bs at with us) e s)
       where
-        go : (o : Option Listed) → with ≡ o → Turns bs at o us Not → Says (graph_in R bs) (Wrong k)
+        go : (o : Option Listed) → with ≡ o → Turns bs at o us None → Says (graph_in R bs) (Err k)
         go none f s =
-            subst (λ r. Says r (Wrong k)) (sym (step less one ∙ ap (onward R less k (after_field (next_field (drop at bs)))) f)) (refl, refl)
+            subst (λ r. Says r (Err k)) (sym (step less one ∙ ap (onward R less k (after_field (next_field (drop at bs)))) f)) (refl, refl)
         go (some H) f s = absurd s
 
     -- a good field
-    pub so_far_on : (us : List ℕ) {t : Turn} {next m : ℕ} {b : Bool} → t ≡ On next m b → Turns bs at with us t
-        → SoFar R bs next m b (k + 1) us × (at < next)
-    so_far_on us {t} {next} {m} {b} e s = go with refl (subst (Turns bs at with us) e s)
+    pub so_far_on : (us : List ℕ) {t : StdOption Turn} {u : Turn} → t ≡ Some u → Turns bs at with us t
+        → SoFar R bs u.next u.events u.edged (k + 1) us × (at < u.next)
+    so_far_on us {t} {u} e s = go with refl (subst (Turns bs at with us) e s)
       where
-        go : (o : Option Listed) → with ≡ o → Turns bs at o us (On next m b) → SoFar R bs next m b (k + 1) us × (at < next)
+        go : (o : Option Listed) → with ≡ o → Turns bs at o us (Some u) → SoFar R bs u.next u.events u.edged (k + 1) us × (at < u.next)
         go none f s = absurd s
         go (some H) f (p, q, rest, held) =
             let z : suc k ≡ k + 1 = omega arith in (
@@ -120,18 +118,18 @@ module _ {R : Ranges} {bs : List ℕ} {at n : ℕ} {edged : Bool} {k : ℕ} {ws 
             )
 
 -- what is answered and left in memory, after a whole reading and after a wrong field
-pub read_whole : (r : Result Listed) (ws : List ℕ) {a : GraphRead} {n : ℕ} → a ≡ Events n → Says r a → Leaves a ws (left_words r)
-    → Says r (Events n) × (ws ≡ left_words r)
+pub read_whole : (r : Result Listed) (ws : List ℕ) {a : StdResult ℕ ℕ} {n : ℕ} → a ≡ Ok n → Says r a → Leaves a ws (left_words r)
+    → Says r (Ok n) × (ws ≡ left_words r)
 read_whole r ws e s l = (subst (Says r) e s, subst (λ a. Leaves a ws (left_words r)) e l)
 
-pub read_wrong : (r : Result Listed) (ws : List ℕ) {a : GraphRead} {k : ℕ} → a ≡ Wrong k → Says r a → ws ≡ zeros 1088
-    → Says r (Wrong k) × (ws ≡ left_words r)
+pub read_wrong : (r : Result Listed) (ws : List ℕ) {a : StdResult ℕ ℕ} {k : ℕ} → a ≡ Err k → Says r a → ws ≡ zeros 1088
+    → Says r (Err k) × (ws ≡ left_words r)
 unfolding left_words
 read_wrong (ok G) ws {a} {k} e s z = absurd (subst (Says (ok G)) e s)
 read_wrong (refused x) ws {a} {k} e s z = (subst (Says (refused x)) e s, z)
 
 -- the number of relations by another name
-pub as_many : (bs : List ℕ) (a m k : ℕ) (x : GraphRead) (ws : List ℕ) → m ≡ k
+pub as_many : (bs : List ℕ) (a m k : ℕ) (x : StdResult ℕ ℕ) (ws : List ℕ) → m ≡ k
     → Says (graph_in (record { atoms = a; relations = m }) bs) x × (ws ≡ left_words (graph_in (record { atoms = a; relations = m }) bs))
     → Says (graph_in (record { atoms = a; relations = k }) bs) x × (ws ≡ left_words (graph_in (record { atoms = a; relations = k }) bs))
 as_many bs a m k x ws e h =

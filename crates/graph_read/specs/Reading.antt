@@ -1,15 +1,13 @@
 -- What the reading of a graph answers, and what it leaves in lent memory, for every list of bytes. (Document 01, "Sheet and graph bytes" and
 -- refusal 12.) `Layout.antt` has where what stands in the memory.
 -- Assumes nothing.
-use Rattle.std.specs.Prelude.{ℕ, ◌-◌, ◌/◌, ◌%◌, ◌≡◌, cond, List, ltb, length, get_or}
+use Rattle.std.specs.Prelude.{ℕ, ◌-◌, ◌/◌, ◌%◌, ◌≡◌, cond, List, ltb, length, get_or, Ok, Err, Result as StdResult}
 use Rattle.kat.specs.Lists.{upto, filter}
 use Rattle.claims.specs.Fields.{set_number}
 use Rattle.claims.specs.Refusals.{graph_field, Result, ok, refused}
 use Rattle.claims.specs.GraphBytes.{Listed, finite}
 use Rattle.memory.specs.Memory.{words, zeros}
 use Rattle.graph_read.specs.Layout.{MOST-EVENTS, ATOMS-AT, GRAPH}
-use Rattle.graph_read.specs.declared.GraphRead.{GraphRead}
-use Rattle.graph_read.specs.declared.GraphRead.TheVariants.{Events, Wrong}
 
 -- the events to which relation r leads from event x, as a set ("Sheet and graph bytes")
 unfoldable pub edges_from : Listed → ℕ → ℕ → ℕ
@@ -25,8 +23,8 @@ left_words (ok G) = listed_words G
 left_words (refused r) = zeros GRAPH
 
 -- the answer says what was read: the number of events, or the first wrong field (refusal 12)
-abbrev pub Says : Result Listed → GraphRead → Type 0
-Says (ok G) (Events n) = n ≡ length G.atoms
-Says (ok G) (Wrong k) = ⊥
-Says (refused r) (Events n) = ⊥
-Says (refused r) (Wrong k) = (r.cause ≡ graph_field) × (r.place ≡ k)
+abbrev pub Says : Result Listed → StdResult ℕ ℕ → Type 0
+Says (ok G) (Ok n) = n ≡ length G.atoms
+Says (ok G) (Err k) = ⊥
+Says (refused r) (Ok n) = ⊥
+Says (refused r) (Err k) = (r.cause ≡ graph_field) × (r.place ≡ k)

@@ -12,7 +12,6 @@ ghost use Rattle.graph_read.specs.Reading.{Says, left_words};
 ghost use Rattle.graph_read.specs.inner.Steps.{Held, Takes, Turns, Leaves};
 
 use codes::MOST_RELATIONS;
-use fields::Field;
 use memory::wide;
 
 // The events that a graph may have.
@@ -27,18 +26,12 @@ pub const GRAPH: usize = ATOMS_AT + MOST_EVENTS;
 // A graph in memory: for each relation the row of each event, bit y of row x being the edge from x to y, and then the events' atoms.
 pub type Graph = [u64; GRAPH];
 
-// So many events; or the number of the first wrong field, counted from 1.
+// After a good field: where the next one starts, how many events there are, and whether an edge came.
 #[derive(Clone, Copy)]
-pub enum GraphRead {
-    Events(usize),
-    Wrong(usize),
-}
-
-// After a good field: where the next one starts, how many events there are, and whether an edge came. Or the field is wrong.
-#[derive(Clone, Copy)]
-enum Turn {
-    On(usize, usize, bool),
-    Not,
+struct Turn {
+    next: usize,
+    events: usize,
+    edged: bool,
 }
 
 // One event more, after n: its atom is stored. Whether the contents are an event's: one byte, an atom of the query, no edge before it, and fewer
@@ -94,7 +87,7 @@ fn add_edge(contents: &[u8], relations: usize, n: usize, listed: &mut Graph) -> 
     true
 }
 
-// The field at a place: tag 1 is an event, tag 2 an edge, and any other tag is wrong.
+// The field at a place, unless it is wrong: tag 1 is an event, tag 2 an edge, and any other tag is wrong.
 fn add_field(
     bytes: &[u8],
     at: usize,
@@ -103,33 +96,46 @@ fn add_field(
     n: usize,
     edged: bool,
     listed: &mut Graph,
-) -> Turn
+) -> Option<Turn>
     requires { (relations ≤ MOST-RELATIONS) × (n ≤ MOST-EVENTS) }
     ensures { (G : Listed) → Held G n edged listed.old
         → Turns bytes.now at
         (with_field (record { atoms = atoms; relations = relations }) G (next_field (drop at bytes.now))) listed.new result }
 {
-    let Field::Whole(tag, from, to) = fields::next(bytes, at) else {
-        return Turn::Not;
+    let Some(field) = fields::next(bytes, at) else {
+        return None;
     };
-    let contents = &bytes[from..to];
-    if tag == 1 {
+    let contents = &bytes[field.from..field.to];
+    if field.tag == 1 {
         if add_event(contents, atoms, n, edged, listed) {
-            return Turn::On(to, n + 1, edged);
+            return Some(Turn {
+                next: field.to,
+                events: n + 1,
+                edged,
+            });
         }
-        return Turn::Not;
+        return None;
     }
-    if tag == 2 {
+    if field.tag == 2 {
         if add_edge(contents, relations, n, listed) {
-            return Turn::On(to, n, true);
+            return Some(Turn {
+                next: field.to,
+                events: n,
+                edged: true,
+            });
         }
-        return Turn::Not;
+        return None;
     }
-    Turn::Not
+    None
 }
 
-// All fields, one after another, into memory that is clear.
-fn add_fields(bytes: &[u8], atoms: usize, relations: usize, listed: &mut Graph) -> GraphRead
+// All fields, one after another, into memory that is clear: how many events there are, or the number of the first wrong field, counted from 1.
+fn add_fields(
+    bytes: &[u8],
+    atoms: usize,
+    relations: usize,
+    listed: &mut Graph,
+) -> Result<usize, usize>
     requires { (relations ≤ MOST-RELATIONS) × (listed.old ≡ zeros GRAPH) }
     ensures says { Says (graph_in (record { atoms = atoms; relations = relations }) bytes.now) result }
     ensures leaves { Leaves result listed.new (left_words (graph_in (record { atoms = atoms; relations = relations }) bytes.now)) }
@@ -139,21 +145,25 @@ fn add_fields(bytes: &[u8], atoms: usize, relations: usize, listed: &mut Graph) 
     let mut edged = false;
     let mut k = 1;
     while at < bytes.len() {
-        let Turn::On(next, events, edge) = add_field(bytes, at, atoms, relations, n, edged, listed)
-        else {
-            return GraphRead::Wrong(k);
+        let Some(turn) = add_field(bytes, at, atoms, relations, n, edged, listed) else {
+            return Err(k);
         };
-        at = next;
-        n = events;
-        edged = edge;
+        at = turn.next;
+        n = turn.events;
+        edged = turn.edged;
         k += 1;
     }
-    GraphRead::Events(n)
+    Ok(n)
 }
 
-// Reads the graph that the bytes are, of a query with so many atoms and relations, of which MOST_RELATIONS count. After the number of events `listed` has the rows
-// and the events' atoms; after a wrong field all is zero.
-pub fn read(bytes: &[u8], atoms: usize, relations: usize, listed: &mut Graph) -> GraphRead
+// Reads the graph that the bytes are, of a query with so many atoms and relations, of which MOST_RELATIONS count: the number of its events, or
+// that of the first wrong field, counted from 1. After the first `listed` has the rows and the events' atoms; after a wrong field all is zero.
+pub fn read(
+    bytes: &[u8],
+    atoms: usize,
+    relations: usize,
+    listed: &mut Graph,
+) -> Result<usize, usize>
     ensures says { Says (graph_in (record { atoms = atoms; relations = min relations MOST-RELATIONS }) bytes.now) result }
     ensures leaves { listed.new ≡ left_words (graph_in (record { atoms = atoms; relations = min relations MOST-RELATIONS }) bytes.now) }
 {
@@ -165,10 +175,10 @@ pub fn read(bytes: &[u8], atoms: usize, relations: usize, listed: &mut Graph) ->
         listed,
     );
     match r {
-        GraphRead::Events(n) => GraphRead::Events(n),
-        GraphRead::Wrong(k) => {
+        Ok(n) => Ok(n),
+        Err(k) => {
             memory::clear(listed);
-            GraphRead::Wrong(k)
+            Err(k)
         }
     }
 }

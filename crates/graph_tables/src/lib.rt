@@ -59,10 +59,8 @@ fn copy(out: &mut [u64], listed: &[u64], base: usize)
     requires { (length out.old ≤ 64) × (base < 4096) }
     ensures { out.new ≡ words (length out.old) (λ x. get_or listed.now (base + x) 0) }
 {
-    let mut x = 0;
-    while x < out.len() {
-        out[x] = word(listed, base + x);
-        x += 1;
+    for (x, row) in out.iter_mut().enumerate() {
+        *row = word(listed, base + x);
     }
 }
 
@@ -81,14 +79,7 @@ pub fn relation(listed: &Graph, r: u64) -> [u64; 64]
 fn waiting_now(s: JudgedSoFar, w: usize) -> JudgedSoFar
     ensures { result ≡ waiting_now s w }
 {
-    JudgedSoFar {
-        events: s.events,
-        waiting: w,
-        lets: s.lets,
-        line: s.line,
-        broken: s.broken,
-        found: s.found,
-    }
+    JudgedSoFar { waiting: w, ..s }
 }
 
 // A table more, if there is room.

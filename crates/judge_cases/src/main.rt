@@ -4,7 +4,7 @@
 #![tactic(auto)]
 
 use case_checks::Asked;
-use case_lines::{Case, Cases};
+use case_lines::Cases;
 use streams::STDOUT;
 
 // Writes the line of the judgement.
@@ -42,17 +42,12 @@ fn take(text: &[u8], edits: bool, buffer: &mut [u8], out: &mut [u8]) -> bool {
 fn run(input: &mut [u8], text: &mut [u8], buffer: &mut [u8], out: &mut [u8]) {
     let mut used = Cases { at: 0, filled: 0 };
     let mut edits = false;
-    let mut left: u64 = 1048576;
-    while 0 < left {
-        let c = case_lines::next(input, used, text);
-        match c {
-            Case::Line(n, behind) => {
-                edits = take(texts::first(text, n), edits, buffer, out);
-                used = behind;
-            }
-            Case::End => return,
-        }
-        left -= 1;
+    for _ in 0..1048576 {
+        let Some(case) = case_lines::next(input, used, text) else {
+            return;
+        };
+        edits = take(texts::first(text, case.bytes), edits, buffer, out);
+        used = case.behind;
     }
 }
 

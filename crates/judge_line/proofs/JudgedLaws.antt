@@ -6,31 +6,30 @@ use native.Mathlib.Numerals.{add-one}
 use mathlib.Core.Path.{◌≡◌, refl, sym, ap, subst}
 use mathlib.Core.Bool.{Bool, true, false, cond}
 use mathlib.Core.List.{List}
-use lib.Dec.{eqb, ltb}
+use lib.Dec.{eqb}
 use lib.ListN.{length, get_or, drop, drop_of_length-le}
 use lib.Seq.{drop-cons}
 use borrow.Author.Tests.{lt-ltb, le-ltb, eq-eqb, ne_eqb}
 use Rattle.print_line.specs.Puts.{Puts}
 use Rattle.print_line.proofs.Putting.{puts_nothing}
-use Rattle.graph.specs.declared.Judged.{Judged}
 use Rattle.claims.specs.Refusals.{Result}
 use Rattle.claims.specs.Judgement.{Judgement}
-use Rattle.graph.specs.Answers.{result_of}
+use Rattle.graph.specs.Answers.{result_of, Answer}
 use Rattle.judge_line.specs.JudgementLine.{judgement_line}
 use Rattle.judge_line.specs.JudgedWords.{line_ends, line_words, broken_words, judged_words}
 
 -- the line and the words of what a judgement is
-pub as_judged : {l m : List ℕ} {j x : Judged} {to : ℕ} → j ≡ x → Puts l 0 (judgement_line (result_of x)) to m
+pub as_judged : {l m : List ℕ} {j x : Answer} {to : ℕ} → j ≡ x → Puts l 0 (judgement_line (result_of x)) to m
     → Puts l 0 (judgement_line (result_of j)) to m
-as_judged {l} {m} {j} {x} {to} e p = subst (λ (y : Judged). Puts l 0 (judgement_line (result_of y)) to m) (sym e) p
+as_judged {l} {m} {j} {x} {to} e p = subst (λ (y : Answer). Puts l 0 (judgement_line (result_of y)) to m) (sym e) p
 
 -- the line of what a judgement says
 pub as_said : {l m : List ℕ} {to : ℕ} (x y : Result Judgement) → x ≡ y → Puts l 0 (judgement_line x) to m → Puts l 0 (judgement_line y) to m
 as_said {l} {m} {to} x y e p = subst (λ (z : Result Judgement). Puts l 0 (judgement_line z) to m) e p
 
-pub as_worded : {l m : List ℕ} {j x : Judged} {to : ℕ} (query : List ℕ) → j ≡ x → Puts l 0 (judged_words x query) to m
+pub as_worded : {l m : List ℕ} {j x : Answer} {to : ℕ} (query : List ℕ) → j ≡ x → Puts l 0 (judged_words x query) to m
     → Puts l 0 (judged_words j query) to m
-as_worded {l} {m} {j} {x} {to} query e p = subst (λ (y : Judged). Puts l 0 (judged_words y query) to m) (sym e) p
+as_worded {l} {m} {j} {x} {to} query e p = subst (λ (y : Answer). Puts l 0 (judged_words y query) to m) (sym e) p
 
 -- one more byte: the end of a line, or none; and the end of the text
 module _ (w : List ℕ) (n i t : ℕ) where

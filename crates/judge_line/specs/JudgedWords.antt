@@ -1,13 +1,13 @@
 -- What a judgement means in words: the line of the query that does not hold in the graph, as it is written. (Document 01, "Sheet and graph
 -- bytes", last paragraph; the words are ours.)
 -- Assumes nothing.
-use Rattle.std.specs.Prelude.{ℕ, suc, Bool, true, false, cond, List, [], ◌∷◌, ◌++◌, eqb, ltb}
+use Rattle.std.specs.Prelude.{ℕ, suc, Bool, true, false, cond, List, [], ◌∷◌, ◌++◌, eqb, ltb, Ok, Err}
 use Rattle.claims.specs.Bytes.{text}
 use Rattle.claims.specs.Printed.{decimal}
 use Rattle.texts.specs.Lines.{line_at}
 use Rattle.refusal_texts.specs.Sentences.{words_of}
-use Rattle.graph.specs.declared.Judged.{Judged}
-use Rattle.graph.specs.declared.Judged.TheVariants.{Holds, BreaksAt, BreaksFrom, Refused}
+use Rattle.graph.specs.declared.Judged.TheVariants.{Holds, BreaksAt, BreaksFrom}
+use Rattle.graph.specs.Answers.{Answer}
 
 -- how many lines of a text are ended by byte 10: the number of a query's last line, its claim ("The query")
 unfoldable pub line_ends : List ℕ → ℕ
@@ -27,8 +27,8 @@ unfoldable pub broken_words : ℕ → Bool → List ℕ → List ℕ
 broken_words l holds query = cond (ltb 0 l) (line_words l query) (cond holds [] (line_words (line_ends query) query))
 
 -- what a judgement or a refusal means
-abbrev pub judged_words : Judged → List ℕ → List ℕ
-judged_words (Holds l) query = broken_words l true query
-judged_words (BreaksAt l e) query = broken_words l false query
-judged_words (BreaksFrom l x y) query = broken_words l false query
-judged_words (Refused why p) query = words_of why p query
+abbrev pub judged_words : Answer → List ℕ → List ℕ
+judged_words (Ok (Holds l)) query = broken_words l true query
+judged_words (Ok (BreaksAt l e)) query = broken_words l false query
+judged_words (Ok (BreaksFrom l x y)) query = broken_words l false query
+judged_words (Err e) query = words_of e.why e.place query

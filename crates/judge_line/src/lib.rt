@@ -14,6 +14,7 @@ ghost use Rattle.judge_line.specs.JudgementLine.{judgement_line};
 ghost use Rattle.judge_line.specs.JudgedWords.{line_ends, not_held, broken_words, judged_words};
 
 use graph::Judged;
+use refusals::Refusal;
 
 // `line` and its number.
 fn put_line(out: &mut [u8], line: usize) -> usize
@@ -57,14 +58,14 @@ fn pair_line(out: &mut [u8], line: usize, from: usize, to: usize) -> usize
 }
 
 // The line of a judgement or a refusal.
-pub fn line(j: Judged, out: &mut [u8]) -> usize
+pub fn line(j: Result<Judged, Refusal>, out: &mut [u8]) -> usize
     ensures { Puts out.old 0 (judgement_line (result_of j)) result out.new }
 {
     match j {
-        Judged::Holds(line) => holds_line(out, line),
-        Judged::BreaksAt(line, event) => event_line(out, line, event),
-        Judged::BreaksFrom(line, from, to) => pair_line(out, line, from, to),
-        Judged::Refused(why, place) => print_line::refusal_line(out, why, place),
+        Ok(Judged::Holds(line)) => holds_line(out, line),
+        Ok(Judged::BreaksAt(line, event)) => event_line(out, line, event),
+        Ok(Judged::BreaksFrom(line, from, to)) => pair_line(out, line, from, to),
+        Err(e) => print_line::refusal_line(out, e.why, e.place),
     }
 }
 
@@ -73,12 +74,10 @@ fn line_ends(text: &[u8]) -> usize
     ensures { result ≡ line_ends text.now }
 {
     let mut n: usize = 0;
-    let mut i = 0;
-    while i < text.len() {
-        if text[i] == 10 {
+    for b in text {
+        if *b == 10 {
             n += 1;
         }
-        i += 1;
     }
     n
 }
@@ -108,22 +107,22 @@ fn broken_words(out: &mut [u8], line: usize, holds: bool, text: &[u8]) -> usize
 }
 
 // What a judgement of a graph for the query that the text is means: which line does not hold; or what a refusal means.
-pub fn words(j: Judged, text: &[u8], out: &mut [u8]) -> usize
+pub fn words(j: Result<Judged, Refusal>, text: &[u8], out: &mut [u8]) -> usize
     ensures { Puts out.old 0 (judged_words j text.now) result out.new }
 {
     match j {
-        Judged::Holds(line) => broken_words(out, line, true, text),
-        Judged::BreaksAt(line, _event) => broken_words(out, line, false, text),
-        Judged::BreaksFrom(line, _from, _to) => broken_words(out, line, false, text),
-        Judged::Refused(why, place) => refusal_texts::refusal(out, why, place, text),
+        Ok(Judged::Holds(line)) => broken_words(out, line, true, text),
+        Ok(Judged::BreaksAt(line, _event)) => broken_words(out, line, false, text),
+        Ok(Judged::BreaksFrom(line, _from, _to)) => broken_words(out, line, false, text),
+        Err(e) => refusal_texts::refusal(out, e.why, e.place, text),
     }
 }
 
-// A line in memory: how many bytes it has, and the judgement that it shows.
+// A line in memory: how many bytes it has, and the judgement or the refusal that it shows.
 #[derive(Clone, Copy)]
 pub struct JudgedLine {
     pub bytes: usize,
-    pub judged: Judged,
+    pub judged: Result<Judged, Refusal>,
 }
 
 // The line of the judgement of a graph for the query that the text is, as far as it fits, and the judgement.

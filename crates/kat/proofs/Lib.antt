@@ -24,3 +24,5 @@ pub mod Read
 pub mod ReadFrom
 -- Tables of pairs.
 pub mod Closure
+-- What chains of iterators compute.
+pub mod Chains

@@ -8,28 +8,28 @@ ghost use Rattle.memory.specs.Memory.{zeros, copied};
 pub fn word(ws: &[u64], i: usize) -> u64
     ensures { result ≡ get_or ws.now i 0 }
 {
-    if i < ws.len() { ws[i] } else { 0 }
+    ws.get(i).copied().unwrap_or(0)
 }
 
 // A byte as a word.
 pub fn wide(b: u8) -> u64
     ensures { (result ≡ b) × (result < 256) }
 {
-    b as u64
+    u64::from(b)
 }
 
 // One less, from 1 on.
 pub fn less(n: usize) -> usize
     ensures { result ≡ n - 1 }
 {
-    if 0 < n { n - 1 } else { 0 }
+    n.saturating_sub(1)
 }
 
 // The lower of a and b.
 pub fn least(a: usize, b: usize) -> usize
     ensures { result ≡ min a b }
 {
-    if a < b { a } else { b }
+    a.min(b)
 }
 
 // One word, where the memory has that place.
@@ -45,11 +45,7 @@ pub fn store(ws: &mut [u64], k: usize, v: u64)
 pub fn clear(out: &mut [u64])
     ensures { out.new ≡ zeros (length out.old) }
 {
-    let mut i = 0;
-    while i < out.len() {
-        out[i] = 0;
-        i += 1;
-    }
+    out.fill(0);
 }
 
 // Words copied, as many as both have.
@@ -57,9 +53,7 @@ pub fn copy(from: &[u64], to: &mut [u64])
     ensures { to.new ≡ copied from.now to.old }
 {
     let end = least(from.len(), to.len());
-    let mut i = 0;
-    while i < end {
+    for i in 0..end {
         to[i] = from[i];
-        i += 1;
     }
 }

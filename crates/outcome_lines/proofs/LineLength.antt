@@ -35,8 +35,7 @@ use Rattle.claims.proofs.Sheets.{live_rises}
 use Rattle.claims.proofs.SearchOrder.{asked_accepted, search_reads_first, allowance_next, memory_next, spent_next, buffer_last, else_answered}
 use Rattle.claims.proofs.SearchMemory.{search_outcomes}
 use Rattle.print_line.proofs.Decimals.{two_digits, fewer_digits}
-use Rattle.search_outcomes.specs.declared.Outcome.{Outcome}
-use Rattle.search_outcomes.specs.Outcomes.{Says}
+use Rattle.search_outcomes.specs.Outcomes.{Outcome, Says}
 use Rattle.outcome_lines.specs.Shown.{outcome_line, longest_line}
 use Rattle.outcome_lines.proofs.WordInSheet.{word_stands}
 use Rattle.outcome_lines.proofs.OutcomeLines.{says_line}

@@ -1,5 +1,6 @@
 -- The line of an outcome is the line of what it says, and the program's line is that of its call.
 -- Assumes nothing.
+use Rattle.std.specs.Prelude.{Ok, Err}
 use Prim.Native.Nat.{ℕ, zero, suc, ◌+◌, ◌*◌, ◌≤◌}
 use native.Mathlib.Omega.{arith}
 use mathlib.Core.Path.{◌≡◌, refl, sym, ◌∙◌, ap, ap₂, subst, subst⁻¹}
@@ -15,18 +16,22 @@ use Rattle.claims.specs.Calls.{Answer, proved_with, refuted_by, Slot, Lent, sear
 use Rattle.claims.specs.Printed.{spaced, answer_line, refusal_line, line_of, program_allowance, memory_for, asks_ring, program_result, printed}
 use Rattle.print_line.specs.Puts.{Puts}
 use Rattle.search_records.specs.Records.{blank}
-use Rattle.search_outcomes.specs.declared.Outcome.{Outcome}
-use Rattle.search_outcomes.specs.declared.Outcome.TheVariants.{Proved, Refuted, Refused}
-use Rattle.search_outcomes.specs.Outcomes.{Says, slot_of, lent_of}
+use Rattle.search_outcomes.specs.declared.Verdict.{Verdict}
+use Rattle.search_outcomes.specs.declared.Verdict.TheVariants.{Proved, Refuted}
+use Rattle.search_outcomes.specs.Outcomes.{Outcome, Says, slot_of, lent_of}
 use Rattle.outcome_lines.specs.Shown.{outcome_line}
 use Rattle.outcome_lines.proofs.WordInSheet.{word_stands}
 use Rattle.outcome_lines.proofs.MoreRecords.{lend, same_result}
+
+-- an answer, by its verdict
+pub by_verdict : {r : Outcome} {v x : Verdict} → r ≡ Ok v → v ≡ x → r ≡ Ok x
+by_verdict {r} {v} {x} e f = subst (λ (y : Verdict). r ≡ Ok y) f e
 
 -- the line of what an outcome is
 pub as_outcome : {l m : List ℕ} {r x : Outcome} {to : ℕ} (sheet : List ℕ) → r ≡ x → Puts l 0 (outcome_line x sheet) to m → Puts l 0 (outcome_line r sheet) to m
 as_outcome {l} {m} {r} {x} {to} sheet e p = subst (λ (y : Outcome). Puts l 0 (outcome_line y sheet) to m) (sym e) p
 
-pub as_refuted : {l m : List ℕ} {r : Outcome} {n bytes to : ℕ} (sheet word : List ℕ) → r ≡ Refuted n bytes → word ≡ take (2 * n + 1) (drop 7 sheet)
+pub as_refuted : {l m : List ℕ} {r : Outcome} {n bytes to : ℕ} (sheet word : List ℕ) → r ≡ Ok (Refuted n bytes) → word ≡ take (2 * n + 1) (drop 7 sheet)
     → Puts l 0 (text "refuted" ++ (spaced word ++ (10 ∷ []))) to m → Puts l 0 (outcome_line r sheet) to m
 as_refuted {l} {m} {r} {n} {bytes} {to} sheet word e w p =
     as_outcome sheet e (subst (λ (x : List ℕ). Puts l 0 (text "refuted" ++ (spaced x ++ (10 ∷ []))) to m) w p)
@@ -38,20 +43,19 @@ puts_same {l} {m} {bs} {cs} {to} e p = subst (λ (ds : List ℕ). Puts l 0 ds to
 pub says_line : (x : Result Answer) (r : Outcome) (sheet : List ℕ) → Says x r
     → ((w : Word) → x ≡ ok (refuted_by w) → take (2 * size w + 1) (drop 7 sheet) ≡ numbers w) → outcome_line r sheet ≡ line_of x
 unfolding line_of answer_line refusal_line
-says_line (ok (proved_with c)) (Proved n bytes) sheet e word = ap (λ (k : ℕ). text "proved" ++ (spaced (k ∷ []) ++ (10 ∷ []))) e
-says_line (ok (refuted_by w)) (Refuted n bytes) sheet e word =
+says_line (ok (proved_with c)) (Ok (Proved n bytes)) sheet e word = ap (λ (k : ℕ). text "proved" ++ (spaced (k ∷ []) ++ (10 ∷ []))) e
+says_line (ok (refuted_by w)) (Ok (Refuted n bytes)) sheet e word =
     ap (λ (ns : List ℕ). text "refuted" ++ (spaced ns ++ (10 ∷ [])))
     (ap (λ (k : ℕ). take (2 * k + 1) (drop 7 sheet)) e ∙ word w refl)
-says_line (refused q) (Refused why p) sheet (e, f) word =
+says_line (refused q) (Err x) sheet (e, f) word =
     ap₂ (λ (c : Cause) (k : ℕ). text "refusal" ++ (spaced (number c ∷ []) ++ (text " line" ++ (spaced (k ∷ []) ++ (10 ∷ []))))) e f
     ∙ ap (λ (l : List ℕ). text "refusal" ++ l)
     (sym (append_assoc (spaced (number q.cause ∷ [])) (text " line" ++ spaced (q.place ∷ [])) (10 ∷ [])))
-says_line (refused q) (Refuted n bytes) sheet e word = elim e [ ]
-says_line (refused q) (Proved n bytes) sheet e word = elim e [ ]
-says_line (ok (refuted_by w)) (Refused why p) sheet e word = elim e [ ]
-says_line (ok (refuted_by w)) (Proved n bytes) sheet e word = elim e [ ]
-says_line (ok (proved_with c)) (Refuted n bytes) sheet e word = elim e [ ]
-says_line (ok (proved_with c)) (Refused why p) sheet e word = elim e [ ]
+says_line (refused q) (Ok _) sheet e word = elim e [ ]
+says_line (ok (refuted_by w)) (Err x) sheet e word = elim e [ ]
+says_line (ok (refuted_by w)) (Ok (Proved n bytes)) sheet e word = elim e [ ]
+says_line (ok (proved_with c)) (Ok (Refuted n bytes)) sheet e word = elim e [ ]
+says_line (ok (proved_with c)) (Err x) sheet e word = elim e [ ]
 
 -- two hundred standings, whatever the kind of the claim
 allowance_200 : (k : Bool) → program_allowance k ≡ 200

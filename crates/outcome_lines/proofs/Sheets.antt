@@ -1,6 +1,7 @@
 -- The sheet of an outcome. After an answer of the search the buffer starts with that answer's own sheet (claims' `answer_leaves_own_sheet`), and
 -- the outcome has its length, since it has that of the sheet which the search gives.
 -- Assumes nothing.
+use Rattle.std.specs.Prelude.{Ok, Err}
 use Prim.Native.Nat.{ℕ, ◌≤◌, ◌<◌, min}
 use native.Mathlib.Omega.{arith}
 use mathlib.Core.Path.{◌≡◌, refl, sym, ◌∙◌, ap, subst, subst⁻¹}
@@ -17,9 +18,8 @@ use Rattle.claims.proofs.SearchOrder.{search_reads_first, allowance_next, memory
 use Rattle.claims.proofs.SearchMemory.{search_outcomes}
 use Rattle.claims.proofs.Sheets.{no_answer}
 use Rattle.claims.proofs.SheetLength.{answer_leaves_own_sheet}
-use Rattle.search_outcomes.specs.declared.Outcome.{Outcome}
-use Rattle.search_outcomes.specs.declared.Outcome.TheVariants.{Proved, Refuted, Refused}
-use Rattle.search_outcomes.specs.Outcomes.{Says, Sized, given_by}
+use Rattle.search_outcomes.specs.declared.Verdict.TheVariants.{Proved, Refuted}
+use Rattle.search_outcomes.specs.Outcomes.{Outcome, Says, Sized, given_by}
 use Rattle.outcome_lines.specs.Sheets.{sheet_bytes, sheet_of, Answers, OwnSheet, OwnSheets}
 
 -- a part is no longer than the whole
@@ -35,12 +35,12 @@ part_within k n bytes l e f = cut (le_or_lt n (length l)) ∙ ap (λ j. take j l
 
 -- the bytes of an outcome that says an answer are those of the sheet that is given with it
 bytes_given : (ans : Answer) (r : Outcome) → Says (ok ans) r → (g : Given) → Sized r (ok g) → sheet_bytes r ≡ length g.sheet
-bytes_given (proved_with c) (Proved n bytes) s g z = z
-bytes_given (refuted_by w) (Refuted n bytes) s g z = z
-bytes_given (refuted_by w) (Refused _ _) s g z = elim s [ ]
-bytes_given (refuted_by w) (Proved n bytes) s g z = elim s [ ]
-bytes_given (proved_with c) (Refuted n bytes) s g z = elim s [ ]
-bytes_given (proved_with c) (Refused _ _) s g z = elim s [ ]
+bytes_given (proved_with c) (Ok (Proved n bytes)) s g z = z
+bytes_given (refuted_by w) (Ok (Refuted n bytes)) s g z = z
+bytes_given (refuted_by w) (Err _) s g z = elim s [ ]
+bytes_given (refuted_by w) (Ok (Proved n bytes)) s g z = elim s [ ]
+bytes_given (proved_with c) (Ok (Refuted n bytes)) s g z = elim s [ ]
+bytes_given (proved_with c) (Err _) s g z = elim s [ ]
 
 -- an answer of the search kept to the allowance of document 01
 pub answer_allowed : (bs : List ℕ) (allowance : ℕ) (m : Lent) (ans : Answer) → (search_call bs allowance m).result ≡ ok ans → allowance ≤ 4096
@@ -88,6 +88,5 @@ own_sheets text allowance before after r gives answers = go (search_call text al
     go : (x : Result Answer) → (search_call text allowance before).result ≡ x → (o : Outcome) → Says x o → Sized o (given_by text allowance)
         → Answers o → OwnSheet text allowance before after o
     go (ok ans) e o says sized a = owns ans e o says sized
-    go (refused x) e (Refused why p) says sized a = absurd a
-    go (refused x) e (Refuted _ _) says sized a = elim says [ ]
-    go (refused x) e (Proved _ _) says sized a = elim says [ ]
+    go (refused x) e (Err _) says sized a = absurd a
+    go (refused x) e (Ok _) says sized a = elim says [ ]

@@ -10,16 +10,19 @@ ghost use Rattle.outcome_lines.specs.Sheets.{sheet_bytes, sheet_of};
 
 use layout::WORD_AT;
 use memory::least;
-use search_outcomes::Outcome;
+use refusals::Refusal;
+use search_outcomes::Verdict;
 
 // The line of an answer or a refusal; a refuting word of n relations stands in the sheet, behind the verdict and its own header.
-pub fn outcome_line(r: Outcome, sheet: &[u8], out: &mut [u8]) -> usize
+pub fn outcome_line(r: Result<Verdict, Refusal>, sheet: &[u8], out: &mut [u8]) -> usize
     ensures { Puts out.old 0 (outcome_line r sheet.now) result out.new }
 {
     match r {
-        Outcome::Proved(count, _) => print_line::proved_line(out, count),
-        Outcome::Refuted(n, _) => print_line::refuted_line(out, word_in(sheet, n)),
-        Outcome::Refused(why, place) => print_line::refusal_line(out, why, place),
+        Ok(verdict) => match verdict {
+            Verdict::Proved(count, _) => print_line::proved_line(out, count),
+            Verdict::Refuted(n, _) => print_line::refuted_line(out, word_in(sheet, n)),
+        },
+        Err(e) => print_line::refusal_line(out, e.why, e.place),
     }
 }
 
@@ -41,19 +44,21 @@ fn word_in(sheet: &[u8], n: usize) -> &[u8]
 }
 
 // How many bytes the sheet of an outcome has; a refusal has none.
-fn sheet_bytes(r: Outcome) -> usize
+fn sheet_bytes(r: Result<Verdict, Refusal>) -> usize
     ensures { result ≡ sheet_bytes r }
 {
     match r {
-        Outcome::Proved(_, bytes) => bytes,
-        Outcome::Refuted(_, bytes) => bytes,
-        Outcome::Refused(_, _) => 0,
+        Ok(verdict) => match verdict {
+            Verdict::Proved(_, bytes) => bytes,
+            Verdict::Refuted(_, bytes) => bytes,
+        },
+        Err(_) => 0,
     }
 }
 
 // The sheet that an answer left at the start of the buffer. `own_sheets` shows that after an answer of the search it is the sheet that the
 // search wrote.
-pub fn sheet_of(r: Outcome, buffer: &[u8]) -> &[u8]
+pub fn sheet_of(r: Result<Verdict, Refusal>, buffer: &[u8]) -> &[u8]
     ensures { result.now ≡ sheet_of r buffer.now }
 {
     let n = least(sheet_bytes(r), buffer.len());

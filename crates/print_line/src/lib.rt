@@ -28,10 +28,8 @@ pub fn put_text(out: &mut [u8], at: usize, bytes: &[u8]) -> usize
     ensures { Puts out.old at bytes.now result out.new }
 {
     let mut to = memory::least(at, out.len());
-    let mut i = 0;
-    while i < bytes.len() {
-        to = put_byte(out, to, bytes[i]);
-        i += 1;
+    for b in bytes {
+        to = put_byte(out, to, *b);
     }
     to
 }
@@ -66,10 +64,8 @@ pub fn put_decimal(out: &mut [u8], at: usize, n: u64) -> usize
 pub fn put_spaced(out: &mut [u8], at: usize, n: u64) -> usize
     ensures { Puts out.old at (spaced (n ∷ [])) result out.new }
 {
-    let mut ds = [0u8; 20];
-    let i = digits(n, &mut ds);
     let to = put_byte(out, at, b' ');
-    put_text(out, to, &ds[i..])
+    put_decimal(out, to, n)
 }
 
 // Numbers, each after a space.
@@ -77,10 +73,8 @@ fn put_numbers(out: &mut [u8], at: usize, ns: &[u8]) -> usize
     ensures { Puts out.old at (spaced ns.now) result out.new }
 {
     let mut to = memory::least(at, out.len());
-    let mut i = 0;
-    while i < ns.len() {
-        to = put_spaced(out, to, wide(ns[i]));
-        i += 1;
+    for n in ns {
+        to = put_spaced(out, to, wide(*n));
     }
     to
 }

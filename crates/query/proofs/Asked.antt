@@ -21,9 +21,8 @@ use Rattle.claims.proofs.Precedence.{read_accepts}
 use Rattle.claims.proofs.SearchOrder.{asked_accepted}
 use Rattle.codes.specs.Codes.{query_codes}
 use Rattle.query.specs.declared.Facts.{Facts}
-use Rattle.query.specs.declared.Answer.{Answer}
-use Rattle.query.specs.declared.Answer.TheVariants.{Accepted as AcceptedFacts}
-use Rattle.query.specs.Answer.{facts_of, Says, claim_table, table_after, left_after, right_after}
+use Rattle.std.specs.Prelude.{Ok}
+use Rattle.query.specs.Answer.{Answer, facts_of, Says, claim_table, table_after, left_after, right_after}
 use Rattle.query.specs.Decided.{Decided}
 
 -- the live atoms rise below the number of atoms
@@ -42,13 +41,13 @@ pub record AskedWith (bs : List ℕ) (f : Facts) (left right : List ℕ) : Type 
 some_same : (c d : Claim) → some c ≡ some d → c ≡ d
 some_same c d e = cc
 
-module _ (bs : List ℕ) (x : Answer) (said : Says (read bs) x) (f : Facts) (e : x ≡ AcceptedFacts f) (left right : List ℕ)
+module _ (bs : List ℕ) (x : Answer) (said : Says (read bs) x) (f : Facts) (e : x ≡ Ok f) (left right : List ℕ)
     (is-left : left ≡ left_after (read bs)) (is_right : right ≡ right_after (read bs)) where
   pub asked_with : AskedWith bs f left right
   unfolding table_after claim_table facts_of
   asked_with = go (read bs) refl (subst (Says (read bs)) e said) is-left is_right
     where
-      go : (r : Result Query) → read bs ≡ r → Says r (AcceptedFacts f) → left ≡ left_after r → right ≡ right_after r → AskedWith bs f left right
+      go : (r : Result Query) → read bs ≡ r → Says r (Ok f) → left ≡ left_after r → right ≡ right_after r → AskedWith bs f left right
       go (refused r) g s l k = absurd s
       go (ok q) g (c, h, i) l k =
           let a : Accepted bs q = (read_accepts bs q).0 g in

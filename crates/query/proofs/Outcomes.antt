@@ -17,10 +17,9 @@ use Rattle.refusals.specs.Causes.{cause_of}
 use Rattle.read_text.specs.Reading.{readable, left_codes, summary_of, SaysSummary}
 use Rattle.memory.specs.Memory.{zeros}
 use Rattle.refusals.specs.declared.Reason.{Reason}
+use Rattle.refusals.specs.declared.Refusal.{Refusal}
 use Rattle.refusals.specs.declared.Reason.TheVariants.{OverLimit}
 use Rattle.read_text.specs.declared.Summary.{Summary}
-use Rattle.read_text.specs.declared.TextRead.{TextRead}
-use Rattle.read_text.specs.declared.TextRead.TheVariants.{Accepted as Accepted-codes, Refused as Refused-codes}
 use Rattle.codes.proofs.Orderly.{settled_none, settled_on}
 use Rattle.codes.proofs.Claimed.{Claimed}
 use Rattle.side_build.specs.Built.{left_table, right_table, built_from}
@@ -28,13 +27,16 @@ use Rattle.side_build.specs.declared.Built.{Built}
 use Rattle.side_build.proofs.Decided.{Decided, decided}
 use Rattle.side_relations.proofs.Removed.{below_sixty_four}
 use Rattle.query.specs.declared.Facts.{Facts}
-use Rattle.query.specs.declared.Answer.{Answer}
-use Rattle.query.specs.declared.Answer.TheVariants.{Accepted, Refused}
-use Rattle.query.specs.Answer.{facts_of, Says, claim_table, table_after, left_after, right_after}
+use Rattle.std.specs.Prelude.{Result as Returned, Ok, Err}
+use Rattle.query.specs.Answer.{Answer, facts_of, Says, claim_table, table_after, left_after, right_after}
 use Rattle.query.specs.inner.Counted.{is_ring, facts_by, in_limits}
 use Rattle.side_tables.specs.Layout.{TABLE}
 use Rattle.query.proofs.Limits.{is_false, is_true}
 use Rattle.query.proofs.Readings.{Accepts, accepts, taken_claimed, ring_told, read_within, read_over, read_refused}
+
+-- a refusal
+abbrev refusal : Reason → ℕ → Answer
+refusal why p = Err (record { why = why; place = p })
 
 -- the answer and every lent word are what the reading says
 record Right (x : Result Query) (a : Answer) (codes left right : List ℕ) : Type 0 where
@@ -44,15 +46,15 @@ record Right (x : Result Query) (a : Answer) (codes left right : List ℕ) : Typ
   pub right_table_lem : right ≡ right_after x
 
 -- a refusal of 1 to 7
-refusal_right : (bs : List ℕ) (why : Reason) (p : ℕ) (out l r : List ℕ) → SaysSummary (readable bs) (Refused-codes why p)
-    → out ≡ left_codes (readable bs) → l ≡ zeros TABLE → r ≡ zeros TABLE → Right (read bs) (Refused why p) out l r
+refusal_right : (bs : List ℕ) (f : Refusal) (out l r : List ℕ) → SaysSummary (readable bs) (Err f)
+    → out ≡ left_codes (readable bs) → l ≡ zeros TABLE → r ≡ zeros TABLE → Right (read bs) (Err f) out l r
 unfolding table_after
-refusal_right bs why p out l r s w x y = go (readable bs) refl s w
+refusal_right bs f out l r s w x y = go (readable bs) refl s w
   where
-    go : (z : Result Query) → readable bs ≡ z → SaysSummary z (Refused-codes why p) → out ≡ left_codes z → Right (read bs) (Refused why p) out l r
+    go : (z : Result Query) → readable bs ≡ z → SaysSummary z (Err f) → out ≡ left_codes z → Right (read bs) (Err f) out l r
     go (ok q) e s w = absurd s
-    go (refused f) e s w =
-        subst⁻¹ (λ v. Right v (Refused why p) out l r) (read_refused bs f e)
+    go (refused v) e s w =
+        subst⁻¹ (λ x. Right x (Err f) out l r) (read_refused bs v e)
         (record { answer = s; codes_left = w; left_table_lem = x; right_table_lem = y })
 
 -- the decision of a claim has the atoms and relations of the query
@@ -106,7 +108,7 @@ module _ (bs : List ℕ) (s : Summary) (out : List ℕ) (a : Accepts bs s out) (
   built_codes = let z : min s.codes 4096 ≡ s.codes = omega (arith, a.room) in ap (λ n. take n out) z ∙ a.codes
 
   within_right : in_limits s out ≡ true → (b : Built) (f : Facts) (l r : List ℕ) → BuiltOf (take (min s.codes 4096) out) b l r
-      → f ≡ facts_by s b → Right (read bs) (Accepted f) out l r
+      → f ≡ facts_by s b → Right (read bs) (Ok f) out l r
   unfolding table_after claim_table
   within_right t b f l r (x, y, z) e =
       let (isOk, inside) = read_within bs s out a t in
@@ -114,7 +116,7 @@ module _ (bs : List ℕ) (s : Summary) (out : List ℕ) (a : Accepts bs s out) (
       let D = decided q c h inside few in
       let same = built_codes in
       let made : b ≡ built_from (length (tests q)) (query_codes q) = x ∙ ap₂ built_from tests_told same in
-      subst⁻¹ (λ v. Right v (Accepted f) out l r) isOk
+      subst⁻¹ (λ v. Right v (Ok f) out l r) isOk
       (record {
         answer = (
           c,
@@ -128,12 +130,12 @@ module _ (bs : List ℕ) (s : Summary) (out : List ℕ) (a : Accepts bs s out) (
       })
 
   over_right : in_limits s out ≡ false → (out' l r : List ℕ) → out' ≡ zeros 4096 → l ≡ zeros TABLE → r ≡ zeros TABLE
-      → Right (read bs) (Refused OverLimit s.lines) out' l r
+      → Right (read bs) (refusal OverLimit s.lines) out' l r
   unfolding table_after left_codes cause_of
   over_right t out' l r z y v =
-      subst⁻¹ (λ x. Right x (Refused OverLimit s.lines) out' l r) (read_over bs s out a t)
+      subst⁻¹ (λ x. Right x (refusal OverLimit s.lines) out' l r) (read_over bs s out a t)
       (record {
-        answer = subst⁻¹ (Says (refuse over_limit (length q))) (ap (Refused OverLimit) last_line) (refl, refl);
+        answer = subst⁻¹ (Says (refuse over_limit (length q))) (ap (refusal OverLimit) last_line) (refl, refl);
         codes_left = z;
         left_table_lem = y;
         right_table_lem = v;
@@ -146,28 +148,27 @@ ReadOutcome x a out l r = Says x a × (out ≡ left_codes x) × (l ≡ left_afte
 outcome : (x : Result Query) (a : Answer) (out l r : List ℕ) → Right x a out l r → ReadOutcome x a out l r
 outcome x a out l r y = (y.answer, y.codes_left, y.left_table_lem, y.right_table_lem)
 
-module _ (bs : List ℕ) (res : TextRead) (out : List ℕ) (said : SaysSummary (readable bs) res) (left_codes_lem : out ≡ left_codes (readable bs)) where
+module _ (bs : List ℕ) (res : Returned Summary Refusal) (out : List ℕ) (said : SaysSummary (readable bs) res) (left_codes_lem : out ≡ left_codes (readable bs)) where
   -- a refusal of the reader
-  pub refused_way : (why : Reason) (p : ℕ) → res ≡ Refused-codes why p → (l r : List ℕ) → l ≡ zeros TABLE → r ≡ zeros TABLE
-      → ReadOutcome (read bs) (Refused why p) out l r
-  refused_way why p e l r x y =
-      outcome (read bs) (Refused why p) out l r (refusal_right bs why p out l r (subst (SaysSummary (readable bs)) e said) left_codes_lem x y)
+  pub refused_way : (f : Refusal) → res ≡ Err f → (l r : List ℕ) → l ≡ zeros TABLE → r ≡ zeros TABLE → ReadOutcome (read bs) (Err f) out l r
+  refused_way f e l r x y =
+      outcome (read bs) (Err f) out l r (refusal_right bs f out l r (subst (SaysSummary (readable bs)) e said) left_codes_lem x y)
 
-  module _ (s : Summary) (e : res ≡ Accepted-codes s) (size : length out ≡ 4096) where
+  module _ (s : Summary) (e : res ≡ Ok s) (size : length out ≡ 4096) where
     accepted : Accepts bs s out
     accepted = accepts bs s out size (subst (SaysSummary (readable bs)) e said) left_codes_lem
 
     -- over the limits
     pub over_way : (b : Bool) → b ≡ in_limits s out → not b ≡ true → (out' l r : List ℕ) → out' ≡ zeros (length out) → l ≡ zeros TABLE → r ≡ zeros TABLE
-        → ReadOutcome (read bs) (Refused OverLimit s.lines) out' l r
+        → ReadOutcome (read bs) (refusal OverLimit s.lines) out' l r
     over_way b t f out' l r x y z =
-        outcome (read bs) (Refused OverLimit s.lines) out' l r
+        outcome (read bs) (refusal OverLimit s.lines) out' l r
         (over_right bs s out accepted left_codes_lem (sym t ∙ is_false b f) out' l r (x ∙ ap zeros size) y z)
 
     -- within them
     pub within_way : (b : Bool) → b ≡ in_limits s out → not b ≡ false → (v : Built) (f : Facts) (l r : List ℕ)
         → (v ≡ built_from s.tests (take (min s.codes 4096) out)) × (l ≡ left_table (take (min s.codes 4096) out))
         × (r ≡ right_table (take (min s.codes 4096) out))
-        → f ≡ facts_by s v → ReadOutcome (read bs) (Accepted f) out l r
+        → f ≡ facts_by s v → ReadOutcome (read bs) (Ok f) out l r
     within_way b t g v f l r x y =
-        outcome (read bs) (Accepted f) out l r (within_right bs s out accepted left_codes_lem (sym t ∙ is_true b g) v f l r x y)
+        outcome (read bs) (Ok f) out l r (within_right bs s out accepted left_codes_lem (sym t ∙ is_true b g) v f l r x y)

@@ -22,7 +22,7 @@ use Rattle.codes.specs.Codes.{query_codes}
 use Rattle.read_text.specs.Reading.{claimed, in_lines, readable, left_codes, summary_of, SaysSummary}
 use Rattle.memory.specs.Memory.{zeros}
 use Rattle.read_text.specs.declared.Summary.{Summary}
-use Rattle.read_text.specs.declared.TextRead.TheVariants.{Accepted}
+use Rattle.std.specs.Prelude.{Ok}
 use Rattle.read_text.proofs.Answers.{readable_then_limits}
 use Rattle.side_limits.specs.Sizes.{within_test}
 use Rattle.side_limits.proofs.Counted.{within_is_within}
@@ -82,14 +82,14 @@ pub record Accepts (bs : List ℕ) (s : Summary) (out : List ℕ) : Type 0 where
   pub known : s ≡ summary_of query
   pub room : s.codes ≤ 4096
 
-pub accepts : (bs : List ℕ) (s : Summary) (out : List ℕ) → length out ≡ 4096 → SaysSummary (readable bs) (Accepted s) → out ≡ left_codes (readable bs) → Accepts bs s out
+pub accepts : (bs : List ℕ) (s : Summary) (out : List ℕ) → length out ≡ 4096 → SaysSummary (readable bs) (Ok s) → out ≡ left_codes (readable bs) → Accepts bs s out
 unfolding left_codes summary_of
 accepts bs s out l said w = go (readable bs) refl said w
   where
     count : (q : Query) → s ≡ summary_of q → s.codes ≡ length (query_codes q)
     count q e = ap (λ (x : Summary). x.codes) e
 
-    go : (r : Result Query) → readable bs ≡ r → SaysSummary r (Accepted s) → out ≡ left_codes r → Accepts bs s out
+    go : (r : Result Query) → readable bs ≡ r → SaysSummary r (Ok s) → out ≡ left_codes r → Accepts bs s out
     go (ok q) e k w =
         record {
           query = q;

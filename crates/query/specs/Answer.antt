@@ -2,7 +2,7 @@
 -- "Refusals with an example each".) An accepted query leaves its decision: whether it is one of rings, the number of its atoms and
 -- relations, the atoms that are left, the table of each side and the number of its occurrences; and its codes, for a judge of graphs.
 -- Assumes nothing.
-use Rattle.std.specs.Prelude.{ℕ, ◌≡◌, List, length}
+use Rattle.std.specs.Prelude.{ℕ, ◌≡◌, List, length, Ok, Err}
 use Rattle.std.proofs.Math.Option.{Option, some, none}
 use Rattle.kat.specs.Expr.{Expr}
 use Rattle.kat.specs.Tables.{occurrences}
@@ -14,11 +14,10 @@ use Rattle.claims.specs.Reading.{claim_of}
 use Rattle.claims.specs.Refusals.{Result, ok, refused}
 use Rattle.codes.specs.Codes.{query_codes}
 use Rattle.refusals.specs.Causes.{cause_of}
+use Rattle.refusals.specs.declared.Refusal.{Refusal}
 use Rattle.memory.specs.Memory.{zeros}
 use Rattle.side_tables.specs.SideTable.{side_table}
 use Rattle.query.specs.declared.Facts.{Facts}
-use Rattle.query.specs.declared.Answer.{Answer}
-use Rattle.query.specs.declared.Answer.TheVariants.{Accepted, Refused}
 use Rattle.side_tables.specs.Layout.{TABLE}
 
 -- what is told of a query with n codes and this decision ("Words")
@@ -34,12 +33,16 @@ facts_of n d =
       relations = d.relations;
     }
 
+-- the facts of an accepted query, or why it is refused and where
+abbrev pub Answer : Type 0
+Answer = Rattle.std.specs.Prelude.Result Facts Refusal
+
 -- the answer says what was read: the facts of the query's decision, or the cause and the place ("Refusals with an example each")
 abbrev pub Says : Result Query → Answer → Type 0
-Says (ok q) (Accepted f) = (c : Claim) × (claim_of q ≡ some c) × (f ≡ facts_of (length (query_codes q)) (decision q c))
-Says (ok q) (Refused why p) = ⊥
-Says (refused r) (Accepted f) = ⊥
-Says (refused r) (Refused why p) = (cause_of why ≡ r.cause) × (p ≡ r.place)
+Says (ok q) (Ok f) = (c : Claim) × (claim_of q ≡ some c) × (f ≡ facts_of (length (query_codes q)) (decision q c))
+Says (ok q) (Err e) = ⊥
+Says (refused r) (Ok f) = ⊥
+Says (refused r) (Err e) = (cause_of e.why ≡ r.cause) × (e.place ≡ r.place)
 
 -- the table of a side of the claim, zeros where there is none
 unfoldable pub claim_table : (Decision → Expr) → Query → Option Claim → List ℕ

@@ -8,8 +8,8 @@ ghost use Rattle.read_text.specs.Reading.{left_codes};
 ghost use Rattle.query.specs.Answer.{Says, left_after, right_after};
 ghost use Rattle.query.specs.inner.Counted.{is_ring, claim_sizes, in_limits, facts_by};
 
-use read_text::{Summary, TextRead};
-use refusals::Reason;
+use read_text::Summary;
+use refusals::{Reason, Refusal};
 use side_build::Built;
 use side_limits::Sizes;
 use side_tables::{TABLE, Table};
@@ -27,13 +27,6 @@ pub struct Facts {
     pub relations: usize,
 }
 
-// The facts of an accepted query, or the reason and the place of a refusal.
-#[derive(Clone, Copy)]
-pub enum Answer {
-    Accepted(Facts),
-    Refused(Reason, usize),
-}
-
 // Whether the claim is one of rings.
 fn is_ring(known: Summary) -> bool
     ensures { result ≡ is_ring known }
@@ -45,7 +38,7 @@ fn is_ring(known: Summary) -> bool
 fn sizes(codes: &[u64], n: usize) -> Sizes
     ensures { result ≡ claim_sizes (take n codes.now) }
 {
-    let m = memory::least(n, codes.len());
+    let m = n.min(codes.len());
     let part = &codes[..m];
     let none = [0u64; 0];
     let d = side_claim::claimed_in(part);
@@ -77,7 +70,12 @@ fn facts_by(known: Summary, b: Built) -> Facts
 
 // Reads the query that the text is. After an answer `codes` has its codes and zeros behind, `left` and `right` the tables of the two sides;
 // after a refusal all are zero. Refusal 8 is at the last line.
-pub fn read(text: &[u8], codes: &mut [u64; 4096], left: &mut Table, right: &mut Table) -> Answer
+pub fn read(
+    text: &[u8],
+    codes: &mut [u64; 4096],
+    left: &mut Table,
+    right: &mut Table,
+) -> Result<Facts, Refusal>
     ensures { Says (reading text.now) result
         × (codes.new ≡ left_codes (reading text.now))
         × (left.new ≡ left_after (reading text.now))
@@ -85,23 +83,21 @@ pub fn read(text: &[u8], codes: &mut [u64; 4096], left: &mut Table, right: &mut 
 {
     memory::clear(left);
     memory::clear(right);
-    let r = read_text::read(text, codes);
-    match r {
-        TextRead::Refused(why, line) => Answer::Refused(why, line),
-        TextRead::Accepted(known) => {
-            if !within(codes, known) {
-                memory::clear(codes);
-                return Answer::Refused(Reason::OverLimit, known.lines);
-            }
-            let tests = known.tests as u64;
-            let b = side_build::build(codes, known.codes, tests, left, right);
-            Answer::Accepted(facts_by(known, b))
-        }
+    let known = read_text::read(text, codes)?;
+    if !within(codes, known) {
+        memory::clear(codes);
+        return Err(Refusal {
+            why: Reason::OverLimit,
+            place: known.lines,
+        });
     }
+    let tests = known.tests as u64;
+    let b = side_build::build(codes, known.codes, tests, left, right);
+    Ok(facts_by(known, b))
 }
 
 // Reads the query for the tables of its two sides. Its codes are needed no longer then, and their memory is this call's own.
-pub fn read_sides(text: &[u8], left: &mut Table, right: &mut Table) -> Answer
+pub fn read_sides(text: &[u8], left: &mut Table, right: &mut Table) -> Result<Facts, Refusal>
     ensures { Says (reading text.now) result
         × (left.new ≡ left_after (reading text.now))
         × (right.new ≡ right_after (reading text.now)) }
@@ -111,7 +107,7 @@ pub fn read_sides(text: &[u8], left: &mut Table, right: &mut Table) -> Answer
 }
 
 // Reads the query for its codes. The tables of its two sides are built as well, for the facts, in memory that is this call's own.
-pub fn read_codes(text: &[u8], codes: &mut [u64; 4096]) -> Answer
+pub fn read_codes(text: &[u8], codes: &mut [u64; 4096]) -> Result<Facts, Refusal>
     ensures { Says (reading text.now) result × (codes.new ≡ left_codes (reading text.now)) }
 {
     let mut left = [0u64; TABLE];

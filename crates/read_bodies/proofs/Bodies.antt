@@ -7,13 +7,14 @@ use mathlib.Core.Bool.{Bool, true, false}
 use mathlib.Core.List.{List, [], ◌∷◌, ◌++◌, append_assoc}
 use lib.ListN.{length, drop, replicate, length-append}
 use lib.Seq.{sets}
+use Rattle.std.specs.Prelude.{Result, Ok}
 use Rattle.claims.specs.Bytes.{byte}
 use Rattle.claims.specs.Tokens as Notation
 use Rattle.claims.specs.Tokens.{tokens}
 use Rattle.claims.specs.Grammar.{Found, got, wrong, deep, and_then, goes_on, past, name_next}
 use Rattle.claims.specs.Tree.{Name, TestTree, Line, test_line, rel_line, let_line, never_line, within_line, closed_line}
 use Rattle.claims.specs.Lines.{declared, mapped, expression, condition, bracketed, let_reader, within_reader}
-use Rattle.claims.specs.Names.{declares, uses_relation, test_uses, tree_uses, uses, slip, first_slip}
+use Rattle.claims.specs.Names.{declares, uses_relation, test_uses, tree_uses, uses, first_slip}
 use Rattle.claims.specs.Query.{Limit, index_of, relations}
 use Rattle.codes.specs.Codes.{test_codes, tree_codes, line_codes}
 use Rattle.read_tokens.specs.declared.Key.{Key}
@@ -22,8 +23,8 @@ use Rattle.read_tokens.specs.declared.Token.TheVariants.{Word}
 use Rattle.read_tokens.specs.Scan.{token_at}
 use Rattle.read_names.specs.Keys.{reserved_key, find_in}
 use Rattle.read_tokens.proofs.Tokens.{ScannedWord, ScannedMark}
-use Rattle.read_tests.specs.declared.Parsed.{Parsed}
-use Rattle.read_tests.specs.declared.Parsed.TheVariants.{Got}
+use Rattle.read_tests.specs.declared.Place.{Place}
+use Rattle.read_tests.specs.declared.Fault.{Fault}
 use Rattle.read_names.specs.declared.Slip.{Slip}
 use Rattle.read_names.specs.declared.Slip.TheVariants.{Clean, Unknown, OtherKind, Twice, Reserved}
 use Rattle.read_names.specs.Slips.{first_of, slip_by, slip_of_code, declared_slip, relation_number}
@@ -39,7 +40,7 @@ module _ (kind : Name → Line) (code : ℕ) (d : Declaration kind code) (s name
       → (i : Slip) (end : ℕ) (before after : List ℕ) → i ≡ declared_slip n names k
       → (end ≡ used + 1) × (after ≡ sets before used (replicate 1 code))
       → BodyOutcome (λ ts. mapped kind (declared ts)) (Declares kind s at) s names n at used before after
-      (Got (record { at = next; used = end; slip = i }))
+      (Ok (record { at = next; used = end; slip = i }))
   declaration_got t k next e h f i end before after j (u, v) = (
     record { onward = f.after; within = f.within; room = omega (arith, u, f.after, f.within) },
     (λ q m. record {
@@ -78,7 +79,7 @@ module _ (s : List ℕ) (at : ℕ) (k : Key) (next : ℕ) (f : ScannedWord s at 
         (ap (λ ts. mapped (let_line f.spelling) (expression ts)) (passed s next 61 start m))
 
     pub let_passed : (t : Token) → t ≡ token_at s at → t ≡ Word k next → (names : List ℕ) (n used : ℕ) (i : Slip) (before after : List ℕ)
-        → i ≡ declared_slip n names k → (r : Parsed)
+        → i ≡ declared_slip n names k → (r : Result Place Fault)
         → TreeThen 130 s names n (record { at = start; used = used; slip = i }) before after r
         → BodyOutcome let_reader (DeclaresLet s at) s names n at used before after r
     unfolding uses line_codes
@@ -102,7 +103,7 @@ module _ (s names : List ℕ) (n at used : ℕ) (k : Key) (next : ℕ) (f : Scan
   pub closed_got : b ≡ false → (c : ℕ) (i : Slip) (w : ℕ) → c ≡ find_in n names k → i ≡ slip_of_code 32 64 c → w ≡ relation_number c
       → (end : ℕ) (before after : List ℕ) → (end ≡ used + 1) × (after ≡ sets before used (replicate 1 (160 + w)))
       → BodyOutcome (λ ts. name_next closed_line ts) (Bare false) s names n at used before after
-      (Got (record { at = next; used = end; slip = i }))
+      (Ok (record { at = next; used = end; slip = i }))
   unfolding uses line_codes
   closed_got h c i w ce ie we end before after (u, v) = (
     record { onward = f.after; within = f.within; room = omega (arith, u, f.after, f.within) },
@@ -158,7 +159,7 @@ module _ (s names : List ℕ) (n at used : ℕ) (k : Key) (next : ℕ) (f : Scan
   within_begun h = rw (name_here s at k next f (λ n. n) (sym free ∙ h), within_reader) (within_limits_lem f.spelling (tokens (drop next s)))
 
   pub within_passed : b ≡ false → (c : ℕ) (i : Slip) (w : ℕ) → c ≡ find_in n names k → i ≡ slip_of_code 32 64 c → w ≡ relation_number c
-      → (before after : List ℕ) (r : Parsed) → LimitsThen (144 + w) s names n (record { at = next; used = used; slip = i }) before after r
+      → (before after : List ℕ) (r : Result Place Fault) → LimitsThen (144 + w) s names n (record { at = next; used = used; slip = i }) before after r
       → BodyOutcome within_reader (Bare false) s names n at used before after r
   unfolding uses line_codes
   within_passed h c i w ce ie we before after =
@@ -187,7 +188,7 @@ module _ (s names : List ℕ) (n at used : ℕ) (k : Key) (next : ℕ) (f : Scan
       lengths cs ds x y = ap length (append_assoc cs ds (x ∷ [])) ∙ simp length-append
 
 -- `never T`
-pub never_passed : (s names : List ℕ) (n at used : ℕ) (before after : List ℕ) (r : Parsed)
+pub never_passed : (s names : List ℕ) (n at used : ℕ) (before after : List ℕ) (r : Result Place Fault)
     → TestThen 131 s names n (record { at = at; used = used; slip = Clean }) before after r
     → BodyOutcome (λ ts. mapped never_line (condition ts)) (Bare false) s names n at used before after r
 unfolding uses line_codes

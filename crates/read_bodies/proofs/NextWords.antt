@@ -1,6 +1,6 @@
 -- The word that stands next, by what the code asks: one of those that are no names, or a name with its slip.
 -- Assumes nothing.
-use Prim.Native.Nat.{ℕ, ◌≤◌, ◌<◌}
+use Prim.Native.Nat.{ℕ, ◌<◌}
 use native.Mathlib.Omega.{arith}
 use mathlib.Core.Path.{◌≡◌, refl, sym, ap, ◌∙◌, subst}
 use mathlib.Core.Logic.{◌⊎◌, ⊎_elim}
@@ -8,9 +8,8 @@ use mathlib.Core.Bool.{Bool, true, false, cond}
 use mathlib.Core.List.{List, [], ◌∷◌}
 use mathlib.Core.Option.{Option, some, none}
 use lib.Dec.{eqb}
-use lib.ListN.{length, drop, get_or}
+use lib.ListN.{drop, get_or}
 use borrow.Author.Tests.{eq-eqb, ne_eqb, lt-ltb, le-ltb}
-use Rattle.claims.specs.Bytes.{same}
 use Rattle.claims.specs.Tokens as Notation
 use Rattle.claims.specs.Tokens.{tokens, reserved_words, is_reserved}
 use Rattle.claims.specs.Grammar.{got, wrong, past, says_next, name_next}
@@ -23,73 +22,34 @@ use Rattle.codes.specs.Codes.{code_of}
 use Rattle.read_tokens.specs.declared.Key.{Key}
 use Rattle.read_tokens.specs.declared.Token.{Token}
 use Rattle.read_tokens.specs.declared.Token.TheVariants.{Word, Mark, Bad, End}
-use Rattle.read_tokens.specs.Scan.{key_of, token_at, Spelled}
-use Rattle.read_names.specs.Keys.{same_key, reserved_key, word_key, find_in, Knows}
+use Rattle.read_tokens.specs.Scan.{token_at}
+use Rattle.read_names.specs.Keys.{reserved_key, word_key, find_in, Knows}
 use denote.Enum.Declared.{tag_of}
 use Rattle.read_tokens.specs.contracts.Token.{the_type}
 use Rattle.read_tokens.proofs.Tokens.{Scanned, ScannedWord, tokens_scanned}
-use Rattle.read_names.proofs.Names.{same_key_lem, reserved_name_lem, reserved_is_reserved}
-use Rattle.read_next.specs.Next.{word_end, word_next}
+use Rattle.read_names.proofs.Names.{reserved_name_lem, reserved_is_reserved}
+use Rattle.std.specs.Prelude.{Some, None}
+use Rattle.read_next.specs.Next.{word_next}
+use Rattle.read_next.proofs.Next.{WordStands, word_stands, word_missing}
 use Rattle.read_names.specs.Slips.{slip_by, first_of, slip_of_code, declared_slip, relation_number}
 use Rattle.read_bodies.specs.Bodies.{word_of, Named}
 use Rattle.read_names.specs.declared.Slip.TheVariants.{Clean, Unknown, OtherKind, Twice, Reserved}
 use Rattle.read_names.proofs.FirstSlips.{first_none, first_cause, unknown_slips, kind_slips}
 use Rattle.codes.proofs.NameKinds.{Coded, coded}
 
--- the word w stands next and ends at e
-pub record SaysWord (s : List ℕ) (at : ℕ) (w : Name) (e : ℕ) : Type 0 where
-  pub says : says_next w (tokens (drop at s)) ≡ true
-  pub passed : past (tokens (drop at s)) ≡ tokens (drop e s)
-  pub after : at < e
-  pub within : e ≤ length s
-
 -- the nth word that is no name
 abbrev pub keyword : ℕ → Name
 keyword n = get_or reserved_words n []
 
--- whether a word is the nth that is no name, by its key
-key_is : (n : ℕ) (x k : Key) (w : Name) → n < 14 → x ≡ word_key n → k ≡ key_of w → Spelled w → same_key x k ≡ same (keyword n) w
-unfolding word_key
-key_is n x k w h e f sp = ap (λ y. same_key y k) e ∙ ap (same_key (key_of (keyword n))) f ∙ same_key_lem (keyword n) w (reserved_name_lem n h) sp
-
-abbrev WordSaid : List ℕ → ℕ → Name → ℕ → Type 0
-WordSaid s at w e = ((e ≡ 0 → ⊥) → SaysWord s at w e) × (e ≡ 0 → says_next w (tokens (drop at s)) ≡ false)
-
-unsaid : (s : List ℕ) (at : ℕ) (w : Name) → says_next w (tokens (drop at s)) ≡ false → WordSaid s at w 0
-unsaid s at w h = ((λ f. absurd (f refl)), (λ e. h))
-
+-- it stands next, or does not, as its key is asked for
 module _ (s : List ℕ) (at n : ℕ) (small : n < 14) (x : Key) (is : x ≡ word_key n) where
-  word_said : (k : Key) (e : ℕ) → ScannedWord s at k e → (b : Bool) → same_key x k ≡ b → WordSaid s at (keyword n) (cond b e 0)
-  word_said k e h true g = (
-    (λ f. record {
-      says = ap (says_next (keyword n)) h.read ∙ sym (key_is n x k h.spelling small is h.key h.spelled) ∙ g;
-      passed = ap past h.read;
-      after = h.after;
-      within = h.within;
-    }),
-    (λ z. absurd (omega (arith, h.after))),
-  )
-  word_said k e h false g =
-      unsaid s at (keyword n)
-      (ap (says_next (keyword n)) h.read ∙ sym (key_is n x k h.spelling small is h.key h.spelled) ∙ g)
+  pub keyword_stands : (e : ℕ) → Some e ≡ word_next s at x → WordStands s at (keyword n) e
+  unfolding word_key
+  keyword_stands e next = word_stands s at (keyword n) (reserved_name_lem n small) x is e next
 
-  token_said : (t : Token) → Scanned s at t → WordSaid s at (keyword n) (word_end x t)
-  unfolding word_end
-  token_said (Word k e) h = word_said k e h (same_key x k) refl
-  token_said (Mark b e) h = unsaid s at (keyword n) (ap (says_next (keyword n)) h.read)
-  token_said Bad h = unsaid s at (keyword n) (ap (says_next (keyword n)) h.1)
-  token_said End h = unsaid s at (keyword n) (ap (says_next (keyword n)) h)
-
-  module _ (e : ℕ) (next : e ≡ word_next s at x) where
-    said : WordSaid s at (keyword n) e
-    unfolding word_next
-    said = subst (WordSaid s at (keyword n)) (sym next) (token_said (token_at s at) (tokens_scanned s at))
-
-    pub word_stands : (e ≡ 0 → ⊥) → SaysWord s at (keyword n) e
-    word_stands f = said.0 f
-
-    pub word_missing : e ≡ 0 → says_next (keyword n) (tokens (drop at s)) ≡ false
-    word_missing z = said.1 z
+  pub keyword_missing : None ≡ word_next s at x → says_next (keyword n) (tokens (drop at s)) ≡ false
+  unfolding word_key
+  keyword_missing next = word_missing s at (keyword n) (reserved_name_lem n small) x is next
 
 -- the reader that the next word chooses
 pub choose_here : (c : Choice) (cs : List Choice) (ts : List Notation.Token) → says_next c.says ts ≡ true → choose (c ∷ cs) ts ≡ c.reads (past ts)

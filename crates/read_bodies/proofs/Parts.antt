@@ -1,14 +1,14 @@
 -- The parts of a line: a T or an E with a code behind it, a line made of one of them, a T in square brackets, and two of them. The idea: each
 -- is said in the same form, `Reads`, so that one law writes a code behind it and one makes a line of it.
 -- Assumes nothing.
-use Prim.Native.Nat.{ℕ, ◌+◌, ◌-◌, ◌≤◌, ◌<◌}
+use Prim.Native.Nat.{ℕ, ◌+◌, ◌-◌, ◌≤◌}
 use native.Mathlib.Omega.{arith}
-use mathlib.Core.Path.{◌≡◌, refl, sym, ap, ◌∙◌, subst, subst⁻¹}
-use mathlib.Core.Logic.{◌⊎◌, ⊎_elim}
+use mathlib.Core.Path.{◌≡◌, refl, sym, ap, ◌∙◌, subst⁻¹}
 use mathlib.Core.Bool.{true, false}
 use mathlib.Core.List.{List, [], ◌∷◌}
 use lib.ListN.{length, drop, length-append}
 use lib.Seq.{sets}
+use Rattle.std.specs.Prelude.{Result, Ok, Err}
 use Rattle.claims.specs.Bytes.{byte}
 use Rattle.claims.specs.Tokens.{Token, tokens}
 use Rattle.claims.specs.Grammar.{Found, got, wrong, and_then, goes_on, past, before_mark}
@@ -20,79 +20,59 @@ use Rattle.memory.specs.Memory.{zeros}
 use Rattle.codes.specs.Codes.{test_codes, line_codes}
 use Rattle.read_tokens.proofs.Tokens.{ScannedMark}
 use Rattle.read_tests.specs.declared.Place.{Place}
-use Rattle.read_tests.specs.declared.Parsed.{Parsed}
-use Rattle.read_tests.specs.declared.Parsed.TheVariants.{Got, Wrong, Deep}
+use Rattle.read_tests.specs.declared.Fault.{Fault}
+use Rattle.read_tests.specs.declared.Fault.TheVariants.{Wrong, Deep}
 use Rattle.read_tests.specs.Places.{ReaderOutcome, Is}
 use Rattle.read_names.specs.Keys.{Knows}
 use Rattle.read_names.specs.declared.Slip.{Slip}
 use Rattle.read_names.specs.declared.Slip.TheVariants.{Clean}
 use Rattle.read_names.specs.Slips.{first_of, slip_by}
-use Rattle.read_bodies.specs.Bodies.{Behind, Ends, Reads, ending, TestThen, BodyOutcome}
+use Rattle.read_bodies.specs.Bodies.{Ends, Reads, ending, TestThen, BodyOutcome}
 use Rattle.read_bodies.specs.inner.Parts.{Fits, one_code, code_stored, Bracketed, limits_reader, limit_codes, limit_uses, LimitsThen}
-use denote.Enum.Declared.{tag_of}
-use Rattle.read_tests.specs.contracts.Parsed.{the_type}
 use Rattle.read_next.specs.Written.{used_after, written_after}
 use Rattle.read_next.proofs.Stores.{stores_then, written_room}
 use Rattle.read_names.proofs.Slips.{slips_then}
 use Rattle.read_next.proofs.Next.{goes_on_lem, passed}
 
--- what a reader's answer is known to be
-pub behind_of : (s : List ℕ) (at used more : ℕ) (after : List ℕ) (r : Parsed) (g : Place) → r ≡ Got g → Ends s at used more after r
-    → Behind s at used more g
-behind_of s at used more after r g e m = subst (Ends s at used more after) e m
-
--- the answer is no tree
-abbrev pub Failed : Parsed → Type 0
-Failed (Got g) = ⊥
-Failed Wrong = Unit {0}
-Failed Deep = Unit {0}
-
-pub failed : (r : Parsed) → (tag_of the_type r ≡ 1) ⊎ (tag_of the_type r ≡ 2) → Failed r
-failed (Got g) h = ⊎_elim (λ e. absurd (omega arith)) (λ e. absurd (omega arith)) h
-failed Wrong h = tt
-failed Deep h = tt
-
 -- there is room for a code
-pub code_fits : (s : List ℕ) (at used : ℕ) (after : List ℕ) (r : Parsed) → Ends s at used 0 after r → used + (length s - at) + 1 ≤ 4096 → Fits r
-code_fits s at used after (Got g) e h = omega (arith, e.room)
-code_fits s at used after Wrong e h = tt
-code_fits s at used after Deep e h = tt
+pub code_fits : (s : List ℕ) (at used : ℕ) (after : List ℕ) (r : Result Place Fault) → Ends s at used 0 after r → used + (length s - at) + 1 ≤ 4096 → Fits r
+code_fits s at used after (Ok g) e h = omega (arith, e.room)
+code_fits s at used after (Err Wrong) e h = tt
+code_fits s at used after (Err Deep) e h = tt
 
 -- the place behind a code and the array with it, by what the code did
-pub code_written : (r : Parsed) (g : Place) → r ≡ Got g → Fits r → (code used : ℕ) (out out' : List ℕ)
+pub code_written : (g : Place) → Fits (Ok g) → (code used : ℕ) (out out' : List ℕ)
     → (used ≡ used_after g.used 1) × (out' ≡ written_after out g.used 1 code)
-    → (Got (record { at = g.at; used = used; slip = g.slip }) ≡ one_code r) × (out' ≡ code_stored code r out)
+    → (Ok (record { at = g.at; used = used; slip = g.slip }) ≡ one_code (Ok g)) × (out' ≡ code_stored code (Ok g) out)
 unfolding one_code code_stored
-code_written r g e f code used out out' w =
-    let h : g.used < 4096 = subst Fits e f in
+code_written g f code used out out' w =
     let (u, v) = written_room out g.used 1 code used out' w (omega arith) in
-    (rw (e, u), rw e v)
+    (rw u, v)
 
-pub code_left : (r : Parsed) → Failed r → (code : ℕ) (out : List ℕ) → (r ≡ one_code r) × (out ≡ code_stored code r out)
+pub code_left : (e : Fault) (code : ℕ) (out : List ℕ) → (Err e ≡ one_code (Err e)) × (out ≡ code_stored code (Err e) out)
 unfolding one_code code_stored
-code_left (Got g) f code out = absurd f
-code_left Wrong f code out = (refl, refl)
-code_left Deep f code out = (refl, refl)
+code_left Wrong code out = (refl, refl)
+code_left Deep code out = (refl, refl)
 
 -- a tree, and a tree with a code behind it
 module _ {A : Type 0} (D : List Token → Found A) (codes : Query → A → List ℕ) (uses : A → List Use) (s names : List ℕ) (n : ℕ) (p : Place)
     (before mid : List ℕ) where
-  pub tree_read : (r : Parsed) → ReaderOutcome (Is D) codes uses s names n p before mid r → Reads D codes uses 0 s names n p before mid r
-  tree_read (Got g) o = (
+  pub tree_read : (r : Result Place Fault) → ReaderOutcome (Is D) codes uses s names n p before mid r → Reads D codes uses 0 s names n p before mid r
+  tree_read (Ok g) o = (
     record { onward = o.moved.onward; within = o.moved.within; room = omega (arith, o.moved.room) },
     (λ q k. let c = o.told q k in record { tree = o.tree; read = o.read; written = c.written; used = c.used; slip = c.slip }),
   )
-  tree_read Wrong (o, z) = (z, λ q k. o)
-  tree_read Deep (o, z) = (z, λ q k. o)
+  tree_read (Err Wrong) (o, z) = (z, λ q k. o)
+  tree_read (Err Deep) (o, z) = (z, λ q k. o)
 
-  pub code_read : (r : Parsed) → Reads D codes uses 0 s names n p before mid r → (code : ℕ) (x : Parsed) (after : List ℕ)
+  pub code_read : (r : Result Place Fault) → Reads D codes uses 0 s names n p before mid r → (code : ℕ) (x : Result Place Fault) (after : List ℕ)
       → (x ≡ one_code r) × (after ≡ code_stored code r mid) → Reads D (ending code codes) uses 1 s names n p before after x
   unfolding one_code code_stored
   code_read r w code x after (e, f) = subst⁻¹ (Reads D (ending code codes) uses 1 s names n p before after) e (go r w f)
     where
-      go : (r : Parsed) → Reads D codes uses 0 s names n p before mid r → after ≡ code_stored code r mid
+      go : (r : Result Place Fault) → Reads D codes uses 0 s names n p before mid r → after ≡ code_stored code r mid
           → Reads D (ending code codes) uses 1 s names n p before after (one_code r)
-      go (Got g) (a, b) f = (
+      go (Ok g) (a, b) f = (
         record { onward = a.onward; within = a.within; room = omega (arith, a.room) },
         (λ q k. let o = b q k in
             record {
@@ -103,8 +83,8 @@ module _ {A : Type 0} (D : List Token → Found A) (codes : Query → A → List
               slip = o.slip;
             }),
       )
-      go Wrong (a, b) f = (f ∙ a, b)
-      go Deep (a, b) f = (f ∙ a, b)
+      go (Err Wrong) (a, b) f = (f ∙ a, b)
+      go (Err Deep) (a, b) f = (f ∙ a, b)
 
 -- A line made of one tree, which was read from a later place on where the slip i was remembered. What is wanted of the line: its sort, its
 -- slip, and its codes where no name has a slip.
@@ -118,9 +98,9 @@ pub tree_line : {A : Type 0} (R : List Token → Found A) (codes : Query → A �
     (K : Line → Type 0) (kind : A → Line) (s names : List ℕ) (n at later used : ℕ) (i : Slip) (before after : List ℕ)
     → D (tokens (drop at s)) ≡ mapped kind (R (tokens (drop later s))) → at ≤ later
     → ((q : Query) → Knows names n q → (a : A) → Makes codes uses' K i q (kind a) a)
-    → (r : Parsed) → Reads R codes uses' 1 s names n (record { at = later; used = used; slip = i }) before after r
+    → (r : Result Place Fault) → Reads R codes uses' 1 s names n (record { at = later; used = used; slip = i }) before after r
     → BodyOutcome D K s names n at used before after r
-tree_line R codes uses' D K kind s names n at later used i before after e h makes (Got g) (a, b) = (
+tree_line R codes uses' D K kind s names n at later used i before after e h makes (Ok g) (a, b) = (
   record { onward = omega (arith, a.onward); within = a.within; room = omega (arith, a.room) },
   (λ q k. let o = b q k in
       let m = makes q k o.tree in
@@ -133,8 +113,8 @@ tree_line R codes uses' D K kind s names n at later used i before after e h make
         used = o.used ∙ ap (λ j. used + j) m.count;
       }),
 )
-tree_line R codes uses' D K kind s names n at later used i before after e h makes Wrong (a, b) = (a, λ q k. e ∙ ap (mapped kind) (b q k))
-tree_line R codes uses' D K kind s names n at later used i before after e h makes Deep (a, b) = (a, λ q k. e ∙ ap (mapped kind) (b q k))
+tree_line R codes uses' D K kind s names n at later used i before after e h makes (Err Wrong) (a, b) = (a, λ q k. e ∙ ap (mapped kind) (b q k))
+tree_line R codes uses' D K kind s names n at later used i before after e h makes (Err Deep) (a, b) = (a, λ q k. e ∙ ap (mapped kind) (b q k))
 
 -- a T in square brackets
 pub bracket_missing : (ts : List Token) → goes_on 91 ts ≡ false → bracketed ts ≡ wrong
@@ -158,26 +138,21 @@ module _ (s names : List ℕ) (n : ℕ) (p : Place) (next : ℕ) (m : ScannedMar
       bracket_opened (tokens (drop p.at s)) (goes_on_lem s p.at 91 next m)
       ∙ ap (λ ts. and_then (condition ts) (λ t us. before_mark (byte "]") t us)) (passed s p.at 91 next m)
 
-  pub bracket_failed : (before after : List ℕ) (r : Parsed) → TestThen 6 s names n inside before after r → Failed r
-      → Bracketed s names n p before after r
-  bracket_failed before after (Got g) w f = absurd f
-  bracket_failed before after Wrong (a, b) f = (a, λ q k. opened ∙ ap (λ x. and_then x (λ t us. before_mark (byte "]") t us)) (b q k))
-  bracket_failed before after Deep (a, b) f = (a, λ q k. opened ∙ ap (λ x. and_then x (λ t us. before_mark (byte "]") t us)) (b q k))
+  pub bracket_failed : (before after : List ℕ) (e : Fault) → TestThen 6 s names n inside before after (Err e) → Bracketed s names n p before after (Err e)
+  bracket_failed before after Wrong (a, b) = (a, λ q k. opened ∙ ap (λ x. and_then x (λ t us. before_mark (byte "]") t us)) (b q k))
+  bracket_failed before after Deep (a, b) = (a, λ q k. opened ∙ ap (λ x. and_then x (λ t us. before_mark (byte "]") t us)) (b q k))
 
-  module _ (before after : List ℕ) (r : Parsed) (g : Place) (e : r ≡ Got g) (w : TestThen 6 s names n inside before after r) where
-    found : TestThen 6 s names n inside before after (Got g)
-    found = subst (TestThen 6 s names n inside before after) e w
-
+  module _ (before after : List ℕ) (g : Place) (found : TestThen 6 s names n inside before after (Ok g)) where
     read_inside : (q : Query) (k : Knows names n q)
         → bracketed (tokens (drop p.at s)) ≡ before_mark (byte "]") (found.1 q k).tree (tokens (drop g.at s))
     read_inside q k = opened ∙ ap (λ x. and_then x (λ t us. before_mark (byte "]") t us)) (found.1 q k).read
 
-    pub bracket_unclosed : goes_on 93 (tokens (drop g.at s)) ≡ false → (left : List ℕ) → left ≡ zeros 4096 → Bracketed s names n p before left Wrong
+    pub bracket_unclosed : goes_on 93 (tokens (drop g.at s)) ≡ false → (left : List ℕ) → left ≡ zeros 4096 → Bracketed s names n p before left (Err Wrong)
     unfolding before_mark
     bracket_unclosed h left z = (z, λ q k. read_inside q k ∙ rw (h, before_mark))
 
     pub bracket_got : (end : ℕ) → ScannedMark s g.at 93 end
-        → Bracketed s names n p before after (Got (record { at = end; used = g.used; slip = g.slip }))
+        → Bracketed s names n p before after (Ok (record { at = end; used = g.used; slip = g.slip }))
     bracket_got end h =
         let b = found.0 in (
           record {
@@ -199,20 +174,19 @@ module _ (s names : List ℕ) (n : ℕ) (p : Place) (next : ℕ) (m : ScannedMar
 
 -- two of them
 module _ (s names : List ℕ) (n : ℕ) (p : Place) (before first : List ℕ) where
-  pub limits_failed : (r : Parsed) → Bracketed s names n p before first r → Failed r → (code : ℕ) → LimitsThen code s names n p before first r
+  pub limits_failed : (e : Fault) → Bracketed s names n p before first (Err e) → (code : ℕ) → LimitsThen code s names n p before first (Err e)
   unfolding limits_reader
-  limits_failed (Got g) w f code = absurd f
-  limits_failed Wrong (a, b) f code = (a, λ q k. rw (b q k))
-  limits_failed Deep (a, b) f code = (a, λ q k. rw (b q k))
+  limits_failed Wrong (a, b) code = (a, λ q k. rw (b q k))
+  limits_failed Deep (a, b) code = (a, λ q k. rw (b q k))
 
-  pub limits_read : (r : Parsed) (g : Place) → r ≡ Got g → Bracketed s names n p before first r → (second : List ℕ) (u : Parsed)
+  pub limits_read : (g : Place) → Bracketed s names n p before first (Ok g) → (second : List ℕ) (u : Result Place Fault)
       → Bracketed s names n g first second u → Reads limits_reader limit_codes limit_uses 0 s names n p before second u
   unfolding limits_reader
-  limits_read r g e w second u v = go u (subst (Bracketed s names n p before first) e w) v
+  limits_read g w second u v = go u w v
     where
-      go : (u : Parsed) → Bracketed s names n p before first (Got g) → Bracketed s names n g first second u
+      go : (u : Result Place Fault) → Bracketed s names n p before first (Ok g) → Bracketed s names n g first second u
           → Reads limits_reader limit_codes limit_uses 0 s names n p before second u
-      go (Got h) (a, b) (c, d) = (
+      go (Ok h) (a, b) (c, d) = (
         record { onward = omega (arith, a.onward, c.onward); within = c.within; room = omega (arith, a.room, c.room) },
         (λ q k. let x = b q k in
             let y = d q k in
@@ -226,5 +200,5 @@ module _ (s names : List ℕ) (n : ℕ) (p : Place) (before first : List ℕ) wh
               slip = slips_then q (test_uses x.tree) (test_uses y.tree) p.slip g.slip h.slip x.slip y.slip;
             }),
       )
-      go Wrong (a, b) (c, d) = (c, λ q k. rw ((b q k).read, d q k))
-      go Deep (a, b) (c, d) = (c, λ q k. rw ((b q k).read, d q k))
+      go (Err Wrong) (a, b) (c, d) = (c, λ q k. rw ((b q k).read, d q k))
+      go (Err Deep) (a, b) (c, d) = (c, λ q k. rw ((b q k).read, d q k))

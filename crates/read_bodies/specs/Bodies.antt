@@ -1,7 +1,7 @@
 -- What the readers of a line's body promise: what stands behind the line's first word is read whole, and its codes are written, before
 -- the line's end and its names are judged. (Document 01, "The query" and "Refusals with an example each".)
 -- Assumes nothing.
-use Rattle.std.specs.Prelude.{ℕ, ◌+◌, ◌-◌, ◌≤◌, ◌<◌, ◌≡◌, Bool, true, false, List, [], ◌∷◌, ◌++◌, length, drop}
+use Rattle.std.specs.Prelude.{Result, Ok, Err, ℕ, ◌+◌, ◌-◌, ◌≤◌, ◌<◌, ◌≡◌, Bool, true, false, List, [], ◌∷◌, ◌++◌, length, drop}
 use Rattle.std.proofs.lemmas.List.Edits.{sets}
 use Rattle.claims.specs.Tokens.{Token as Piece, tokens}
 use Rattle.claims.specs.Grammar.{Found, got, wrong, deep}
@@ -18,8 +18,8 @@ use Rattle.read_tokens.specs.declared.Token.TheVariants.{Word, Mark, Bad, End}
 use Rattle.read_tokens.specs.Scan.{key_of, token_at, Spelled}
 use Rattle.read_names.specs.Keys.{Knows as Found-in}
 use Rattle.read_tests.specs.declared.Place.{Place}
-use Rattle.read_tests.specs.declared.Parsed.{Parsed}
-use Rattle.read_tests.specs.declared.Parsed.TheVariants.{Got, Wrong, Deep}
+use Rattle.read_tests.specs.declared.Fault.{Fault}
+use Rattle.read_tests.specs.declared.Fault.TheVariants.{Wrong, Deep}
 use Rattle.read_names.specs.declared.Slip.TheVariants.{Clean}
 use Rattle.read_names.specs.Slips.{first_of, slip_by}
 
@@ -30,10 +30,10 @@ pub record Behind (s : List ℕ) (at used more : ℕ) (r : Place) : Type 0 where
   pub room : r.used + (length s - r.at) ≤ used + (length s - at) + more
 
 -- a reader ends behind what it read, or with a fault, and then the memory for codes is all 0
-abbrev pub Ends : List ℕ → ℕ → ℕ → ℕ → List ℕ → Parsed → Type 0
-Ends s at used more after (Got r) = Behind s at used more r
-Ends s at used more after Wrong = after ≡ zeros 4096
-Ends s at used more after Deep = after ≡ zeros 4096
+abbrev pub Ends : List ℕ → ℕ → ℕ → ℕ → List ℕ → Result Place Fault → Type 0
+Ends s at used more after (Ok r) = Behind s at used more r
+Ends s at used more after (Err Wrong) = after ≡ zeros 4096
+Ends s at used more after (Err Deep) = after ≡ zeros 4096
 
 -- What the reader D of the grammar found from the place p to the place r, in the lines q: the tree, its codes, and the first slip.
 pub record ReadTree {A : Type 0} (D : List Piece → Found A) (codes : A → List ℕ) (uses : A → List Use) (q : Query) (s : List ℕ)
@@ -45,13 +45,13 @@ pub record ReadTree {A : Type 0} (D : List Piece → Found A) (codes : A → Lis
   pub slip : r.slip ≡ first_of p.slip (slip_by (first_slip q (uses tree)))
 
 module _ {A : Type 0} (D : List Piece → Found A) where
-  abbrev pub Answers : (A → List ℕ) → (A → List Use) → Query → List ℕ → Place → List ℕ → List ℕ → Parsed → Type 0
-  Answers codes uses q s p before after (Got r) = ReadTree D codes uses q s p before after r
-  Answers codes uses q s p before after Wrong = D (tokens (drop p.at s)) ≡ wrong
-  Answers codes uses q s p before after Deep = D (tokens (drop p.at s)) ≡ deep
+  abbrev pub Answers : (A → List ℕ) → (A → List Use) → Query → List ℕ → Place → List ℕ → List ℕ → Result Place Fault → Type 0
+  Answers codes uses q s p before after (Ok r) = ReadTree D codes uses q s p before after r
+  Answers codes uses q s p before after (Err Wrong) = D (tokens (drop p.at s)) ≡ wrong
+  Answers codes uses q s p before after (Err Deep) = D (tokens (drop p.at s)) ≡ deep
 
   -- so it is for every query whose names stand in the table; there may be so many codes more than bytes read
-  abbrev pub Reads : (Query → A → List ℕ) → (A → List Use) → ℕ → List ℕ → List ℕ → ℕ → Place → List ℕ → List ℕ → Parsed → Type 0
+  abbrev pub Reads : (Query → A → List ℕ) → (A → List Use) → ℕ → List ℕ → List ℕ → ℕ → Place → List ℕ → List ℕ → Result Place Fault → Type 0
   Reads codes uses more s names n p before after r =
       Ends s p.at p.used more after r × ((q : Query) → Found-in names n q → Answers (codes q) uses q s p before after r)
 
@@ -60,7 +60,7 @@ abbrev pub ending : {A : Type 0} → ℕ → (Query → A → List ℕ) → Quer
 ending code codes q a = codes q a ++ (code ∷ [])
 
 -- a T with a code behind it
-abbrev pub TestThen : ℕ → List ℕ → List ℕ → ℕ → Place → List ℕ → List ℕ → Parsed → Type 0
+abbrev pub TestThen : ℕ → List ℕ → List ℕ → ℕ → Place → List ℕ → List ℕ → Result Place Fault → Type 0
 TestThen code s names n p before after r = Reads condition (ending code test_codes) test_uses 1 s names n p before after r
 
 -- The reader D found a line of the sort in the tokens from `at` on, and the place r stands behind it. The codes are those of the line
@@ -75,13 +75,13 @@ pub record Body (D : List Piece → Found Line) (Sort : Line → Type 0) (q : Qu
   pub used : r.used ≡ from + length (line_codes q line)
 
 module _ (D : List Piece → Found Line) (Sort : Line → Type 0) where
-  abbrev pub BodySays : Query → List ℕ → ℕ → ℕ → List ℕ → List ℕ → Parsed → Type 0
-  BodySays q s at used before after (Got r) = Body D Sort q s at used before after r
-  BodySays q s at used before after Wrong = D (tokens (drop at s)) ≡ wrong
-  BodySays q s at used before after Deep = D (tokens (drop at s)) ≡ deep
+  abbrev pub BodySays : Query → List ℕ → ℕ → ℕ → List ℕ → List ℕ → Result Place Fault → Type 0
+  BodySays q s at used before after (Ok r) = Body D Sort q s at used before after r
+  BodySays q s at used before after (Err Wrong) = D (tokens (drop at s)) ≡ wrong
+  BodySays q s at used before after (Err Deep) = D (tokens (drop at s)) ≡ deep
 
   -- so it is for every query whose names stand in the table
-  abbrev pub BodyOutcome : List ℕ → List ℕ → ℕ → ℕ → ℕ → List ℕ → List ℕ → Parsed → Type 0
+  abbrev pub BodyOutcome : List ℕ → List ℕ → ℕ → ℕ → ℕ → List ℕ → List ℕ → Result Place Fault → Type 0
   BodyOutcome s names n at used before after r =
       Ends s at used 1 after r × ((q : Query) → Found-in names n q → BodySays q s at used before after r)
 

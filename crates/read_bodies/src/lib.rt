@@ -9,8 +9,8 @@ ghost use Rattle.read_tests.specs.Places.{Room};
 ghost use Rattle.read_bodies.specs.Bodies.{TestThen, BodyOutcome, Bare, Declaration, Declares, DeclaresLet, OneSided, one_side};
 ghost use Rattle.read_bodies.specs.inner.Parts.{Fits, one_code, code_stored, TreeThen, Bracketed, LimitsThen};
 
-use read_names::Slip;
-use read_tests::{Parsed, Place};
+use read_names::{Keyword, Slip};
+use read_tests::{Fault, Place};
 use read_tokens::Token;
 
 // A name that is declared, and the line's code.
@@ -22,17 +22,17 @@ pub fn declaration(
     used: usize,
     code: u64,
     out: &mut [u64; 4096],
-) -> Parsed
+) -> Result<Place, Fault>
     requires { used + (length s.now - at) + 1 ≤ 4096 }
     ensures { (kind : Name → Line) → Declaration kind code → BodyOutcome (λ ts. mapped kind (declared ts)) (Declares kind s.now at) s.now names.now n at used out.old out.new result }
 {
     let t = read_tokens::token_at(s, at);
     let Token::Word(k, next) = t else {
-        return read_tests::wrong(out);
+        return read_next::fail(out, Fault::Wrong);
     };
     let slip = read_names::declaration_slip(k, names, n);
     let end = read_next::write(out, used, 1, code);
-    Parsed::Got(Place {
+    Ok(Place {
         at: next,
         used: end,
         slip,
@@ -40,20 +40,13 @@ pub fn declaration(
 }
 
 // A code behind what was read.
-fn code_behind(r: Parsed, code: u64, out: &mut [u64; 4096]) -> Parsed
+fn code_behind(r: Result<Place, Fault>, code: u64, out: &mut [u64; 4096]) -> Result<Place, Fault>
     requires { Fits r }
     ensures { (result ≡ one_code r) × (out.new ≡ code_stored code r out.old) }
 {
-    let Parsed::Got(g) = r else {
-        return r;
-    };
-    let slip = g.slip;
+    let g = r?;
     let used = read_next::write(out, g.used, 1, code);
-    Parsed::Got(Place {
-        at: g.at,
-        used,
-        slip,
-    })
+    Ok(Place { used, ..g })
 }
 
 // A T, and a code behind it.
@@ -64,7 +57,7 @@ pub fn condition_then(
     p: Place,
     code: u64,
     out: &mut [u64; 4096],
-) -> Parsed
+) -> Result<Place, Fault>
     requires { p.used + (length s.now - p.at) + 1 ≤ 4096 }
     ensures { TestThen code s.now names.now n p out.old out.new result }
 {
@@ -80,7 +73,7 @@ fn expression_then(
     p: Place,
     code: u64,
     out: &mut [u64; 4096],
-) -> Parsed
+) -> Result<Place, Fault>
     requires { p.used + (length s.now - p.at) + 1 ≤ 4096 }
     ensures { TreeThen code s.now names.now n p out.old out.new result }
 {
@@ -89,40 +82,24 @@ fn expression_then(
 }
 
 // A T in square brackets.
-fn bracketed(s: &[u8], names: &[u64], n: usize, p: Place, out: &mut [u64; 4096]) -> Parsed
+fn bracketed(
+    s: &[u8],
+    names: &[u64],
+    n: usize,
+    p: Place,
+    out: &mut [u64; 4096],
+) -> Result<Place, Fault>
     requires { Room s.now p }
     ensures { Bracketed s.now names.now n p out.old out.new result }
 {
-    let next = read_next::mark_next(s, p.at, b'[');
-    if next == 0 {
-        return read_tests::wrong(out);
-    }
-    let slip = p.slip;
-    let r = condition_then(
-        s,
-        names,
-        n,
-        Place {
-            at: next,
-            used: p.used,
-            slip,
-        },
-        codes::TESTED,
-        out,
-    );
-    let Parsed::Got(g) = r else {
-        return r;
+    let Some(next) = read_next::mark_next(s, p.at, b'[') else {
+        return read_next::fail(out, Fault::Wrong);
     };
-    let found = g.slip;
-    let end = read_next::mark_next(s, g.at, b']');
-    if end == 0 {
-        return read_tests::wrong(out);
-    }
-    Parsed::Got(Place {
-        at: end,
-        used: g.used,
-        slip: found,
-    })
+    let g = condition_then(s, names, n, Place { at: next, ..p }, codes::TESTED, out)?;
+    let Some(end) = read_next::mark_next(s, g.at, b']') else {
+        return read_next::fail(out, Fault::Wrong);
+    };
+    Ok(Place { at: end, ..g })
 }
 
 // `N = E`.
@@ -133,18 +110,17 @@ pub fn let_body(
     n: usize,
     used: usize,
     out: &mut [u64; 4096],
-) -> Parsed
+) -> Result<Place, Fault>
     requires { used + (length s.now - at) + 1 ≤ 4096 }
     ensures { BodyOutcome let_reader (DeclaresLet s.now at) s.now names.now n at used out.old out.new result }
 {
     let t = read_tokens::token_at(s, at);
     let Token::Word(k, next) = t else {
-        return read_tests::wrong(out);
+        return read_next::fail(out, Fault::Wrong);
     };
-    let start = read_next::mark_next(s, next, b'=');
-    if start == 0 {
-        return read_tests::wrong(out);
-    }
+    let Some(start) = read_next::mark_next(s, next, b'=') else {
+        return read_next::fail(out, Fault::Wrong);
+    };
     let slip = read_names::declaration_slip(k, names, n);
     expression_then(
         s,
@@ -161,14 +137,18 @@ pub fn let_body(
 }
 
 // Two bracketed T, and a code behind them.
-fn limits(s: &[u8], names: &[u64], n: usize, p: Place, code: u64, out: &mut [u64; 4096]) -> Parsed
+fn limits(
+    s: &[u8],
+    names: &[u64],
+    n: usize,
+    p: Place,
+    code: u64,
+    out: &mut [u64; 4096],
+) -> Result<Place, Fault>
     requires { p.used + (length s.now - p.at) + 1 ≤ 4096 }
     ensures { LimitsThen code s.now names.now n p out.old out.new result }
 {
-    let t = bracketed(s, names, n, p, out);
-    let Parsed::Got(g) = t else {
-        return t;
-    };
+    let g = bracketed(s, names, n, p, out)?;
     let u = bracketed(s, names, n, g, out);
     code_behind(u, code, out)
 }
@@ -181,16 +161,16 @@ pub fn within_body(
     n: usize,
     used: usize,
     out: &mut [u64; 4096],
-) -> Parsed
+) -> Result<Place, Fault>
     requires { used + (length s.now - at) + 1 ≤ 4096 }
     ensures { BodyOutcome within_reader (Bare false) s.now names.now n at used out.old out.new result }
 {
     let t = read_tokens::token_at(s, at);
     let Token::Word(k, next) = t else {
-        return read_tests::wrong(out);
+        return read_next::fail(out, Fault::Wrong);
     };
     if read_names::reserved(k) {
-        return read_tests::wrong(out);
+        return read_next::fail(out, Fault::Wrong);
     }
     let c = read_names::find(names, n, k);
     let p = Place {
@@ -216,16 +196,16 @@ pub fn closed_body(
     n: usize,
     used: usize,
     out: &mut [u64; 4096],
-) -> Parsed
+) -> Result<Place, Fault>
     requires { used + (length s.now - at) + 1 ≤ 4096 }
     ensures { BodyOutcome (λ ts. name_next closed_line ts) (Bare false) s.now names.now n at used out.old out.new result }
 {
     let t = read_tokens::token_at(s, at);
     let Token::Word(k, next) = t else {
-        return read_tests::wrong(out);
+        return read_next::fail(out, Fault::Wrong);
     };
     if read_names::reserved(k) {
-        return read_tests::wrong(out);
+        return read_next::fail(out, Fault::Wrong);
     }
     let c = read_names::find(names, n, k);
     let end = read_next::write(
@@ -234,7 +214,7 @@ pub fn closed_body(
         1,
         codes::CLOSED_LINE + read_names::relation_number(c),
     );
-    Parsed::Got(Place {
+    Ok(Place {
         at: next,
         used: end,
         slip: read_names::slip_of(c, codes::A_RELATION, codes::A_LET),
@@ -251,12 +231,11 @@ pub fn one_side(
     empty: u64,
     irreflexive: u64,
     out: &mut [u64; 4096],
-) -> Parsed
+) -> Result<Place, Fault>
     requires { used + (length s.now - at) + 1 ≤ 4096 }
     ensures { (f g : Tree → Line) (c : Bool) → OneSided f empty c → OneSided g irreflexive c → BodyOutcome (choose (one_side f g)) (Bare c) s.now names.now n at used out.old out.new result }
 {
-    let e = read_next::word_next(s, at, read_names::word_key(read_names::EMPTY_WORD));
-    if e != 0 {
+    if let Some(e) = read_next::word_next(s, at, Keyword::Empty.key()) {
         return expression_then(
             s,
             names,
@@ -270,8 +249,7 @@ pub fn one_side(
             out,
         );
     }
-    let i = read_next::word_next(s, at, read_names::word_key(read_names::IRREFLEXIVE_WORD));
-    if i != 0 {
+    if let Some(i) = read_next::word_next(s, at, Keyword::Irreflexive.key()) {
         return expression_then(
             s,
             names,
@@ -285,7 +263,7 @@ pub fn one_side(
             out,
         );
     }
-    read_tests::wrong(out)
+    read_next::fail(out, Fault::Wrong)
 }
 
 // `E in E`.
@@ -296,11 +274,11 @@ fn two_sides(
     n: usize,
     used: usize,
     out: &mut [u64; 4096],
-) -> Parsed
+) -> Result<Place, Fault>
     requires { used + (length s.now - at) + 1 ≤ 4096 }
     ensures { BodyOutcome include_reader (Bare true) s.now names.now n at used out.old out.new result }
 {
-    let r = expression_then(
+    let g = expression_then(
         s,
         names,
         n,
@@ -311,24 +289,15 @@ fn two_sides(
         },
         codes::INCLUDED,
         out,
-    );
-    let Parsed::Got(g) = r else {
-        return r;
+    )?;
+    let Some(next) = read_next::word_next(s, g.at, Keyword::In.key()) else {
+        return read_next::fail(out, Fault::Wrong);
     };
-    let slip = g.slip;
-    let next = read_next::word_next(s, g.at, read_names::word_key(read_names::IN_WORD));
-    if next == 0 {
-        return read_tests::wrong(out);
-    }
     expression_then(
         s,
         names,
         n,
-        Place {
-            at: next,
-            used: g.used,
-            slip,
-        },
+        Place { at: next, ..g },
         codes::CLAIM_INCLUDE,
         out,
     )
@@ -342,12 +311,11 @@ pub fn claim_body(
     n: usize,
     used: usize,
     out: &mut [u64; 4096],
-) -> Parsed
+) -> Result<Place, Fault>
     requires { used + (length s.now - at) + 1 ≤ 4096 }
     ensures { BodyOutcome (choose claims) (Bare true) s.now names.now n at used out.old out.new result }
 {
-    let i = read_next::word_next(s, at, read_names::word_key(read_names::INCLUDE_WORD));
-    if i != 0 {
+    if let Some(i) = read_next::word_next(s, at, Keyword::Include.key()) {
         return two_sides(s, i, names, n, used, out);
     }
     one_side(

@@ -2,7 +2,7 @@
 // what the reader says of it. Of a query 4,097 bytes are kept: from there on it is too long, whatever follows.
 #![tactic(auto)]
 
-use case_lines::{Case, Cases};
+use case_lines::Cases;
 use streams::STDOUT;
 
 // Writes what the reader says of a query.
@@ -15,17 +15,12 @@ fn answer(text: &[u8]) {
 // Answers the cases of standard input, one after the other.
 fn run(part: &mut [u8], text: &mut [u8]) {
     let mut used = Cases { at: 0, filled: 0 };
-    let mut left: u64 = 1048576;
-    while 0 < left {
-        let c = case_lines::next(part, used, text);
-        match c {
-            Case::Line(n, behind) => {
-                answer(texts::first(text, n));
-                used = behind;
-            }
-            Case::End => return,
-        }
-        left -= 1;
+    for _ in 0..1048576 {
+        let Some(case) = case_lines::next(part, used, text) else {
+            return;
+        };
+        answer(texts::first(text, case.bytes));
+        used = case.behind;
     }
 }
 

@@ -5,6 +5,7 @@ use native.Mathlib.Omega.{arith}
 use mathlib.Core.Path.{◌≡◌, refl, sym, ap, ◌∙◌, subst⁻¹}
 use mathlib.Core.List.{List, []}
 use borrow.Author.Tests.{le-leb, lt-leb}
+use Rattle.std.specs.Prelude.{Result, Ok, Err}
 use Rattle.claims.specs.Tree.{Name, Tree, Line, test_line, rel_line, let_line}
 use Rattle.claims.specs.Names.{tree_uses, uses}
 use Rattle.claims.specs.Query.{lets, test_names, relation_names, claims_of}
@@ -15,11 +16,7 @@ use Rattle.read_names.specs.Keys.{entered}
 use Rattle.read_bodies.specs.Bodies.{Declares, DeclaresLet}
 use Rattle.refusals.specs.declared.Reason.{Reason}
 use Rattle.refusals.specs.declared.Reason.TheVariants.{TooMany}
-use Rattle.read_declarations.specs.declared.LineCheck.{LineCheck}
-use Rattle.read_declarations.specs.declared.LineCheck.TheVariants.{Fine, Faulty}
 use Rattle.read_declarations.specs.declared.LineState.{LineState}
-use Rattle.read_declarations.specs.declared.LineRead.{LineRead}
-use Rattle.read_declarations.specs.declared.LineRead.TheVariants.{Taken, Refused}
 use Rattle.read_declarations.specs.inner.Declaring.{count_of, number_of, most_of, one_if, one_more, declared_read, declared_names, DeclaresName, DeclaresNext}
 use Rattle.read_declarations.proofs.Fates.{fresh_name}
 
@@ -31,29 +28,29 @@ unfolding one_more
 one_more_is of u st i j k e f g = rw (e, f, g)
 
 -- the answer and the table behind a line with the check x, which is c
-module _ (of : ℕ) (st : LineState) (key : Key) (names : List ℕ) (c x : LineCheck) (checks : x ≡ c) where
-  abbrev Answered : LineRead → List ℕ → Type 0
+module _ (of : ℕ) (st : LineState) (key : Key) (names : List ℕ) (c x : Result ℕ Reason) (checks : x ≡ c) where
+  abbrev Answered : Result LineState Reason → List ℕ → Type 0
   Answered l names' = (l ≡ declared_read of st c) × (names' ≡ declared_names key of st c names)
 
-  pub answer_faulty : (w : Reason) → x ≡ Faulty w → Answered (Refused w) names
+  pub answer_faulty : (w : Reason) → x ≡ Err w → Answered (Err w) names
   unfolding declared_read declared_names
-  answer_faulty w f = let e : c ≡ Faulty w = sym checks ∙ f in (rw e, rw e)
+  answer_faulty w f = let e : c ≡ Err w = sym checks ∙ f in (rw e, rw e)
 
-  module _ (u : ℕ) (f : x ≡ Fine u) (m n : ℕ) (me : m ≡ most_of of) (ne : n ≡ count_of of st) where
-    pub answer_crowd : m ≤ n → Answered (Refused TooMany) names
+  module _ (u : ℕ) (f : x ≡ Ok u) (m n : ℕ) (me : m ≡ most_of of) (ne : n ≡ count_of of st) where
+    pub answer_crowd : m ≤ n → Answered (Err TooMany) names
     unfolding declared_read declared_names
     answer_crowd h =
-        let e : c ≡ Fine u = sym checks ∙ f in
+        let e : c ≡ Ok u = sym checks ∙ f in
         let g = le-leb (most_of of) (count_of of st) (omega arith) in
         (rw (e, g), rw (e, g))
 
     pub answer_taken : n < m → (next : LineState) → next ≡ one_more of u st → (k : Key) → k ≡ key → (names' : List ℕ)
-        → names' ≡ entered names st.names k (of + n) → Answered (Taken next) names'
+        → names' ≡ entered names st.names k (of + n) → Answered (Ok next) names'
     unfolding declared_read declared_names
     answer_taken h next i k ke names' j =
-        let e : c ≡ Fine u = sym checks ∙ f in
+        let e : c ≡ Ok u = sym checks ∙ f in
         let g = lt-leb (most_of of) (count_of of st) (omega arith) in
-        (rw (e, g) (ap Taken i), rw (e, g, ← ne, ← ke) j)
+        (rw (e, g) (ap Ok i), rw (e, g, ← ne, ← ke) j)
 
 -- the three kinds of lines that declare a name
 pub test_names_lem : (w : Name) → DeclaresName 16 w (test_line w)

@@ -7,6 +7,7 @@ use mathlib.Core.Bool.{Bool, true, false, cond, ◌&&◌}
 use mathlib.Core.List.{List, [], ◌∷◌}
 use mathlib.Core.Option.{Option, some, none}
 use lib.ListN.{drop}
+use Rattle.std.specs.Prelude.{Result as Returned, Ok, Err}
 use Rattle.claims.specs.Tokens as Notation
 use Rattle.claims.specs.Tokens.{tokens, is_reserved}
 use Rattle.claims.specs.Grammar.{Found, got, wrong, deep}
@@ -17,11 +18,10 @@ use Rattle.claims.specs.Names.{Kind, a_test, a_relation, a_let, Use, declares, u
 use Rattle.claims.specs.Query.{Query}
 use Rattle.claims.specs.Reading.{crowded, read_line}
 use Rattle.read_tests.specs.declared.Place.{Place}
-use Rattle.read_tests.specs.declared.Parsed.{Parsed}
-use Rattle.read_tests.specs.declared.Parsed.TheVariants.{Got, Wrong, Deep}
+use Rattle.read_tests.specs.declared.Fault.{Fault}
+use Rattle.read_tests.specs.declared.Fault.TheVariants.{Wrong, Deep}
 use Rattle.refusals.specs.declared.Reason.{Reason}
 use Rattle.refusals.specs.declared.Reason.TheVariants.{Notation as BadNotation, TooDeep, UnknownName, WrongKind, DeclaredTwice, ReservedName}
-use Rattle.read_declarations.specs.declared.LineCheck.TheVariants.{Fine, Faulty}
 use Rattle.read_names.specs.declared.Slip.{Slip}
 use Rattle.read_names.specs.declared.Slip.TheVariants.{Clean, Unknown, OtherKind, Twice, Reserved}
 use Rattle.read_names.specs.Slips.{slip_by}
@@ -101,10 +101,10 @@ first_name q (u ∷ us) = go (slip q u) (slip_name q u) (first_name q us)
 
 -- what a line is refused for is the cause of its slip
 module _ (u : ℕ) (w : Reason) where
-  told_as : (c : Cause) (v : Reason) → c ≡ cause_of v → Faulty v ≡ Faulty w → some c ≡ some (cause_of w)
+  told_as : (c : Cause) (v : Reason) → c ≡ cause_of v → ◌≡◌ {A = Returned ℕ Reason} (Err v) (Err w) → some c ≡ some (cause_of w)
   told_as c v i e = let j : v ≡ w = cc in ap some (i ∙ ap cause_of j)
 
-  told : (o : Option Cause) → NameSlip o → by_slip u (slip_by o) ≡ Faulty w → o ≡ some (cause_of w)
+  told : (o : Option Cause) → NameSlip o → by_slip u (slip_by o) ≡ Err w → o ≡ some (cause_of w)
   unfolding by_slip cause_of
   told none h e = let z : ◌≡◌ {A = ℕ} 0 1 = cc in absurd (omega arith)
   told (some unknown_name) h e = told_as unknown_name UnknownName refl e
@@ -132,7 +132,7 @@ clean_cause none e = refl
 clean_cause (some c) e = absurd (cause_slips c e)
 
 -- a line without a fault has no slip
-fine_clean : (u v : ℕ) (i : Slip) → by_slip u i ≡ Fine v → (i ≡ Clean) × (v ≡ u)
+fine_clean : (u v : ℕ) (i : Slip) → by_slip u i ≡ Ok v → (i ≡ Clean) × (v ≡ u)
 unfolding by_slip
 fine_clean u v Clean e = (refl, cc)
 fine_clean u v Unknown e = let z : ◌≡◌ {A = ℕ} 0 1 = cc in absurd (omega arith)
@@ -190,25 +190,25 @@ module _ (q : Query) (ended : Bool) (n : ℕ) where
           go none i = rw g
 
 -- a line that stands whole and has no slip, up to g
-pub record Whole (s : List ℕ) (ended : Bool) (r : Parsed) (u : ℕ) : Type 0 where
+pub record Whole (s : List ℕ) (ended : Bool) (r : Returned Place Fault) (u : ℕ) : Type 0 where
   pub place : Place
-  pub reached : r ≡ Got place
+  pub reached : r ≡ Ok place
   pub ends : (at_end (tokens (drop place.at s)) && ended) ≡ true
   pub clean : place.slip ≡ Clean
   pub used : u ≡ place.used
 
-pub fine_whole : (s : List ℕ) (ended : Bool) (r : Parsed) (u : ℕ) → checked s ended r ≡ Fine u → Whole s ended r u
+pub fine_whole : (s : List ℕ) (ended : Bool) (r : Returned Place Fault) (u : ℕ) → checked s ended r ≡ Ok u → Whole s ended r u
 unfolding checked
-fine_whole s ended (Got g) u e = go (at_end (tokens (drop g.at s)) && ended) refl e
+fine_whole s ended (Ok g) u e = go (at_end (tokens (drop g.at s)) && ended) refl e
   where
     go : (a : Bool) → (at_end (tokens (drop g.at s)) && ended) ≡ a
-        → cond a (by_slip g.used g.slip) (Faulty BadNotation) ≡ Fine u → Whole s ended (Got g) u
+        → cond a (by_slip g.used g.slip) (Err BadNotation) ≡ Ok u → Whole s ended (Ok g) u
     go true h f =
         let c = fine_clean g.used u g.slip f in
         record { place = g; reached = refl; ends = h; clean = c.0; used = c.1 }
     go false h f = let z : ◌≡◌ {A = ℕ} 0 1 = cc in absurd (omega arith)
-fine_whole s ended Wrong u e = let z : ◌≡◌ {A = ℕ} 0 1 = cc in absurd (omega arith)
-fine_whole s ended Deep u e = let z : ◌≡◌ {A = ℕ} 0 1 = cc in absurd (omega arith)
+fine_whole s ended (Err Wrong) u e = let z : ◌≡◌ {A = ℕ} 0 1 = cc in absurd (omega arith)
+fine_whole s ended (Err Deep) u e = let z : ◌≡◌ {A = ℕ} 0 1 = cc in absurd (omega arith)
 
 -- a line that does not, or has one
 notation_said : (w : Reason) (n : ℕ) → BadNotation ≡ w → ◌≡◌ {A = Result Line} (refuse notation n) (refuse (cause_of w) n)
@@ -220,13 +220,13 @@ unfolding cause_of
 deep_said w n v = ap (λ x. refuse (cause_of x) n) v
 
 pub faulty_fate : (D : List Notation.Token → Found Line) (K : Line → Type 0) (q : Query) (s : List ℕ) (at used : ℕ) (before after : List ℕ)
-    (ended : Bool) (w : Reason) (r : Parsed) → checked s ended r ≡ Faulty w → BodySays D K q s at used before after r
+    (ended : Bool) (w : Reason) (r : Returned Place Fault) → checked s ended r ≡ Err w → BodySays D K q s at used before after r
     → (n : ℕ) → read_line q n (whole_line ended (D (tokens (drop at s)))) ≡ refuse (cause_of w) n
 unfolding checked
-faulty_fate D K q s at used before after ended w (Got g) e o n =
+faulty_fate D K q s at used before after ended w (Ok g) e o n =
     go (at_end (tokens (drop g.at s)) && ended) refl e
   where
-    go : (a : Bool) → (at_end (tokens (drop g.at s)) && ended) ≡ a → cond a (by_slip g.used g.slip) (Faulty BadNotation) ≡ Faulty w
+    go : (a : Bool) → (at_end (tokens (drop g.at s)) && ended) ≡ a → cond a (by_slip g.used g.slip) (Err BadNotation) ≡ Err w
         → read_line q n (whole_line ended (D (tokens (drop at s)))) ≡ refuse (cause_of w) n
     go true h f =
         fate_slip q ended n (D (tokens (drop at s))) o.line (tokens (drop g.at s)) o.read h (cause_of w)
@@ -234,10 +234,10 @@ faulty_fate D K q s at used before after ended w (Got g) e o n =
     go false h f =
         let v : BadNotation ≡ w = cc in
         fate_unended q ended n (D (tokens (drop at s))) o.line (tokens (drop g.at s)) o.read h ∙ notation_said w n v
-faulty_fate D K q s at used before after ended w Wrong e o n =
+faulty_fate D K q s at used before after ended w (Err Wrong) e o n =
     let v : BadNotation ≡ w = cc in
     fate_wrong q ended n (D (tokens (drop at s))) o ∙ notation_said w n v
-faulty_fate D K q s at used before after ended w Deep e o n =
+faulty_fate D K q s at used before after ended w (Err Deep) e o n =
     let v : TooDeep ≡ w = cc in
     fate_deep q ended n (D (tokens (drop at s))) o ∙ deep_said w n v
 

@@ -8,6 +8,7 @@ use mathlib.Core.Bool.{Bool, true, false, not, ◌&&◌}
 use mathlib.Core.List.{List}
 use lib.ListN.{drop}
 use borrow.Author.Tests.{not-true, not-false}
+use Rattle.std.specs.Prelude.{Result, Ok, Err}
 use Rattle.claims.specs.Tokens.{tokens}
 use Rattle.claims.specs.Lines.{at_end}
 use Rattle.read_tokens.specs.declared.Token.{Token}
@@ -19,11 +20,9 @@ use Rattle.read_tokens.proofs.Tokens.{Scanned, tokens_scanned}
 use Rattle.read_bodies.specs.Bodies.{word_of}
 use Rattle.read_bodies.proofs.NextWords.{NoWord}
 use Rattle.read_tests.specs.declared.Place.{Place}
-use Rattle.read_tests.specs.declared.Parsed.{Parsed}
-use Rattle.read_tests.specs.declared.Parsed.TheVariants.{Got}
+use Rattle.read_tests.specs.declared.Fault.{Fault}
+use Rattle.refusals.specs.declared.Reason.{Reason}
 use Rattle.refusals.specs.declared.Reason.TheVariants.{Notation}
-use Rattle.read_declarations.specs.declared.LineCheck.{LineCheck}
-use Rattle.read_declarations.specs.declared.LineCheck.TheVariants.{Faulty}
 use Rattle.read_declarations.specs.inner.Kinds.{by_slip, checked}
 
 -- the line's end, by the token that is found
@@ -67,11 +66,11 @@ no_key s at t e n = go t n ∙ ap word_of e
     go End n = refl
 
 -- the check of a line that was read up to p
-module _ (s : List ℕ) (ended : Bool) (r : Parsed) (p : Place) (got : r ≡ Got p) (b : Bool) (e : b ≡ (at_end (tokens (drop p.at s)) && ended)) where
-  pub checked_unended : not b ≡ true → Faulty Notation ≡ checked s ended r
+module _ (s : List ℕ) (ended : Bool) (r : Result Place Fault) (p : Place) (got : r ≡ Ok p) (b : Bool) (e : b ≡ (at_end (tokens (drop p.at s)) && ended)) where
+  pub checked_unended : not b ≡ true → Err Notation ≡ checked s ended r
   unfolding checked
   checked_unended h = rw (got, ← e, not-true b h)
 
-  pub checked_whole : not b ≡ false → (c : LineCheck) → c ≡ by_slip p.used p.slip → c ≡ checked s ended r
+  pub checked_whole : not b ≡ false → (c : Result ℕ Reason) → c ≡ by_slip p.used p.slip → c ≡ checked s ended r
   unfolding checked
   checked_whole h c f = rw (got, ← e, not-false b h, f)

@@ -1,7 +1,7 @@
 -- The reader's state between two lines: what is known of the lines read so far, and what the reader of a line promises of the next.
 -- (Document 01, "The query".)
 -- Assumes nothing.
-use Rattle.std.specs.Prelude.{ℕ, zero, suc, ◌+◌, ◌≤◌, ◌<◌, ◌≡◌, Bool, true, false, List, [], ◌∷◌, ◌++◌, length}
+use Rattle.std.specs.Prelude.{Result as Returned, Ok, Err, ℕ, zero, suc, ◌+◌, ◌≤◌, ◌<◌, ◌≡◌, Bool, true, false, List, [], ◌∷◌, ◌++◌, length}
 use Rattle.std.proofs.Math.Option.{some, none}
 use Rattle.std.proofs.lemmas.List.Edits.{sets}
 use Rattle.kat.specs.Lists.{every}
@@ -17,8 +17,7 @@ use Rattle.codes.specs.Codes.{code_of, query_codes, MOST-TESTS, MOST-RELATIONS, 
 use Rattle.read_tokens.specs.Scan.{word_byte, key_of}
 use Rattle.read_names.specs.Keys.{find_in}
 use Rattle.read_declarations.specs.declared.LineState.{LineState}
-use Rattle.read_declarations.specs.declared.LineRead.{LineRead}
-use Rattle.read_declarations.specs.declared.LineRead.TheVariants.{Taken, Refused}
+use Rattle.refusals.specs.declared.Reason.{Reason}
 use Rattle.refusals.specs.Causes.{cause_of}
 
 -- line n after the lines of q: nothing may stand behind a claim
@@ -70,22 +69,22 @@ pub record Took (q : Query) (raw : RawLine) (st next : LineState) (before names 
   pub short : next.used ≤ st.used + length raw.bytes
 
 -- the line is taken, or refused for the reason given
-abbrev pub LineSays : Query → RawLine → LineState → List ℕ → List ℕ → List ℕ → LineRead → Type 0
-LineSays q raw st before names out (Taken next) = Took q raw st next before names out
-LineSays q raw st before names out (Refused c) = (n : ℕ) → line_fate q n raw ≡ refuse (cause_of c) n
+abbrev pub LineSays : Query → RawLine → LineState → List ℕ → List ℕ → List ℕ → Returned LineState Reason → Type 0
+LineSays q raw st before names out (Ok next) = Took q raw st next before names out
+LineSays q raw st before names out (Err c) = (n : ℕ) → line_fate q n raw ≡ refuse (cause_of c) n
 
 -- a refused line leaves the table of names as it was
-abbrev pub KeepsNames : LineRead → List ℕ → List ℕ → Type 0
-KeepsNames (Taken next) names names_after = Unit {0}
-KeepsNames (Refused c) names names_after = names_after ≡ names
+abbrev pub KeepsNames : Returned LineState Reason → List ℕ → List ℕ → Type 0
+KeepsNames (Ok next) names names_after = Unit {0}
+KeepsNames (Err c) names names_after = names_after ≡ names
 
 -- a refused line leaves no code, of its own or of the lines before it
-abbrev pub LeavesNone : LineRead → List ℕ → Type 0
-LeavesNone (Taken next) out = Unit {0}
-LeavesNone (Refused c) out = out ≡ zeros 4096
+abbrev pub LeavesNone : Returned LineState Reason → List ℕ → Type 0
+LeavesNone (Ok next) out = Unit {0}
+LeavesNone (Err c) out = out ≡ zeros 4096
 
 -- so it is after the lines of every query, where the state, the table and the array are those after them
-abbrev pub ReadsLine : RawLine → LineState → List ℕ → List ℕ → LineRead → List ℕ → List ℕ → Type 0
+abbrev pub ReadsLine : RawLine → LineState → List ℕ → List ℕ → Returned LineState Reason → List ℕ → List ℕ → Type 0
 ReadsLine raw st names out r names_after out_after =
     LeavesNone r out_after
     × KeepsNames r names names_after

@@ -14,7 +14,7 @@ ghost use Rattle.read_declarations.specs.inner.Declaring.{count_of, most_of, one
 ghost use Rattle.read_declarations.specs.inner.Kinds.{by_slip, checked, plain_read};
 
 use read_names::Slip;
-use read_tests::Parsed;
+use read_tests::{Fault, Place};
 use read_tokens::{Key, Token};
 use refusals::Reason;
 
@@ -29,20 +29,6 @@ pub struct LineState {
     pub claimed: bool,
 }
 
-// A line is taken, or refused.
-#[derive(Clone, Copy)]
-pub enum LineRead {
-    Taken(LineState),
-    Refused(Reason),
-}
-
-// A line that stands whole and has no slip, with the number of codes behind it; or why it is refused.
-#[derive(Clone, Copy)]
-pub enum LineCheck {
-    Fine(usize),
-    Faulty(Reason),
-}
-
 // No token is left, and byte 10 ends the line.
 fn ends(s: &[u8], at: usize, ended: bool) -> bool
     ensures { result ≡ (at_end (tokens (drop at s.now)) && ended) }
@@ -54,52 +40,52 @@ fn ends(s: &[u8], at: usize, ended: bool) -> bool
     ended
 }
 
-// A line that stands whole, by the first slip of its names.
-fn by_slip(slip: Slip, used: usize) -> LineCheck
+// A line that stands whole, by the first slip of its names: the number of codes behind it, or why it is refused.
+fn by_slip(slip: Slip, used: usize) -> Result<usize, Reason>
     ensures { result ≡ by_slip used slip }
 {
     match slip {
-        Slip::Clean => LineCheck::Fine(used),
-        Slip::Unknown => LineCheck::Faulty(Reason::UnknownName),
-        Slip::OtherKind => LineCheck::Faulty(Reason::WrongKind),
-        Slip::Twice => LineCheck::Faulty(Reason::DeclaredTwice),
-        Slip::Reserved => LineCheck::Faulty(Reason::ReservedName),
+        Slip::Clean => Ok(used),
+        Slip::Unknown => Err(Reason::UnknownName),
+        Slip::OtherKind => Err(Reason::WrongKind),
+        Slip::Twice => Err(Reason::DeclaredTwice),
+        Slip::Reserved => Err(Reason::ReservedName),
     }
 }
 
 // The whole line: its end, then its names.
-fn check(s: &[u8], r: Parsed, ended: bool) -> LineCheck
+fn check(s: &[u8], r: Result<Place, Fault>, ended: bool) -> Result<usize, Reason>
     ensures { result ≡ checked s.now ended r }
 {
     match r {
-        Parsed::Got(p) => {
+        Ok(p) => {
             if !ends(s, p.at, ended) {
-                return LineCheck::Faulty(Reason::Notation);
+                return Err(Reason::Notation);
             }
             let slip = p.slip;
             by_slip(slip, p.used)
         }
-        Parsed::Wrong => LineCheck::Faulty(Reason::Notation),
-        Parsed::Deep => LineCheck::Faulty(Reason::TooDeep),
+        Err(Fault::Wrong) => Err(Reason::Notation),
+        Err(Fault::Deep) => Err(Reason::TooDeep),
     }
 }
 
 // A line that declares nothing, which may be the claim.
-pub fn plain(s: &[u8], r: Parsed, ended: bool, st: LineState, claim: bool) -> LineRead
+pub fn plain(
+    s: &[u8],
+    r: Result<Place, Fault>,
+    ended: bool,
+    st: LineState,
+    claim: bool,
+) -> Result<LineState, Reason>
     ensures { result ≡ plain_read st claim (checked s.now ended r) }
 {
-    let c = check(s, r, ended);
-    match c {
-        LineCheck::Fine(used) => LineRead::Taken(LineState {
-            used,
-            names: st.names,
-            tests: st.tests,
-            relations: st.relations,
-            lets: st.lets,
-            claimed: st.claimed | claim,
-        }),
-        LineCheck::Faulty(why) => LineRead::Refused(why),
-    }
+    let used = check(s, r, ended)?;
+    Ok(LineState {
+        used,
+        claimed: st.claimed | claim,
+        ..st
+    })
 }
 
 // The key of the word that stands next.
@@ -156,7 +142,7 @@ fn one_more(st: LineState, of: u64, used: usize) -> LineState
         tests: st.tests + one_if(of, codes::A_TEST),
         relations: st.relations + one_if(of, codes::A_RELATION),
         lets: st.lets + one_if(of, codes::A_LET),
-        claimed: st.claimed,
+        ..st
     }
 }
 
@@ -164,25 +150,20 @@ fn one_more(st: LineState, of: u64, used: usize) -> LineState
 pub fn declare(
     s: &[u8],
     at: usize,
-    r: Parsed,
+    r: Result<Place, Fault>,
     ended: bool,
     st: LineState,
     of: u64,
     names: &mut [u64; 192],
-) -> LineRead
+) -> Result<LineState, Reason>
     requires { Small st × (of ≤ A-LET) }
     ensures { (result ≡ declared_read of st (checked s.now ended r)) × (names.new ≡ declared_names (word_of (token_at s.now at)) of st (checked s.now ended r) names.old) }
 {
-    let c = check(s, r, ended);
-    match c {
-        LineCheck::Fine(used) => {
-            let n = count_of(st, of);
-            if most_of(of) <= n {
-                return LineRead::Refused(Reason::TooMany);
-            }
-            read_names::enter(names, st.names, word_at(s, at), of + (n as u64));
-            LineRead::Taken(one_more(st, of, used))
-        }
-        LineCheck::Faulty(why) => LineRead::Refused(why),
+    let used = check(s, r, ended)?;
+    let n = count_of(st, of);
+    if most_of(of) <= n {
+        return Err(Reason::TooMany);
     }
+    read_names::enter(names, st.names, word_at(s, at), of + (n as u64));
+    Ok(one_more(st, of, used))
 }

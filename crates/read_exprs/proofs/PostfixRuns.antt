@@ -2,7 +2,7 @@
 -- Assumes nothing.
 use Prim.Native.Nat.{ℕ, zero, suc, ◌+◌, ◌*◌, ◌-◌, ◌≤◌, ◌<◌}
 use native.Mathlib.Omega.{arith}
-use mathlib.Core.Path.{◌≡◌, refl, sym, ap, ◌∙◌, subst}
+use mathlib.Core.Path.{◌≡◌, refl, sym, ap, ◌∙◌}
 use mathlib.Core.Bool.{false}
 use mathlib.Core.List.{List, [], ◌∷◌, ◌++◌, append-nil, append_assoc}
 use lib.ListN.{length, drop, set, length-append}
@@ -14,74 +14,66 @@ use Rattle.claims.specs.Tree.{Tree, star, plus, opt}
 use Rattle.claims.specs.Names.{tree_uses}
 use Rattle.codes.specs.Codes.{STAR, PLUS, OPTIONAL, tree_codes}
 use Rattle.read_tokens.proofs.Tokens.{ScannedMark}
+use Rattle.std.specs.Prelude.{Some, None, Result, Ok, Err}
 use Rattle.read_tests.specs.declared.Place.{Place}
 use Rattle.read_exprs.specs.declared.Sign.{Sign}
-use Rattle.read_tests.specs.declared.Parsed.{Parsed}
-use Rattle.read_tests.specs.declared.Parsed.TheVariants.{Got}
+use Rattle.read_tests.specs.declared.Fault.{Fault}
 use Rattle.read_next.specs.Next.{mark_next}
 use Rattle.read_tests.specs.Places.{Room, Read, TreeOutcome, Finds}
 use Rattle.read_exprs.specs.inner.Postfix.{Wraps, SignStands, SignNext, PostfixesNext}
 use Rattle.read_next.proofs.Stores.{stores_then}
 use Rattle.read_tests.proofs.Told.{told_store, told_as}
 use Rattle.read_next.proofs.Next.{mark_stands, mark_missing, goes_on_lem, passed, one_fewer}
-use Rattle.read_tests.proofs.Outcomes.{NoTree, handed_on}
+use Rattle.read_tests.proofs.Outcomes.{handed_on}
 
 -- a postfix with its mark b and its code c stands next
-module _ (s : List ℕ) (at b next c : ℕ) (w : Tree → Tree) (ws : Wraps w (c ∷ [])) (nonzero : c ≡ 0 → ⊥) (m : ScannedMark s at b next)
+module _ (s : List ℕ) (at b next c : ℕ) (w : Tree → Tree) (ws : Wraps w (c ∷ [])) (m : ScannedMark s at b next)
     (step : (f d : ℕ) (e : Tree) → postfix_more (suc f) d e (tokens (drop at s)) ≡ postfix_more f d (w e) (past (tokens (drop at s)))) where
-  sign_stands : SignNext s at (record { at = next; code = c })
+  sign_stands : SignStands s at (record { at = next; code = c })
   sign_stands =
       record {
-        none = λ z. absurd (nonzero z);
-        some =
-            λ _. record {
-              wrapped = w;
-              wraps = ws;
-              read = λ f d e. step f d e ∙ ap (λ ts. postfix_more f d (w e) ts) (passed s at b next m);
-              after = m.after;
-              within = m.within;
-              fewer = omega (arith, one_fewer s at b next m);
-            };
+        wrapped = w;
+        wraps = ws;
+        read = λ f d e. step f d e ∙ ap (λ ts. postfix_more f d (w e) ts) (passed s at b next m);
+        after = m.after;
+        within = m.within;
+        fewer = omega (arith, one_fewer s at b next m);
       }
 
 -- the tests in the order in which they are made
-module _ (s : List ℕ) (at i : ℕ) (asked : i ≡ mark_next s at (byte "*")) where
-  pub sign_star : (i ≡ 0 → ⊥) → SignNext s at (record { at = i; code = STAR })
+module _ (s : List ℕ) (at : ℕ) where
+  pub sign_star : (i : ℕ) → Some i ≡ mark_next s at (byte "*") → SignStands s at (record { at = i; code = STAR })
   unfolding postfix_more tree_codes tree_uses
-  sign_star h =
-      let m = mark_stands s at (byte "*") i asked h in
-      sign_stands s at (byte "*") i STAR star (record { codes = λ q e. refl; uses = λ e. refl }) (λ z. omega arith) m
+  sign_star i h =
+      let m = mark_stands s at (byte "*") i h in
+      sign_stands s at (byte "*") i STAR star (record { codes = λ q e. refl; uses = λ e. refl }) m
       (λ f d e. rw (goes_on_lem s at (byte "*") i m, postfix_more))
 
-  module _ (no : i ≡ 0) (j : ℕ) (next : j ≡ mark_next s at (byte "+")) where
+  module _ (no : None ≡ mark_next s at (byte "*")) where
     no_star : goes_on (byte "*") (tokens (drop at s)) ≡ false
-    no_star = mark_missing s at (byte "*") i asked no
+    no_star = mark_missing s at (byte "*") no
 
-    pub sign_plus : (j ≡ 0 → ⊥) → SignNext s at (record { at = j; code = PLUS })
+    pub sign_plus : (i : ℕ) → Some i ≡ mark_next s at (byte "+") → SignStands s at (record { at = i; code = PLUS })
     unfolding postfix_more tree_codes tree_uses
-    sign_plus h =
-        let m = mark_stands s at (byte "+") j next h in
-        sign_stands s at (byte "+") j PLUS plus (record { codes = λ q e. refl; uses = λ e. refl }) (λ z. omega arith) m
-        (λ f d e. rw (no_star, goes_on_lem s at (byte "+") j m, postfix_more))
+    sign_plus i h =
+        let m = mark_stands s at (byte "+") i h in
+        sign_stands s at (byte "+") i PLUS plus (record { codes = λ q e. refl; uses = λ e. refl }) m
+        (λ f d e. rw (no_star, goes_on_lem s at (byte "+") i m, postfix_more))
 
-    module _ (nor : j ≡ 0) (k : ℕ) (last : k ≡ mark_next s at (byte "?")) where
+    module _ (nor : None ≡ mark_next s at (byte "+")) where
       no_plus : goes_on (byte "+") (tokens (drop at s)) ≡ false
-      no_plus = mark_missing s at (byte "+") j next nor
+      no_plus = mark_missing s at (byte "+") nor
 
-      pub sign_opt : (k ≡ 0 → ⊥) → SignNext s at (record { at = k; code = OPTIONAL })
+      pub sign_opt : (i : ℕ) → Some i ≡ mark_next s at (byte "?") → SignStands s at (record { at = i; code = OPTIONAL })
       unfolding postfix_more tree_codes tree_uses
-      sign_opt h =
-          let m = mark_stands s at (byte "?") k last h in
-          sign_stands s at (byte "?") k OPTIONAL opt (record { codes = λ q e. refl; uses = λ e. refl }) (λ z. omega arith) m
-          (λ f d e. rw (no_star, no_plus, goes_on_lem s at (byte "?") k m, postfix_more))
+      sign_opt i h =
+          let m = mark_stands s at (byte "?") i h in
+          sign_stands s at (byte "?") i OPTIONAL opt (record { codes = λ q e. refl; uses = λ e. refl }) m
+          (λ f d e. rw (no_star, no_plus, goes_on_lem s at (byte "?") i m, postfix_more))
 
-      pub sign_none : (to : ℕ) → k ≡ 0 → SignNext s at (record { at = to; code = 0 })
+      pub sign_none : None ≡ mark_next s at (byte "?") → SignNext s at None
       unfolding postfix_more
-      sign_none to h =
-          record {
-            none = λ _ f d e. rw (no_star, no_plus, mark_missing s at (byte "?") k last h, postfix_more);
-            some = λ z. absurd (z refl);
-          }
+      sign_none h f d e = rw (no_star, no_plus, mark_missing s at (byte "?") h, postfix_more)
 
 -- the postfixes up to `at` were read, and their codes stored
 pub record Wrapping (s : List ℕ) (p : Place) (before : List ℕ) (at used : ℕ) (now : List ℕ) : Type 0 where
@@ -114,9 +106,9 @@ module _ (s : List ℕ) (p : Place) (before : List ℕ) where
         fewer = omega arith;
       }
 
-  module _ (at used : ℕ) (now : List ℕ) (w : Wrapping s p before at used now) (r : Sign) (n : SignNext s at r) where
-    pub wrapping_end : r.code ≡ 0 → PostfixesNext s p before now (record { at = at; used = used; slip = p.slip })
-    wrapping_end z =
+  module _ (at used : ℕ) (now : List ℕ) (w : Wrapping s p before at used now) where
+    pub wrapping_end : SignNext s at None → PostfixesNext s p before now (record { at = at; used = used; slip = p.slip })
+    wrapping_end none =
         record {
           wrapped = w.wrapped;
           codes = w.codes;
@@ -133,12 +125,9 @@ module _ (s : List ℕ) (p : Place) (before : List ℕ) where
       where
         ends : (g d : ℕ) (e : Tree) → 8 * length (tokens (drop at s)) + 1 ≤ g → postfix_more g d e (tokens (drop at s)) ≡ got e (tokens (drop at s))
         ends zero d e m = absurd (omega arith)
-        ends (suc g) d e m = n.none z g d e
+        ends (suc g) d e m = none g d e
 
-    module _ (f : r.code ≡ 0 → ⊥) where
-      stands : SignStands s at r
-      stands = n.some f
-
+    module _ (r : Sign) (stands : SignStands s at r) where
       pub sign_room : p.used + (length s - p.at) ≤ 4096 → used < 4096
       sign_room h = let t = stands in omega (arith, t.after, t.within, w.room)
 
@@ -187,26 +176,22 @@ through d ts x y h k (suc n) l =
     postfix_step n d ts ∙ ap (λ z. and_then z (λ e us. postfix_more n d e us)) (h n (omega arith)) ∙ k n (omega arith)
 
 -- the ways out, over the answers of the functions that are called
-module _ (d : ℕ) (s names : List ℕ) (n : ℕ) (p : Place) (before : List ℕ) (x : Parsed) (mid : List ℕ)
-    (o : TreeOutcome (Finds factor_of d 1) s names n p before mid x) where
-  abbrev Factor : Parsed → Type 0
+module _ (d : ℕ) (s names : List ℕ) (n : ℕ) (p : Place) (before mid : List ℕ) where
+  abbrev Factor : Result Place Fault → Type 0
   Factor = TreeOutcome (Finds factor_of d 1) s names n p before mid
 
-  pub postfix_fault : NoTree x → TreeOutcome (Finds postfix_of d 2) s names n p before mid x
-  postfix_fault none =
+  pub postfix_fault : (e : Fault) → Factor (Err e) → TreeOutcome (Finds postfix_of d 2) s names n p before mid (Err e)
+  postfix_fault e o =
       handed_on Factor (TreeOutcome (Finds postfix_of d 2) s names n p before mid)
       (λ h. (through d (tokens (drop p.at s)) wrong wrong h.0 (λ m l. refl), h.1))
       (λ h. (through d (tokens (drop p.at s)) deep deep h.0 (λ m l. refl), h.1))
-      x none o
+      e o
 
-  module _ (r : Place) (is : x ≡ Got r) where
-    abbrev there : Read (Finds factor_of d 1) tree_codes tree_uses s names n p before mid r
-    there = subst Factor is o
-
+  module _ (r : Place) (there : Read (Finds factor_of d 1) tree_codes tree_uses s names n p before mid r) where
     pub postfix_room : Room s p → Room s r
     postfix_room h = let v = there.moved in omega (arith, v.room)
 
-    pub postfix_got : (after : List ℕ) (e : Place) → PostfixesNext s r mid after e → TreeOutcome (Finds postfix_of d 2) s names n p before after (Got e)
+    pub postfix_got : (after : List ℕ) (e : Place) → PostfixesNext s r mid after e → TreeOutcome (Finds postfix_of d 2) s names n p before after (Ok e)
     postfix_got after e w =
         let t = there.tree in
         let v = there.moved in

@@ -15,8 +15,9 @@ use Rattle.claims.specs.Tree.{TestTree, Tree, name, tested, union, sequence}
 use Rattle.claims.specs.Names.{test_uses, tree_uses}
 use Rattle.claims.specs.Query.{Query}
 use Rattle.codes.specs.Codes.{TESTED, UNION, SEQUENCE, test_codes, tree_codes}
+use Rattle.std.specs.Prelude.{None, Result}
 use Rattle.read_tests.specs.declared.Place.{Place}
-use Rattle.read_tests.specs.declared.Parsed.{Parsed}
+use Rattle.read_tests.specs.declared.Fault.{Fault}
 use Rattle.read_next.specs.Next.{mark_next}
 use Rattle.read_tests.specs.Places.{TreeOutcome, Finds, Is}
 use Rattle.read_next.proofs.Next.{mark_missing}
@@ -98,15 +99,15 @@ square_bracket d =
     }
 
 -- a name
-pub factor_named : (d : ℕ) (s names : List ℕ) (n : ℕ) (p : Place) (before after : List ℕ) (next : ℕ) → mark_next s p.at (byte "(") ≡ 0
-    → next ≡ mark_next s p.at (byte "[") → next ≡ 0 → (x : Parsed) → TreeOutcome (Is (name_next name)) s names n p before after x
+pub factor_named : (d : ℕ) (s names : List ℕ) (n : ℕ) (p : Place) (before after : List ℕ) → mark_next s p.at (byte "(") ≡ None
+    → None ≡ mark_next s p.at (byte "[") → (x : Result Place Fault) → TreeOutcome (Is (name_next name)) s names n p before after x
     → TreeOutcome (Finds factor_of d 1) s names n p before after x
-factor_named d s names n p before after next round asked z x o =
-    round_none factors d s p (mark_next s p.at (byte "(")) refl round (Is (name_next name))
-    (λ y h f. rw (mark_missing s p.at (byte "[") next asked z, leaf_of) h) names n before after x o
+factor_named d s names n p before after round asked x o =
+    round_none factors d s p (sym round) (Is (name_next name))
+    (λ y h f. rw (mark_missing s p.at (byte "[") asked, leaf_of) h) names n before after x o
 
 -- E with no open bracket
-pub expression_read : (s names : List ℕ) (n : ℕ) (p : Place) (before after : List ℕ) (x : Parsed)
+pub expression_read : (s names : List ℕ) (n : ℕ) (p : Place) (before after : List ℕ) (x : Result Place Fault)
     → TreeOutcome (Finds union_of 0 4) s names n p before after x → TreeOutcome (Is expression) s names n p before after x
 unfolding expression
 expression_read s names n p before after x o = outcome_of_all union_of tree_codes tree_uses s names n p before after x o

@@ -4,7 +4,7 @@
 // opened, and the bytes left.
 #![tactic(auto)]
 
-ghost use Rattle.std.specs.Prelude.{◌≡◌, ◌≤◌};
+ghost use Rattle.std.specs.Prelude.{None, ◌≡◌, ◌≤◌};
 ghost use Rattle.claims.specs.Lines.{expression};
 ghost use Rattle.read_next.specs.Next.{mark_next};
 ghost use Rattle.read_tests.specs.Places.{Room, TreeOutcome, Is, Finds, opened};
@@ -12,10 +12,10 @@ ghost use Rattle.claims.specs.Grammar.{union_of, sequence_of, postfix_of, factor
 ghost use Rattle.claims.specs.Tree.{name};
 ghost use Rattle.read_exprs.specs.inner.Postfix.{SignNext, PostfixesNext};
 
-use read_tests::{Parsed, Place};
+use read_tests::{Fault, Place};
 use read_tokens::Token;
 
-// A postfix: its code, 0 for none, and the position behind it.
+// A postfix: its code, and the position behind it.
 #[derive(Clone, Copy)]
 struct Sign {
     at: usize,
@@ -24,31 +24,29 @@ struct Sign {
 
 // E, where `depth` more round brackets may be opened.
 #[cycle(factor_postfix_sequence_union)]
-fn union(s: &[u8], names: &[u64], n: usize, depth: usize, p: Place, out: &mut [u64; 4096]) -> Parsed
+fn union(
+    s: &[u8],
+    names: &[u64],
+    n: usize,
+    depth: usize,
+    p: Place,
+    out: &mut [u64; 4096],
+) -> Result<Place, Fault>
     requires { (depth ≤ 32) × Room s.now p }
     ensures { TreeOutcome (Finds union_of (opened depth) 4) s.now names.now n p out.old out.new result }
 {
     let mut place = p;
     let mut more = 0;
     loop {
-        let r = sequence(s, names, n, depth, place, out);
-        let Parsed::Got(got) = r else {
-            return r;
-        };
-        let slip = got.slip;
+        let got = sequence(s, names, n, depth, place, out)?;
         let used = read_next::write(out, got.used, more, codes::UNION);
-        let next = read_next::mark_next(s, got.at, b'|');
-        if next == 0 {
-            return Parsed::Got(Place {
-                at: got.at,
-                used,
-                slip,
-            });
-        }
+        let Some(next) = read_next::mark_next(s, got.at, b'|') else {
+            return Ok(Place { used, ..got });
+        };
         place = Place {
             at: next,
             used,
-            slip,
+            ..got
         };
         more = 1;
     }
@@ -63,31 +61,22 @@ fn sequence(
     depth: usize,
     p: Place,
     out: &mut [u64; 4096],
-) -> Parsed
+) -> Result<Place, Fault>
     requires { (depth ≤ 32) × Room s.now p }
     ensures { TreeOutcome (Finds sequence_of (opened depth) 3) s.now names.now n p out.old out.new result }
 {
     let mut place = p;
     let mut more = 0;
     loop {
-        let r = postfix(s, names, n, depth, place, out);
-        let Parsed::Got(got) = r else {
-            return r;
-        };
-        let slip = got.slip;
+        let got = postfix(s, names, n, depth, place, out)?;
         let used = read_next::write(out, got.used, more, codes::SEQUENCE);
-        let next = read_next::mark_next(s, got.at, b';');
-        if next == 0 {
-            return Parsed::Got(Place {
-                at: got.at,
-                used,
-                slip,
-            });
-        }
+        let Some(next) = read_next::mark_next(s, got.at, b';') else {
+            return Ok(Place { used, ..got });
+        };
         place = Place {
             at: next,
             used,
-            slip,
+            ..got
         };
         more = 1;
     }
@@ -102,15 +91,12 @@ fn postfix(
     depth: usize,
     p: Place,
     out: &mut [u64; 4096],
-) -> Parsed
+) -> Result<Place, Fault>
     requires { (depth ≤ 32) × Room s.now p }
     ensures { TreeOutcome (Finds postfix_of (opened depth) 2) s.now names.now n p out.old out.new result }
 {
-    let r = factor(s, names, n, depth, p, out);
-    let Parsed::Got(got) = r else {
-        return r;
-    };
-    Parsed::Got(postfixes(s, got, out))
+    let got = factor(s, names, n, depth, p, out)?;
+    Ok(postfixes(s, got, out))
 }
 
 // A name, a T in square brackets, or an E in round ones.
@@ -122,124 +108,101 @@ fn factor(
     depth: usize,
     p: Place,
     out: &mut [u64; 4096],
-) -> Parsed
+) -> Result<Place, Fault>
     requires { (depth ≤ 32) × Room s.now p }
     ensures { TreeOutcome (Finds factor_of (opened depth) 1) s.now names.now n p out.old out.new result }
 {
-    let next = read_next::mark_next(s, p.at, b'(');
-    if next == 0 {
+    let Some(next) = read_next::mark_next(s, p.at, b'(') else {
         return leaf(s, names, n, depth, p, out);
-    }
+    };
     if depth == 0 {
-        return read_tests::deep(out);
+        return read_next::fail(out, Fault::Deep);
     }
-    let slip = p.slip;
-    let inner = Place {
-        at: next,
-        used: p.used,
-        slip,
+    let inner = Place { at: next, ..p };
+    let got = union(s, names, n, depth - 1, inner, out)?;
+    let Some(end) = read_next::mark_next(s, got.at, b')') else {
+        return read_next::fail(out, Fault::Wrong);
     };
-    let r = union(s, names, n, depth - 1, inner, out);
-    let Parsed::Got(got) = r else {
-        return r;
-    };
-    let found = got.slip;
-    let end = read_next::mark_next(s, got.at, b')');
-    if end == 0 {
-        return read_tests::wrong(out);
-    }
-    Parsed::Got(Place {
-        at: end,
-        used: got.used,
-        slip: found,
-    })
+    Ok(Place { at: end, ..got })
 }
 
 // A factor that no round bracket begins: a name, or a T in square brackets.
-fn leaf(s: &[u8], names: &[u64], n: usize, depth: usize, p: Place, out: &mut [u64; 4096]) -> Parsed
+fn leaf(
+    s: &[u8],
+    names: &[u64],
+    n: usize,
+    depth: usize,
+    p: Place,
+    out: &mut [u64; 4096],
+) -> Result<Place, Fault>
     requires depth_bound { (depth ≤ 32) × Room s.now p }
-    requires at_value { mark_next s.now p.at 40 ≡ 0 }
+    requires at_value { mark_next s.now p.at 40 ≡ None }
     ensures { TreeOutcome (Finds factor_of (opened depth) 1) s.now names.now n p out.old out.new result }
 {
-    let next = read_next::mark_next(s, p.at, b'[');
-    if next == 0 {
+    let Some(next) = read_next::mark_next(s, p.at, b'[') else {
         return named(s, names, n, p, out);
-    }
-    let slip = p.slip;
-    let inner = Place {
-        at: next,
-        used: p.used,
-        slip,
     };
-    let r = read_tests::union(s, names, n, depth, inner, out);
-    let Parsed::Got(got) = r else {
-        return r;
+    let inner = Place { at: next, ..p };
+    let got = read_tests::union(s, names, n, depth, inner, out)?;
+    let Some(end) = read_next::mark_next(s, got.at, b']') else {
+        return read_next::fail(out, Fault::Wrong);
     };
-    let found = got.slip;
-    let end = read_next::mark_next(s, got.at, b']');
-    if end == 0 {
-        return read_tests::wrong(out);
-    }
     let used = read_next::write(out, got.used, 1, codes::TESTED);
-    Parsed::Got(Place {
+    Ok(Place {
         at: end,
         used,
-        slip: found,
+        ..got
     })
 }
 
 // The name of a relation or a let.
-fn named(s: &[u8], names: &[u64], n: usize, p: Place, out: &mut [u64; 4096]) -> Parsed
+fn named(s: &[u8], names: &[u64], n: usize, p: Place, out: &mut [u64; 4096]) -> Result<Place, Fault>
     requires { Room s.now p }
     ensures { TreeOutcome (Is (name_next name)) s.now names.now n p out.old out.new result }
 {
     let used = p.used;
-    let slip = p.slip;
     let t = read_tokens::token_at(s, p.at);
     let Token::Word(k, next) = t else {
-        return read_tests::wrong(out);
+        return read_next::fail(out, Fault::Wrong);
     };
     if read_names::reserved(k) {
-        return read_tests::wrong(out);
+        return read_next::fail(out, Fault::Wrong);
     }
     let code = read_names::find(names, n, k);
     out[used] = code;
-    Parsed::Got(Place {
+    Ok(Place {
         at: next,
         used: used + 1,
         slip: read_names::first_slip(
-            slip,
+            p.slip,
             read_names::slip_of(code, codes::A_RELATION, codes::LINE),
         ),
     })
 }
 
 // The postfix that stands next.
-fn sign_next(s: &[u8], at: usize) -> Sign
+fn sign_next(s: &[u8], at: usize) -> Option<Sign>
     ensures { SignNext s.now at result }
 {
-    let star = read_next::mark_next(s, at, b'*');
-    if star != 0 {
-        return Sign {
+    if let Some(star) = read_next::mark_next(s, at, b'*') {
+        return Some(Sign {
             at: star,
             code: codes::STAR,
-        };
+        });
     }
-    let plus = read_next::mark_next(s, at, b'+');
-    if plus != 0 {
-        return Sign {
+    if let Some(plus) = read_next::mark_next(s, at, b'+') {
+        return Some(Sign {
             at: plus,
             code: codes::PLUS,
-        };
+        });
     }
-    let opt = read_next::mark_next(s, at, b'?');
-    if opt != 0 {
-        return Sign {
+    if let Some(opt) = read_next::mark_next(s, at, b'?') {
+        return Some(Sign {
             at: opt,
             code: codes::OPTIONAL,
-        };
+        });
     }
-    Sign { at, code: 0 }
+    None
 }
 
 // All postfixes that stand next.
@@ -249,21 +212,23 @@ fn postfixes(s: &[u8], p: Place, out: &mut [u64; 4096]) -> Place
 {
     let mut at = p.at;
     let mut used = p.used;
-    loop {
-        let next = sign_next(s, at);
-        if next.code == 0 {
-            let slip = p.slip;
-            return Place { at, used, slip };
-        }
-        out[used] = next.code;
-        at = next.at;
+    while let Some(sign) = sign_next(s, at) {
+        out[used] = sign.code;
+        at = sign.at;
         used += 1;
     }
+    Place { at, used, ..p }
 }
 
 // An E from the place p on, with no open bracket. What is required of the room in `out` is no limit of its own: a code takes a byte of the
 // line at least, and a query has at most 4,096.
-pub fn expression(s: &[u8], names: &[u64], n: usize, p: Place, out: &mut [u64; 4096]) -> Parsed
+pub fn expression(
+    s: &[u8],
+    names: &[u64],
+    n: usize,
+    p: Place,
+    out: &mut [u64; 4096],
+) -> Result<Place, Fault>
     requires { Room s.now p }
     ensures { TreeOutcome (Is expression) s.now names.now n p out.old out.new result }
 {

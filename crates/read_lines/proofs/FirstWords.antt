@@ -10,6 +10,7 @@ use mathlib.Core.Bool.{Bool, true, false, cond}
 use mathlib.Core.List.{List, [], ◌∷◌, ◌++◌, map}
 use mathlib.Core.Option.{Option, some, none}
 use lib.ListN.{length, drop, get_or}
+use Rattle.std.specs.Prelude.{Result as Returned, Ok, Err}
 use Rattle.claims.specs.Bytes.{RawLine, same}
 use Rattle.claims.specs.Tokens as Notation
 use Rattle.claims.specs.Tokens.{tokens, reserved_words}
@@ -30,8 +31,6 @@ use Rattle.memory.specs.Memory.{zeros}
 use Rattle.refusals.specs.declared.Reason.{Reason}
 use Rattle.refusals.specs.declared.Reason.TheVariants.{Notation as BadNotation, AfterClaim}
 use Rattle.read_declarations.specs.declared.LineState.{LineState}
-use Rattle.read_declarations.specs.declared.LineRead.{LineRead}
-use Rattle.read_declarations.specs.declared.LineRead.TheVariants.{Taken, Refused}
 use Rattle.read_declarations.specs.State.{line_fate, has_claim, After, KeepsNames, ReadsLine}
 use Rattle.refusals.specs.Causes.{cause_of}
 use Rattle.read_declarations.specs.inner.Kinds.{whole_line, KindSays, KindOutcome, kind_place, reads_at}
@@ -63,51 +62,17 @@ place_chosen w sp ts (c ∷ cs) h =
     go true e f = choose_here c cs (Notation.word w ∷ ts) e
     go false e f = choose_next c cs (Notation.word w ∷ ts) e ∙ f
 
--- the search for the place, from the nth line word on
-place_from : (k : Key) (cs : List Choice) (n : ℕ) → n < length cs
-    → kind_place (drop n cs) k ≡ cond (same_key (key_of (get_or (words_of cs) n [])) k) 0 (suc (kind_place (drop (suc n) cs) k))
-unfolding kind_place
-place_from k [] n h = absurd (omega arith)
-place_from k (c ∷ cs) zero h = refl
-place_from k (c ∷ cs) (suc n) h = place_from k cs n (omega arith)
-
 front_word : (xs ys : List Name) (n : ℕ) → n < length xs → get_or (xs ++ ys) n [] ≡ get_or xs n []
 front_word [] ys n h = absurd (omega arith)
 front_word (x ∷ xs) ys zero h = refl
 front_word (x ∷ xs) ys (suc n) h = front_word xs ys n (omega arith)
 
-line_key : (n : ℕ) → n < 8 → word_key n ≡ key_of (get_or (words_of line_kinds) n [])
-unfolding word_key line_kinds reserved_words
-line_key n h = ap key_of (front_word (words_of line_kinds) (drop 8 reserved_words) n h)
-
 kinds_spelled : AllSpelled line_kinds
 unfolding line_kinds reserved_words
 kinds_spelled n h = subst Spelled (front_word (words_of line_kinds) (drop 8 reserved_words) n h) (reserved_name_lem n (omega arith))
 
-module _ (k : Key) (n : ℕ) (h : n < 8) (x : Key) (b : Bool) (word : x ≡ word_key n) (test : b ≡ same_key x k) where
-  place_now : kind_place (drop n line_kinds) k ≡ cond b 0 (suc (kind_place (drop (suc n) line_kinds) k))
-  unfolding line_kinds
-  place_now =
-      place_from k line_kinds n h
-      ∙ ap (λ y. cond y 0 (suc (kind_place (drop (suc n) line_kinds) k))) (ap (λ y. same_key y k) (sym (line_key n h)) ∙ ap (λ y. same_key y k) (sym word) ∙ sym test)
-
-  pub place_here : b ≡ true → n + kind_place (drop n line_kinds) k ≡ n
-  place_here e = ap (λ i. n + i) (place_now ∙ rw e) ∙ add-zero n
-
-  pub place_next : b ≡ false → (n + 1) + kind_place (drop (n + 1) line_kinds) k ≡ n + kind_place (drop n line_kinds) k
-  place_next e =
-      let f : kind_place (drop n line_kinds) k ≡ suc (kind_place (drop (suc n) line_kinds) k) = place_now ∙ rw e in
-      rw (add-one n) (omega (arith, f))
-
-pub place_start : (k : Key) → 0 + kind_place (drop 0 line_kinds) k ≡ kind_place line_kinds k
-place_start k = zero-add (kind_place line_kinds k)
-
-pub place_end : (k : Key) (n : ℕ) → n ≤ 8 → 8 ≤ n → n + kind_place (drop n line_kinds) k ≡ 8
-unfolding line_kinds kind_place
-place_end k n h i = let e : n ≡ 8 = omega arith in rw e
-
 -- the same line under another reader
-via_kind : (D E : List Notation.Token → Found Line) (s : List ℕ) (at : ℕ) (ended : Bool) (st : LineState) (names out : List ℕ) (l : LineRead)
+via_kind : (D E : List Notation.Token → Found Line) (s : List ℕ) (at : ℕ) (ended : Bool) (st : LineState) (names out : List ℕ) (l : Returned LineState Reason)
     (names' out' : List ℕ) → ((ts : List Notation.Token) → E ts ≡ D ts) → KindOutcome D s at ended st names out l names' out'
     → KindOutcome E s at ended st names out l names' out'
 via_kind D E s at ended st names out l names' out' e h q before a k =
@@ -116,7 +81,7 @@ via_kind D E s at ended st names out l names' out' e h q before a k =
 
 -- so for the reader that the word w chooses, where x is the place of its key
 pub kind_at : (k : Key) (x : ℕ) → x ≡ kind_place line_kinds k → (w : Name) → Spelled w → k ≡ key_of w → (s : List ℕ) (at : ℕ) (ended : Bool) (st : LineState)
-    (names out : List ℕ) (l : LineRead) (names' out' : List ℕ) → KindOutcome (reads_at line_kinds x) s at ended st names out l names' out'
+    (names out : List ℕ) (l : Returned LineState Reason) (names' out' : List ℕ) → KindOutcome (reads_at line_kinds x) s at ended st names out l names' out'
     → KindOutcome (After-word w) s at ended st names out l names' out'
 kind_at k x place w sp key s at ended st names out l names' out' h =
     via_kind (reads_at line_kinds x) (After-word w) s at ended st names out l names' out'
@@ -151,7 +116,7 @@ module _ (s : List ℕ) (ended : Bool) (st : LineState) (names out : List ℕ) w
   abbrev raw : RawLine
   raw = record { bytes = s; ended = ended }
 
-  pub claimed_before : st.claimed ≡ true → (left : List ℕ) → left ≡ zeros 4096 → ReadsLine raw st names out (Refused AfterClaim) names left
+  pub claimed_before : st.claimed ≡ true → (left : List ℕ) → left ≡ zeros 4096 → ReadsLine raw st names out (Err AfterClaim) names left
   unfolding cause_of
   claimed_before h left z = (z, refl, λ q before a k n. claim_there q n raw (sym a.claimed ∙ h))
 
@@ -169,7 +134,7 @@ module _ (s : List ℕ) (ended : Bool) (st : LineState) (names out : List ℕ) w
     no_kind End n h = ap (choose line_kinds) h
 
     pub no_word_first : (t : Token) → t ≡ token_at s 0 → NoWord t → (left : List ℕ) → left ≡ zeros 4096
-        → ReadsLine raw st names out (Refused BadNotation) names left
+        → ReadsLine raw st names out (Err BadNotation) names left
     unfolding cause_of
     no_word_first t e w left z = (
       z,
@@ -178,14 +143,14 @@ module _ (s : List ℕ) (ended : Bool) (st : LineState) (names out : List ℕ) w
     )
 
     -- a word stands first: the line is taken or refused as its kind says
-    module _ (k : Key) (at : ℕ) (f : ScannedWord s 0 k at) (l : LineRead) (names' out' : List ℕ)
+    module _ (k : Key) (at : ℕ) (f : ScannedWord s 0 k at) (l : Returned LineState Reason) (names' out' : List ℕ)
         (h : KindOutcome (After-word f.spelling) s at ended st names out l names' out') where
-      abbrev SaysOfKind : Query → List ℕ → LineRead → Type 0
+      abbrev SaysOfKind : Query → List ℕ → Returned LineState Reason → Type 0
       SaysOfKind q before =
           KindSays (λ n. read_line q n (whole_line ended (After-word f.spelling (tokens (drop at s))))) q (st.used + (length s - at) + 1) before
           names' out'
 
-      pub word_taken : (next : LineState) → l ≡ Taken next → ReadsLine raw st names out (Taken next) names' out'
+      pub word_taken : (next : LineState) → l ≡ Ok next → ReadsLine raw st names out (Ok next) names' out'
       word_taken next e = (
         tt,
         tt,
@@ -200,8 +165,8 @@ module _ (s : List ℕ) (ended : Bool) (st : LineState) (names out : List ℕ) w
             }),
       )
 
-      pub word_refused : KeepsNames l names names' → (c : Reason) → l ≡ Refused c → (left : List ℕ) → left ≡ zeros 4096
-          → ReadsLine raw st names out (Refused c) names' left
+      pub word_refused : KeepsNames l names names' → (c : Reason) → l ≡ Err c → (left : List ℕ) → left ≡ zeros 4096
+          → ReadsLine raw st names out (Err c) names' left
       word_refused kept c e left z = (
         z,
         subst (λ x. KeepsNames x names names') e kept,

@@ -2,3 +2,5 @@
 pub mod Taken
 pub mod Sorts
 pub mod FirstWords
+-- The kind of a line by its first word.
+pub mod FoundKinds

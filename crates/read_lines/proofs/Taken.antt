@@ -11,6 +11,7 @@ use mathlib.Core.Option.{none}
 use lib.ListN.{length, drop, length-map}
 use lib.Seq.{sets}
 use borrow.Author.Tests.{leb-false}
+use Rattle.std.specs.Prelude.{Result as Returned, Ok, Err}
 use Rattle.claims.specs.Tokens as Notation
 use Rattle.claims.specs.Tokens.{tokens}
 use Rattle.claims.specs.Grammar.{Found}
@@ -22,22 +23,18 @@ use Rattle.claims.specs.Refusals.{Result, ok, refuse}
 use Rattle.codes.specs.Codes.{let_names, line_codes}
 use Rattle.read_tokens.specs.declared.Key.{Key}
 use Rattle.read_tokens.specs.Scan.{token_at}
-use Rattle.read_tests.specs.declared.Parsed.{Parsed}
-use Rattle.read_declarations.specs.declared.LineCheck.{LineCheck}
-use Rattle.read_declarations.specs.declared.LineCheck.TheVariants.{Fine, Faulty}
+use Rattle.read_tests.specs.declared.Place.{Place}
+use Rattle.read_tests.specs.declared.Fault.{Fault}
 use Rattle.refusals.specs.declared.Reason.{Reason}
 use Rattle.refusals.specs.declared.Reason.TheVariants.{TooMany}
 use Rattle.read_declarations.specs.declared.LineState.{LineState}
-use Rattle.read_declarations.specs.declared.LineRead.{LineRead}
-use Rattle.read_declarations.specs.declared.LineRead.TheVariants.{Taken, Refused}
 use Rattle.read_names.specs.Keys as Keys
 use Rattle.read_declarations.specs.State.{After, Small, Tabled, KeepsNames}
 use Rattle.refusals.specs.Causes.{cause_of}
 use Rattle.read_names.specs.Keys.{entered}
 use Rattle.read_declarations.specs.inner.Declaring.{count_of, number_of, most_of, one_if, one_more, declared_read, declared_names, DeclaresNext}
 use Rattle.read_declarations.specs.inner.Kinds.{checked, plain_read, whole_line, KindSays, KindOutcome}
-use Rattle.read_bodies.specs.Bodies.{Body, BodySays, BodyOutcome, Bare, word_of}
-use Rattle.read_bodies.proofs.Parts.{behind_of}
+use Rattle.read_bodies.specs.Bodies.{Behind, Ends, Body, BodySays, BodyOutcome, Bare, word_of}
 use Rattle.read_declarations.proofs.Declared.{bare_plain, after_declared, after_plain, knows_declared, knows_plain}
 use Rattle.read_declarations.proofs.Fates.{Whole, fine_whole, faulty_fate, fate_crowded, fate_taken, clean_slips}
 
@@ -86,26 +83,26 @@ small_more of u st m n = go (eqb of 16) (eqb of 32) (eqb of 64)
     go false false false e h = absurd (omega arith)
 
 -- a refused line leaves the table of names as it was
-pub kept_plain : (l : LineRead) (names : List ℕ) → KeepsNames l names names
-kept_plain (Taken next) names = tt
-kept_plain (Refused c) names = refl
+pub kept_plain : (l : Returned LineState Reason) (names : List ℕ) → KeepsNames l names names
+kept_plain (Ok next) names = tt
+kept_plain (Err c) names = refl
 
-pub kept_declared : (of : ℕ) (st : LineState) (k : Key) (x : LineCheck) (names : List ℕ) (l : LineRead) (names' : List ℕ)
+pub kept_declared : (of : ℕ) (st : LineState) (k : Key) (x : Returned ℕ Reason) (names : List ℕ) (l : Returned LineState Reason) (names' : List ℕ)
     → (l ≡ declared_read of st x) × (names' ≡ declared_names k of st x names) → KeepsNames l names names'
 unfolding declared_read declared_names
 kept_declared of st k x names l names' (e, f) =
     subst⁻¹ (λ y. KeepsNames y names names') e (subst⁻¹ (KeepsNames (declared_read of st x) names) f (go x))
   where
-    by : (b : Bool) (next : LineState) (more : List ℕ) → KeepsNames (cond b (Refused TooMany) (Taken next)) names (cond b names more)
+    by : (b : Bool) (next : LineState) (more : List ℕ) → KeepsNames (cond b (Err TooMany) (Ok next)) names (cond b names more)
     by true next more = refl
     by false next more = tt
 
-    go : (x : LineCheck) → KeepsNames (declared_read of st x) names (declared_names k of st x names)
-    go (Fine u) = by (leb (most_of of) (count_of of st)) (one_more of u st) (entered names st.names k (of + count_of of st))
-    go (Faulty w) = refl
+    go : (x : Returned ℕ Reason) → KeepsNames (declared_read of st x) names (declared_names k of st x names)
+    go (Ok u) = by (leb (most_of of) (count_of of st)) (one_more of u st) (entered names st.names k (of + count_of of st))
+    go (Err w) = refl
 
 module _ (D : List Notation.Token → Found Line) (K : Line → Type 0) (s : List ℕ) (at : ℕ) (ended : Bool) (st : LineState) (names out out' : List ℕ)
-    (r : Parsed) (small : Small st) (body : BodyOutcome D K s names st.names at st.used out out' r) where
+    (r : Returned Place Fault) (small : Small st) (body : BodyOutcome D K s names st.names at st.used out out' r) where
   abbrev fate : Query → ℕ → Result Line
   fate q n = read_line q n (whole_line ended (D (tokens (drop at s))))
 
@@ -116,10 +113,10 @@ module _ (D : List Notation.Token → Found Line) (K : Line → Type 0) (s : Lis
     says : BodySays D K q s at st.used out out' r
     says = body.1 q (known q st before out names a small k)
 
-    refuses : (w : Reason) → checked s ended r ≡ Faulty w → (n : ℕ) → fate q n ≡ refuse (cause_of w) n
+    refuses : (w : Reason) → checked s ended r ≡ Err w → (n : ℕ) → fate q n ≡ refuse (cause_of w) n
     refuses w e n = faulty_fate D K q s at st.used out out' ended w r e says n
 
-    module _ (u : ℕ) (e : checked s ended r ≡ Fine u) where
+    module _ (u : ℕ) (e : checked s ended r ≡ Ok u) where
       whole : Whole s ended r u
       whole = fine_whole s ended r u e
 
@@ -137,7 +134,7 @@ module _ (D : List Notation.Token → Found Line) (K : Line → Type 0) (s : Lis
 
       short : u ≤ most
       short =
-          let b = behind_of s at st.used 1 out' r whole.place whole.reached body.0 in
+          let b : Behind s at st.used 1 whole.place = subst (Ends s at st.used 1 out') whole.reached body.0 in
           omega (arith, b.room, whole.used)
 
       crowds : crowded q read.line ≡ true → (n : ℕ) → fate q n ≡ refuse (cause_of TooMany) n
@@ -150,11 +147,11 @@ module _ (D : List Notation.Token → Found Line) (K : Line → Type 0) (s : Lis
           fate_taken q ended n (D (tokens (drop at s))) read.line (tokens (drop whole.place.at s)) read.read whole.ends clean h
 
     -- a line that declares nothing, by its check
-    plain_says : (c : Bool) → ((l : Line) → K l → Bare c l) → (x : LineCheck) → checked s ended r ≡ x
+    plain_says : (c : Bool) → ((l : Line) → K l → Bare c l) → (x : Returned ℕ Reason) → checked s ended r ≡ x
         → KindSays (fate q) q most before names out' (plain_read st c x)
     unfolding plain_read
-    plain_says c bare (Faulty w) e = refuses w e
-    plain_says c bare (Fine u) e =
+    plain_says c bare (Err w) e = refuses w e
+    plain_says c bare (Ok u) e =
         let l = (read u e).line in
         let p = bare_plain c l (bare l (read u e).sort) in
         record {
@@ -168,9 +165,9 @@ module _ (D : List Notation.Token → Found Line) (K : Line → Type 0) (s : Lis
 
     -- a line that declares a name: one too many, or an entry more in the table
     module _ (of : ℕ) (names? : (l : Line) → K l → DeclaresNext of s at l) where
-      name_says : (u : ℕ) → checked s ended r ≡ Fine u → (b : Bool) → leb (most_of of) (count_of of st) ≡ b
+      name_says : (u : ℕ) → checked s ended r ≡ Ok u → (b : Bool) → leb (most_of of) (count_of of st) ≡ b
           → KindSays (fate q) q most before (cond b names (entered names st.names (word_of (token_at s at)) (of + count_of of st))) out'
-          (cond b (Refused TooMany) (Taken (one_more of u st)))
+          (cond b (Err TooMany) (Ok (one_more of u st)))
       unfolding one_more
       name_says u e true h =
           let l = (read u e).line in
@@ -192,18 +189,18 @@ module _ (D : List Notation.Token → Found Line) (K : Line → Type 0) (s : Lis
             short = short u e;
           }
 
-      declared_says : (x : LineCheck) → checked s ended r ≡ x
+      declared_says : (x : Returned ℕ Reason) → checked s ended r ≡ x
           → KindSays (fate q) q most before (declared_names (word_of (token_at s at)) of st x names) out' (declared_read of st x)
       unfolding declared_names declared_read
-      declared_says (Faulty w) e = refuses w e
-      declared_says (Fine u) e = name_says u e (leb (most_of of) (count_of of st)) refl
+      declared_says (Err w) e = refuses w e
+      declared_says (Ok u) e = name_says u e (leb (most_of of) (count_of of st)) refl
 
-  pub plain_outcome : (c : Bool) → ((l : Line) → K l → Bare c l) → (l : LineRead) → l ≡ plain_read st c (checked s ended r)
+  pub plain_outcome : (c : Bool) → ((l : Line) → K l → Bare c l) → (l : Returned LineState Reason) → l ≡ plain_read st c (checked s ended r)
       → KindOutcome D s at ended st names out l names out'
   plain_outcome c bare l le q before a k =
       subst⁻¹ (KindSays (fate q) q most before names out') le (plain_says q before a k c bare (checked s ended r) refl)
 
-  pub declared_outcome : (of : ℕ) → ((l : Line) → K l → DeclaresNext of s at l) → (l : LineRead) (names' : List ℕ)
+  pub declared_outcome : (of : ℕ) → ((l : Line) → K l → DeclaresNext of s at l) → (l : Returned LineState Reason) (names' : List ℕ)
       → (l ≡ declared_read of st (checked s ended r)) × (names' ≡ declared_names (word_of (token_at s at)) of st (checked s ended r) names)
       → KindOutcome D s at ended st names out l names' out'
   declared_outcome of names? l names' (le, ne) q before a k =

@@ -2,3 +2,5 @@
 pub mod Keys
 -- Slips of names.
 pub mod Slips
+-- The words that are no names.
+pub mod Keywords

@@ -3,6 +3,7 @@
 
 ghost use Rattle.std.specs.Prelude.{◌≡◌, ◌<◌};
 ghost use Rattle.read_names.specs.Keys.{same_key, reserved_key, word_key, find_in, entered};
+ghost use Rattle.read_names.specs.Keywords.{place_of};
 ghost use Rattle.read_names.specs.Slips.{declared_slip, relation_number, first_of, slip_of_code};
 
 use read_tokens::Key;
@@ -10,100 +11,109 @@ use read_tokens::Key;
 pub fn same_key(a: Key, b: Key) -> bool
     ensures { result ≡ same_key a b }
 {
-    (a.high == b.high) & (a.low == b.low)
+    a == b
 }
 
-// The places of the words that are no names.
-pub const TEST_WORD: usize = 0;
+// The words that are no names.
+#[derive(Clone, Copy, PartialEq, Eq)]
+pub enum Keyword {
+    Test,
+    Rel,
+    Let,
+    Never,
+    Within,
+    Closed,
+    Assume,
+    Claim,
+    In,
+    Empty,
+    Include,
+    Irreflexive,
+    True,
+    False,
+}
 
-pub const REL_WORD: usize = 1;
+// All of them, in the document's order.
+pub const KEYWORDS: [Keyword; 14] = [
+    Keyword::Test,
+    Keyword::Rel,
+    Keyword::Let,
+    Keyword::Never,
+    Keyword::Within,
+    Keyword::Closed,
+    Keyword::Assume,
+    Keyword::Claim,
+    Keyword::In,
+    Keyword::Empty,
+    Keyword::Include,
+    Keyword::Irreflexive,
+    Keyword::True,
+    Keyword::False,
+];
 
-pub const LET_WORD: usize = 2;
-
-pub const NEVER_WORD: usize = 3;
-
-pub const WITHIN_WORD: usize = 4;
-
-pub const CLOSED_WORD: usize = 5;
-
-pub const ASSUME_WORD: usize = 6;
-
-pub const CLAIM_WORD: usize = 7;
-
-pub const IN_WORD: usize = 8;
-
-pub const EMPTY_WORD: usize = 9;
-
-pub const INCLUDE_WORD: usize = 10;
-
-pub const IRREFLEXIVE_WORD: usize = 11;
-
-pub const TRUE_WORD: usize = 12;
-
-pub const FALSE_WORD: usize = 13;
-
-// The nth word that is no name, as its key.
-pub fn word_key(n: usize) -> Key
-    ensures { result ≡ word_key n }
-{
-    match n {
-        TEST_WORD => Key {
-            high: 0x7465_7374_0000_0000,
-            low: 0,
-        },
-        REL_WORD => Key {
-            high: 0x7265_6c00_0000_0000,
-            low: 0,
-        },
-        LET_WORD => Key {
-            high: 0x6c65_7400_0000_0000,
-            low: 0,
-        },
-        NEVER_WORD => Key {
-            high: 0x6e65_7665_7200_0000,
-            low: 0,
-        },
-        WITHIN_WORD => Key {
-            high: 0x7769_7468_696e_0000,
-            low: 0,
-        },
-        CLOSED_WORD => Key {
-            high: 0x636c_6f73_6564_0000,
-            low: 0,
-        },
-        ASSUME_WORD => Key {
-            high: 0x6173_7375_6d65_0000,
-            low: 0,
-        },
-        CLAIM_WORD => Key {
-            high: 0x636c_6169_6d00_0000,
-            low: 0,
-        },
-        IN_WORD => Key {
-            high: 0x696e_0000_0000_0000,
-            low: 0,
-        },
-        EMPTY_WORD => Key {
-            high: 0x656d_7074_7900_0000,
-            low: 0,
-        },
-        INCLUDE_WORD => Key {
-            high: 0x696e_636c_7564_6500,
-            low: 0,
-        },
-        IRREFLEXIVE_WORD => Key {
-            high: 0x6972_7265_666c_6578,
-            low: 0x6976_6500_0000_0000,
-        },
-        TRUE_WORD => Key {
-            high: 0x7472_7565_0000_0000,
-            low: 0,
-        },
-        FALSE_WORD => Key {
-            high: 0x6661_6c73_6500_0000,
-            low: 0,
-        },
-        _ => Key { high: 0, low: 0 },
+impl Keyword {
+    // The word's key: its bytes, eight in each half.
+    pub fn key(self) -> Key
+        ensures { result ≡ word_key (place_of self) }
+    {
+        match self {
+            Keyword::Test => Key {
+                high: 0x7465_7374_0000_0000,
+                low: 0,
+            },
+            Keyword::Rel => Key {
+                high: 0x7265_6c00_0000_0000,
+                low: 0,
+            },
+            Keyword::Let => Key {
+                high: 0x6c65_7400_0000_0000,
+                low: 0,
+            },
+            Keyword::Never => Key {
+                high: 0x6e65_7665_7200_0000,
+                low: 0,
+            },
+            Keyword::Within => Key {
+                high: 0x7769_7468_696e_0000,
+                low: 0,
+            },
+            Keyword::Closed => Key {
+                high: 0x636c_6f73_6564_0000,
+                low: 0,
+            },
+            Keyword::Assume => Key {
+                high: 0x6173_7375_6d65_0000,
+                low: 0,
+            },
+            Keyword::Claim => Key {
+                high: 0x636c_6169_6d00_0000,
+                low: 0,
+            },
+            Keyword::In => Key {
+                high: 0x696e_0000_0000_0000,
+                low: 0,
+            },
+            Keyword::Empty => Key {
+                high: 0x656d_7074_7900_0000,
+                low: 0,
+            },
+            Keyword::Include => Key {
+                high: 0x696e_636c_7564_6500,
+                low: 0,
+            },
+            Keyword::Irreflexive => Key {
+                high: 0x6972_7265_666c_6578,
+                low: 0x6976_6500_0000_0000,
+            },
+            Keyword::True => Key {
+                high: 0x7472_7565_0000_0000,
+                low: 0,
+            },
+            Keyword::False => Key {
+                high: 0x6661_6c73_6500_0000,
+                low: 0,
+            },
+        }
     }
 }
 
@@ -111,14 +121,7 @@ pub fn word_key(n: usize) -> Key
 pub fn reserved(k: Key) -> bool
     ensures { result ≡ reserved_key k }
 {
-    let mut n = 0;
-    while n < 14 {
-        if same_key(k, word_key(n)) {
-            return true;
-        }
-        n += 1;
-    }
-    false
+    KEYWORDS.iter().any(|word| k == word.key())
 }
 
 // The code of the first of n entries with the key k, 0 if there is none. Three words are an entry: the key's two, and a code.

@@ -1,13 +1,13 @@
 -- Runs of stores, one behind the other; and codes written where there is room for them.
 -- Assumes nothing.
-use Prim.Native.Nat.{ℕ, suc, ◌+◌, ◌≤◌, ◌<◌}
+use Prim.Native.Nat.{ℕ, suc, ◌+◌, ◌-◌, ◌≤◌, ◌<◌}
 use native.Mathlib.Omega.{arith}
 use native.Mathlib.Nat.{add-zero}
-use native.Mathlib.Numerals.{add-one}
-use mathlib.Core.Path.{◌≡◌, refl, sym, ap, ◌∙◌}
-use mathlib.Core.List.{List, [], ◌∷◌, ◌++◌}
-use lib.ListN.{length, set, replicate, length-replicate}
-use lib.Seq.{sets}
+use mathlib.Core.Path.{◌≡◌, refl, sym, ap, ap₂, ◌∙◌}
+use mathlib.Core.List.{List, [], ◌∷◌, ◌++◌, append_assoc}
+use lib.ListN.{length, take, drop, set, replicate, length-replicate}
+use lib.Seq.{sets, sets-eq}
+use borrow.Rule.Slice.PartMut.{put_mid, mid_of, post_of, mid_len, Post-is}
 use borrow.Author.Tests.{le-leb, lt-leb}
 use Rattle.read_next.specs.Written.{used_after, written_after}
 
@@ -28,15 +28,17 @@ pub replicate_more : (n a : ℕ) → replicate n a ++ (a ∷ []) ≡ replicate (
 replicate_more ℕ.zero a = refl
 replicate_more (suc n) a = ap (λ l. a ∷ l) (replicate_more n a)
 
--- one more store of the same number
-pub stores_more : (b : List ℕ) (i n a : ℕ) (now : List ℕ) → now ≡ sets b i (replicate n a)
-    → set now (i + n) a ≡ sets b i (replicate (n + 1) a)
-stores_more b i n a now e =
-    stores_then b i (replicate n a) (a ∷ []) now (set now (i + n) a) (i + n) e (ap (λ k. i + k) (sym (length-replicate n a))) refl
-    ∙ ap (sets b i) (replicate_more n a) ∙ ap (λ k. sets b i (replicate k a)) (sym (add-one n))
-
-pub stores_done : (b : List ℕ) (i n m a : ℕ) (now : List ℕ) → n ≤ m → m ≤ n → now ≡ sets b i (replicate n a) → now ≡ sets b i (replicate m a)
-stores_done b i n m a now l h e = let k : n ≡ m = omega arith in e ∙ ap (λ j. sets b i (replicate j a)) k
+-- a part that is filled with one number holds as many stores of it
+pub filled : (b : List ℕ) (i n a : ℕ) (part : List ℕ) → i + n ≤ length b → part ≡ replicate (length (mid_of i (i + n - i) b)) a
+    → put_mid i (i + n - i) b part ≡ sets b i (replicate n a)
+filled b i n a part h e =
+    let l : length (mid_of i (i + n - i) b) ≡ n = omega (arith, mid_len i (i + n) b h) in
+    let p : part ≡ replicate n a = e ∙ ap (λ k. replicate k a) l in
+    let r : post_of i (i + n - i) b ≡ drop (i + length (replicate n a)) b =
+    Post-is i (i + n) b (omega arith) ∙ ap (λ k. drop (i + k) b) (sym (length-replicate n a)) in
+    ap₂ (λ xs ys. take i b ++ (xs ++ ys)) p r
+    ∙ sym (append_assoc (take i b) (replicate n a) (drop (i + length (replicate n a)) b))
+    ∙ sym (sets-eq (replicate n a) b i (omega (arith, length-replicate n a)))
 
 -- what is written: all codes, or none
 abbrev Wrote : List ℕ → ℕ → ℕ → ℕ → ℕ → List ℕ → Type 0

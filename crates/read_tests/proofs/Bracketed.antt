@@ -3,7 +3,7 @@
 -- Assumes nothing.
 use Prim.Native.Nat.{ℕ, zero, suc, ◌+◌, ◌≤◌}
 use native.Mathlib.Omega.{arith}
-use mathlib.Core.Path.{◌≡◌, refl, sym, ap, ◌∙◌, subst}
+use mathlib.Core.Path.{◌≡◌, refl, sym, ap, ◌∙◌}
 use mathlib.Core.Bool.{true, false}
 use mathlib.Core.List.{List, ◌++◌}
 use lib.ListN.{length, drop}
@@ -13,14 +13,14 @@ use Rattle.claims.specs.Grammar.{Found, got, wrong, deep, and_then, goes_on, pas
 use Rattle.claims.specs.Names.{Use}
 use Rattle.claims.specs.Query.{Query}
 use Rattle.read_tokens.proofs.Tokens.{ScannedMark}
+use Rattle.std.specs.Prelude.{Some, None, Result, Ok, Err}
 use Rattle.read_tests.specs.declared.Place.{Place}
-use Rattle.read_tests.specs.declared.Parsed.{Parsed}
-use Rattle.read_tests.specs.declared.Parsed.TheVariants.{Got}
+use Rattle.read_tests.specs.declared.Fault.{Fault}
 use Rattle.read_next.specs.Next.{mark_next}
 use Rattle.read_tests.specs.Places.{Room, Read, ReaderOutcome, Finds}
 use Rattle.read_tests.proofs.Told.{told_store, told_as, told_from}
 use Rattle.read_next.proofs.Next.{mark_stands, mark_missing, goes_on_lem, passed, one_fewer}
-use Rattle.read_tests.proofs.Outcomes.{NoTree, handed_on}
+use Rattle.read_tests.proofs.Outcomes.{handed_on}
 
 -- the reader `outer`, with `depth` brackets open, reads what `inner` reads between two marks, with `within` open
 pub record Bracket (A B : Type 0) : Type 0 where
@@ -65,36 +65,32 @@ through K s at next m x y e h (suc f) l =
 
 -- the ways out, over the answers of the functions that are called
 module _ {A B : Type 0} (K : Bracket A B) (s names : List ℕ) (n : ℕ) (p : Place) (before : List ℕ) (next : ℕ)
-    (asked : next ≡ mark_next s p.at K.opening) (stands : next ≡ 0 → ⊥) (x : Parsed) (mid : List ℕ)
-    (o : ReaderOutcome (Finds K.inner K.within 4) K.inner_codes K.inner_uses s names n (behind p next) before mid x) where
-  abbrev Inner : Parsed → Type 0
+    (asked : Some next ≡ mark_next s p.at K.opening) (mid : List ℕ) where
+  abbrev Inner : Result Place Fault → Type 0
   Inner = ReaderOutcome (Finds K.inner K.within 4) K.inner_codes K.inner_uses s names n (behind p next) before mid
 
-  abbrev Outer : List ℕ → Parsed → Type 0
+  abbrev Outer : List ℕ → Result Place Fault → Type 0
   Outer = ReaderOutcome (Finds K.outer K.depth 1) K.outer_codes K.outer_uses s names n p before
 
   opened : ScannedMark s p.at K.opening next
-  opened = mark_stands s p.at K.opening next asked stands
+  opened = mark_stands s p.at K.opening next asked
 
-  pub inner_fault : NoTree x → Outer mid x
-  inner_fault none =
+  pub inner_fault : (e : Fault) → Inner (Err e) → Outer mid (Err e)
+  inner_fault e o =
       handed_on Inner (Outer mid) (λ h. (through K s p.at next opened wrong wrong refl h.0, h.1))
-      (λ h. (through K s p.at next opened deep deep refl h.0, h.1)) x none o
+      (λ h. (through K s p.at next opened deep deep refl h.0, h.1)) e o
 
-  module _ (r : Place) (is : x ≡ Got r) (e : ℕ) (ends : e ≡ mark_next s r.at K.closing) where
-    there : Read (Finds K.inner K.within 4) K.inner_codes K.inner_uses s names n (behind p next) before mid r
-    there = subst Inner is o
-
-    pub inner_open : e ≡ 0 → Finds K.outer K.depth 1 (tokens (drop p.at s)) wrong
-    inner_open z =
+  module _ (r : Place) (there : Read (Finds K.inner K.within 4) K.inner_codes K.inner_uses s names n (behind p next) before mid r) where
+    pub inner_open : None ≡ mark_next s r.at K.closing → Finds K.outer K.depth 1 (tokens (drop p.at s)) wrong
+    inner_open none =
         through K s p.at next opened (got there.tree (tokens (drop r.at s))) wrong
-        (not_closed K.closing (K.wrap there.tree) (tokens (drop r.at s)) (mark_missing s r.at K.closing e ends z))
+        (not_closed K.closing (K.wrap there.tree) (tokens (drop r.at s)) (mark_missing s r.at K.closing none))
         there.read
 
-    pub inner_closed : (after : List ℕ) (used : ℕ) → (e ≡ 0 → ⊥) → after ≡ sets mid r.used K.extra → used ≡ r.used + length K.extra
-        → length K.extra ≤ 1 → Outer after (Got (record { at = e; used = used; slip = r.slip }))
-    inner_closed after used f a u l =
-        let m = mark_stands s r.at K.closing e ends f in
+    pub inner_closed : (e : ℕ) → Some e ≡ mark_next s r.at K.closing → (after : List ℕ) (used : ℕ) → after ≡ sets mid r.used K.extra → used ≡ r.used + length K.extra
+        → length K.extra ≤ 1 → Outer after (Ok (record { at = e; used = used; slip = r.slip }))
+    inner_closed e ends after used a u l =
+        let m = mark_stands s r.at K.closing e ends in
         let v = there.moved in
         let t = there.tree in
         let end : Place = record { at = e; used = used; slip = r.slip } in
@@ -119,8 +115,8 @@ module _ {A B : Type 0} (K : Bracket A B) (s names : List ℕ) (n : ℕ) (p : Pl
         }
 
     -- a code behind the inner tree has room, since the closing mark took a byte
-    pub inner_room : (e ≡ 0 → ⊥) → Room s p → r.used + 1 ≤ 4096
-    inner_room f h =
-        let m = mark_stands s r.at K.closing e ends f in
+    pub inner_room : (e : ℕ) → Some e ≡ mark_next s r.at K.closing → Room s p → r.used + 1 ≤ 4096
+    inner_room e ends h =
+        let m = mark_stands s r.at K.closing e ends in
         let v = there.moved in
         omega (arith, v.room, m.after, m.within, opened.after)

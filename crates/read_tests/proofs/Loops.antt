@@ -2,7 +2,7 @@
 -- Assumes nothing.
 use Prim.Native.Nat.{ℕ, zero, suc, ◌+◌, ◌*◌, ◌-◌, ◌≤◌, ◌<◌}
 use native.Mathlib.Omega.{arith}
-use mathlib.Core.Path.{◌≡◌, refl, sym, ap, ◌∙◌, subst}
+use mathlib.Core.Path.{◌≡◌, refl, sym, ap, ◌∙◌}
 use mathlib.Core.List.{List, ◌++◌}
 use mathlib.Core.Option.{some}
 use lib.ListN.{length, drop, replicate, length-replicate}
@@ -11,26 +11,25 @@ use Rattle.claims.specs.Tokens.{tokens}
 use Rattle.claims.specs.Grammar.{Found, got, wrong, deep, and_then}
 use Rattle.claims.specs.Query.{Query}
 use Rattle.read_names.specs.Keys.{Knows}
+use Rattle.std.specs.Prelude.{Some, None, Result, Ok, Err}
 use Rattle.read_tests.specs.declared.Place.{Place}
-use Rattle.read_tests.specs.declared.Parsed.{Parsed}
-use Rattle.read_tests.specs.declared.Parsed.TheVariants.{Got}
+use Rattle.read_tests.specs.declared.Fault.{Fault}
 use Rattle.read_next.specs.Next.{mark_next}
 use Rattle.read_next.specs.Written.{used_after, written_after}
 use Rattle.read_tests.specs.Places.{Room, Told, Read, ReaderOutcome, Finds}
 use Rattle.read_tests.proofs.Told.{told_then, told_store, told_as}
 use Rattle.read_next.proofs.Next.{mark_stands, mark_missing, goes_on_lem, passed, one_fewer}
 use Rattle.read_next.proofs.Stores.{written_room}
-use Rattle.read_tests.proofs.Outcomes.{NoTree, handed_on}
+use Rattle.read_tests.proofs.Outcomes.{handed_on}
 use Rattle.read_tests.proofs.Chains.{Chain, Waiting, joined, left_codes, left_uses, joined_codes, joined_uses, goes_further, ends_here}
 
 module _ {A : Type 0} {C : Chain A} {d k : ℕ} {s names : List ℕ} {n : ℕ} {p : Place} {before : List ℕ} {place : Place} {more : ℕ} {now : List ℕ}
-    (w : Waiting C d k s names n p before place more now) (x : Parsed) (mid : List ℕ)
-    (o : ReaderOutcome (Finds C.operand d k) C.codes C.uses s names n place now mid x) where
+    (w : Waiting C d k s names n p before place more now) (mid : List ℕ) where
   -- the operand's answer, and the chain's
-  abbrev Operand : Parsed → Type 0
+  abbrev Operand : Result Place Fault → Type 0
   Operand = ReaderOutcome (Finds C.operand d k) C.codes C.uses s names n place now mid
 
-  abbrev Whole : List ℕ → Parsed → Type 0
+  abbrev Whole : List ℕ → Result Place Fault → Type 0
   Whole = ReaderOutcome (Finds C.whole d (suc k)) C.codes C.uses s names n p before
 
   -- what the operand's reader finds makes what the chain's finds
@@ -40,25 +39,21 @@ module _ {A : Type 0} {C : Chain A} {d k : ℕ} {s names : List ℕ} {n : ℕ} {
       let (g, m, e) = w.reads f l in
       e ∙ ap (λ v. and_then v (λ u us. C.more g d (joined C w.left u) us)) (h g m) ∙ i g
 
-  pub loop_fault : NoTree x → Whole mid x
-  loop_fault none =
-      handed_on Operand (Whole mid) (λ h. (through wrong wrong (λ _. refl) h.0, h.1)) (λ h. (through deep deep (λ _. refl) h.0, h.1)) x none o
+  pub loop_fault : (e : Fault) → Operand (Err e) → Whole mid (Err e)
+  loop_fault e o =
+      handed_on Operand (Whole mid) (λ h. (through wrong wrong (λ _. refl) h.0, h.1)) (λ h. (through deep deep (λ _. refl) h.0, h.1)) e o
 
   -- an operand was read from `place` to r
-  module _ (r : Place) (is : x ≡ Got r) where
-    abbrev there : Read (Finds C.operand d k) C.codes C.uses s names n place now mid r
-    there = subst Operand is o
-
-    pub loop_onward : (c next : ℕ) → next ≡ mark_next s r.at c → (next ≡ 0 → ⊥) → length s - next < length s - place.at
-    loop_onward c next e f =
-        let m = mark_stands s r.at c next e f in
+  module _ (r : Place) (there : Read (Finds C.operand d k) C.codes C.uses s names n place now mid r) where
+    pub loop_onward : (c next : ℕ) → Some next ≡ mark_next s r.at c → length s - next < length s - place.at
+    loop_onward c next e =
+        let m = mark_stands s r.at c next e in
         let v = there.moved in
         omega (arith, m.after, m.within, v.onward)
 
     -- the operator that was owed is written behind it
     module _ (used : ℕ) (after : List ℕ) (room : Room s p)
-        (writes : (used ≡ used_after r.used more) × (after ≡ written_after mid r.used more C.code))
-        (next : ℕ) (asked : next ≡ mark_next s r.at C.sign) where
+        (writes : (used ≡ used_after r.used more) × (after ≡ written_after mid r.used more C.code)) where
       fits : r.used + more ≤ 4096
       fits = let v = there.moved in omega (arith, w.room, v.room, room)
 
@@ -94,8 +89,8 @@ module _ {A : Type 0} {C : Chain A} {d k : ℕ} {s names : List ℕ} {n : ℕ} {
           (C.codes q whole) (C.uses whole)
           (ap (λ l. parts ++ replicate l C.code) w.owes ∙ joined_codes C w.laws q w.left t) (joined_uses C w.laws w.left t)
 
-      pub loop_got : next ≡ 0 → Whole after (Got (record { at = r.at; used = used; slip = r.slip }))
-      loop_got z =
+      pub loop_got : None ≡ mark_next s r.at C.sign → Whole after (Ok (record { at = r.at; used = used; slip = r.slip }))
+      loop_got asked =
           let v = there.moved in
           record {
             tree = whole;
@@ -113,12 +108,12 @@ module _ {A : Type 0} {C : Chain A} {d k : ℕ} {s names : List ℕ} {n : ℕ} {
           ends : (g : ℕ) → 8 * length (tokens (drop r.at s)) + 8 + k ≤ g
               → C.more g d whole (tokens (drop r.at s)) ≡ got whole (tokens (drop r.at s))
           ends zero m = absurd (omega arith)
-          ends (suc g) m = ends_here w.laws g d whole (tokens (drop r.at s)) (mark_missing s r.at C.sign next asked z)
+          ends (suc g) m = ends_here w.laws g d whole (tokens (drop r.at s)) (mark_missing s r.at C.sign asked)
 
-      pub loop_turn : (next ≡ 0 → ⊥) → Waiting C d k s names n p before (record { at = next; used = used; slip = r.slip }) 1 after
-      loop_turn stands =
+      pub loop_turn : (next : ℕ) → Some next ≡ mark_next s r.at C.sign → Waiting C d k s names n p before (record { at = next; used = used; slip = r.slip }) 1 after
+      loop_turn next asked =
           let v = there.moved in
-          let h = mark_stands s r.at C.sign next asked stands in
+          let h = mark_stands s r.at C.sign next asked in
           record {
             laws = w.laws;
             left = some whole;
@@ -135,7 +130,7 @@ module _ {A : Type 0} {C : Chain A} {d k : ℕ} {s names : List ℕ} {n : ℕ} {
               × (y ≡ and_then (C.operand i d (tokens (drop next s))) (λ u us. C.more i d (C.join whole u) us))
           goes zero m y e = absurd (omega arith)
           goes (suc g) m y e =
-              let h = mark_stands s r.at C.sign next asked stands in (
+              let h = mark_stands s r.at C.sign next asked in (
                 g,
                 omega (arith, one_fewer s r.at C.sign next h),
                 e ∙ goes_further w.laws g d whole (tokens (drop r.at s)) (goes_on_lem s r.at C.sign next h)

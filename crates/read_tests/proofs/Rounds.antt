@@ -13,8 +13,9 @@ use Rattle.claims.specs.Tokens.{Token, tokens}
 use Rattle.claims.specs.Grammar.{Found, deep, and_then, goes_on, past, before_mark}
 use Rattle.claims.specs.Names.{Use}
 use Rattle.claims.specs.Query.{Query}
+use Rattle.std.specs.Prelude.{Some, None, Result}
 use Rattle.read_tests.specs.declared.Place.{Place}
-use Rattle.read_tests.specs.declared.Parsed.{Parsed}
+use Rattle.read_tests.specs.declared.Fault.{Fault}
 use Rattle.read_next.specs.Next.{mark_next}
 use Rattle.read_tests.specs.Places.{ReaderOutcome, Finds, opened}
 use Rattle.read_next.proofs.Next.{mark_stands, mark_missing, goes_on_lem}
@@ -75,10 +76,10 @@ module _ {A : Type 0} {R : Rounds A} (L : Rounded R) (depth : ℕ) where
   too_deep_lem ts none h (suc f) l = rw (L.step f (opened depth) ts, h, eq-eqb (opened depth) 32 (omega arith))
 
   -- the way out that meets the 33rd bracket
-  pub round_deep : (s : List ℕ) (p : Place) (next : ℕ) → next ≡ mark_next s p.at (byte "(") → (next ≡ 0 → ⊥) → depth ≡ 0
+  pub round_deep : (s : List ℕ) (p : Place) (next : ℕ) → Some next ≡ mark_next s p.at (byte "(") → depth ≡ 0
       → Finds R.outer (opened depth) 1 (tokens (drop p.at s)) deep
-  round_deep s p next asked f none =
-      too_deep_lem (tokens (drop p.at s)) none (goes_on_lem s p.at (byte "(") next (mark_stands s p.at (byte "(") next asked f))
+  round_deep s p next asked none =
+      too_deep_lem (tokens (drop p.at s)) none (goes_on_lem s p.at (byte "(") next (mark_stands s p.at (byte "(") next asked))
 
 -- the way out that meets no bracket, where d are open
 module _ {A : Type 0} {R : Rounds A} (L : Rounded R) (d : ℕ) where
@@ -86,11 +87,11 @@ module _ {A : Type 0} {R : Rounds A} (L : Rounded R) (d : ℕ) where
   no_bracket ts x h e zero l = absurd (omega arith)
   no_bracket ts x h e (suc f) l = rw (L.step f d ts, h) (e f)
 
-  pub round_none : (s : List ℕ) (p : Place) (next : ℕ) → next ≡ mark_next s p.at (byte "(") → next ≡ 0
+  pub round_none : (s : List ℕ) (p : Place) → None ≡ mark_next s p.at (byte "(")
       → (Reads : List Token → Found A → Type 0)
       → ((y : Found A) → Reads (tokens (drop p.at s)) y → (f : ℕ) → R.plain f d (tokens (drop p.at s)) ≡ y)
-      → (names : List ℕ) (n : ℕ) (before after : List ℕ) (x : Parsed) → ReaderOutcome Reads R.codes R.uses s names n p before after x
+      → (names : List ℕ) (n : ℕ) (before after : List ℕ) (x : Result Place Fault) → ReaderOutcome Reads R.codes R.uses s names n p before after x
       → ReaderOutcome (Finds R.outer d 1) R.codes R.uses s names n p before after x
-  round_none s p next asked z Reads h names n before after =
+  round_none s p asked Reads h names n before after =
       outcome_by Reads (Finds R.outer d 1) R.codes R.uses s names n p before after
-      (λ y r. no_bracket (tokens (drop p.at s)) y (mark_missing s p.at (byte "(") next asked z) (h y r))
+      (λ y r. no_bracket (tokens (drop p.at s)) y (mark_missing s p.at (byte "(") asked) (h y r))

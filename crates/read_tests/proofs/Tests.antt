@@ -2,7 +2,7 @@
 -- Assumes nothing.
 use Prim.Native.Nat.{ℕ, zero, suc, ◌+◌, ◌*◌, ◌≤◌}
 use native.Mathlib.Omega.{arith}
-use mathlib.Core.Path.{◌≡◌, refl, sym, ap, ◌∙◌, subst}
+use mathlib.Core.Path.{◌≡◌, refl, sym, ap, ◌∙◌}
 use mathlib.Core.Bool.{false}
 use mathlib.Core.List.{List, [], ◌∷◌, ◌++◌, append_assoc, append-nil}
 use lib.ListN.{length, drop, replicate, length-append, length-replicate}
@@ -15,16 +15,16 @@ use Rattle.claims.specs.Tree.{TestTree, either, both, not}
 use Rattle.claims.specs.Names.{test_uses}
 use Rattle.claims.specs.Query.{Query}
 use Rattle.codes.specs.Codes.{OR, AND, NOT, test_codes}
+use Rattle.std.specs.Prelude.{Result, Ok, Err}
 use Rattle.read_tests.specs.declared.Place.{Place}
 use Rattle.read_next.specs.declared.Run.{Run}
-use Rattle.read_tests.specs.declared.Parsed.{Parsed}
-use Rattle.read_tests.specs.declared.Parsed.TheVariants.{Got}
+use Rattle.read_tests.specs.declared.Fault.{Fault}
 use Rattle.read_next.specs.Next.{MarksNext}
 use Rattle.read_next.specs.Written.{used_after, written_after}
 use Rattle.read_tests.specs.Places.{Room, Read, TestOutcome, Finds, Is}
 use Rattle.read_next.proofs.Stores.{replicate_more, written_room}
 use Rattle.read_tests.proofs.Told.{told_store, told_as, told_from}
-use Rattle.read_tests.proofs.Outcomes.{NoTree, handed_on, outcome_of_all}
+use Rattle.read_tests.proofs.Outcomes.{handed_on, outcome_of_all}
 use Rattle.read_tests.proofs.Chains.{Chain, Chained}
 use Rattle.read_tests.proofs.Rounds.{Rounds, Rounded}
 
@@ -107,28 +107,24 @@ abbrev pub behind_run : Place → Run → Place
 behind_run p m = record { at = m.at; used = p.used; slip = p.slip }
 
 -- the ways out of the reader of prefix `!`, over the answers of the functions that it calls
-module _ (d : ℕ) (s names : List ℕ) (n : ℕ) (p : Place) (before : List ℕ) (m : Run) (run : MarksNext s p.at (byte "!") m) (x : Parsed)
-    (mid : List ℕ) (o : TestOutcome (Finds test_basic d 1) s names n (behind_run p m) before mid x) where
+module _ (d : ℕ) (s names : List ℕ) (n : ℕ) (p : Place) (before : List ℕ) (m : Run) (run : MarksNext s p.at (byte "!") m)
+    (mid : List ℕ) where
   under : (y : Found TestTree) → Finds test_basic d 1 (tokens (drop m.at s)) y → Finds test_not d 2 (tokens (drop p.at s)) (negated m.count y)
   under y h f l =
       let (g, i, e) = nots_read m.count d f (tokens (drop m.at s)) run.stop (omega (arith, ap length run.read)) in
       ap (λ ts. test_not f d ts) run.read ∙ e ∙ ap (negated m.count) (h g i)
 
-  abbrev Under : Parsed → Type 0
+  abbrev Under : Result Place Fault → Type 0
   Under = TestOutcome (Finds test_basic d 1) s names n (behind_run p m) before mid
 
-  pub nots_fault : NoTree x → TestOutcome (Finds test_not d 2) s names n p before mid x
-  nots_fault none =
-      handed_on Under (TestOutcome (Finds test_not d 2) s names n p before mid) (λ h. (under wrong h.0, h.1)) (λ h. (under deep h.0, h.1))
-      x none o
+  pub nots_fault : (e : Fault) → Under (Err e) → TestOutcome (Finds test_not d 2) s names n p before mid (Err e)
+  nots_fault e o =
+      handed_on Under (TestOutcome (Finds test_not d 2) s names n p before mid) (λ h. (under wrong h.0, h.1)) (λ h. (under deep h.0, h.1)) e o
 
-  module _ (r : Place) (is : x ≡ Got r) where
-    abbrev there : Read (Finds test_basic d 1) test_codes test_uses s names n (behind_run p m) before mid r
-    there = subst Under is o
-
+  module _ (r : Place) (there : Read (Finds test_basic d 1) test_codes test_uses s names n (behind_run p m) before mid r) where
     pub nots_got : (after : List ℕ) (used : ℕ) → Room s p
         → (used ≡ used_after r.used m.count) × (after ≡ written_after mid r.used m.count NOT)
-        → TestOutcome (Finds test_not d 2) s names n p before after (Got (record { at = r.at; used = used; slip = r.slip }))
+        → TestOutcome (Finds test_not d 2) s names n p before after (Ok (record { at = r.at; used = used; slip = r.slip }))
     nots_got after used h w =
         let t = there.tree in
         let v = there.moved in
@@ -160,7 +156,7 @@ module _ (d : ℕ) (s names : List ℕ) (n : ℕ) (p : Place) (before : List ℕ
         }
 
 -- T with no open bracket
-pub condition_read : (s names : List ℕ) (n : ℕ) (p : Place) (before after : List ℕ) (x : Parsed)
+pub condition_read : (s names : List ℕ) (n : ℕ) (p : Place) (before after : List ℕ) (x : Result Place Fault)
     → TestOutcome (Finds test_union 0 4) s names n p before after x → TestOutcome (Is condition) s names n p before after x
 unfolding condition
 condition_read s names n p before after x o = outcome_of_all test_union test_codes test_uses s names n p before after x o

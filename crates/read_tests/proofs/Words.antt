@@ -23,8 +23,8 @@ use Rattle.read_names.specs.Keys.{same_key, reserved_key, word_key, find_in, Kno
 use Rattle.read_tokens.proofs.Tokens.{Scanned, ScannedWord, tokens_scanned}
 use types.Run.{miss}
 use Rattle.read_names.proofs.Names.{same_key_lem, reserved_name_lem, reserved_is_reserved}
+use Rattle.std.specs.Prelude.{Ok}
 use Rattle.read_tests.specs.declared.Place.{Place}
-use Rattle.read_tests.specs.declared.Parsed.TheVariants.{Got}
 use Rattle.read_tests.specs.Places.{Moved, Read, TestOutcome, TreeOutcome, Is}
 use Rattle.read_next.proofs.Next.{NoWord}
 use Rattle.read_names.specs.declared.Slip.{Slip}
@@ -127,7 +127,7 @@ module _ (s names : List ℕ) (n : ℕ) (p : Place) (before : List ℕ) (k : Key
 
   -- where a test is wanted, `true` and `false` come first
   module _ (x : Key) (a : Bool) (x-is : x ≡ word_key 12) (a-is : a ≡ same_key x k) where
-    pub word_true : a ≡ true → TestOutcome (Is test_word) s names n p before (set before p.used TRUE) (Got (stepped p next p.slip))
+    pub word_true : a ≡ true → TestOutcome (Is test_word) s names n p before (set before p.used TRUE) (Ok (stepped p next p.slip))
     unfolding test_codes test_uses
     word_true h =
         word_read (Is test_word) test_codes test_uses s names n p before true_test k TRUE next p.slip f
@@ -138,7 +138,7 @@ module _ (s names : List ℕ) (n : ℕ) (p : Place) (before : List ℕ) (k : Key
       not-true : same (text "true") f.spelling ≡ false
       not-true = sym (key_true x a x-is a-is) ∙ no
 
-      pub word_false : b ≡ true → TestOutcome (Is test_word) s names n p before (set before p.used FALSE) (Got (stepped p next p.slip))
+      pub word_false : b ≡ true → TestOutcome (Is test_word) s names n p before (set before p.used FALSE) (Ok (stepped p next p.slip))
       unfolding test_codes test_uses
       word_false h =
           word_read (Is test_word) test_codes test_uses s names n p before false_test k FALSE next p.slip f
@@ -154,7 +154,7 @@ module _ (s names : List ℕ) (n : ℕ) (p : Place) (before : List ℕ) (k : Key
             test_reserved f.spelling (tokens (drop p.at s)) (tokens (drop next s)) f.read not-true not-false (key_reserved d_is h)
 
         pub word_named : (c : ℕ) (i slip : Slip) → d ≡ false → c ≡ find_in n names k → i ≡ slip_of_code A-TEST A-RELATION c → slip ≡ first_of p.slip i
-            → TestOutcome (Is test_word) s names n p before (set before p.used c) (Got (stepped p next slip))
+            → TestOutcome (Is test_word) s names n p before (set before p.used c) (Ok (stepped p next slip))
         unfolding test_codes test_uses
         word_named c i slip h =
             name_taken (Is test_word) test_codes test_uses (test_name f.spelling) A-TEST A-RELATION
@@ -167,7 +167,7 @@ module _ (s names : List ℕ) (n : ℕ) (p : Place) (before : List ℕ) (k : Key
     named_reserved h = name_reserved f.spelling (tokens (drop p.at s)) (tokens (drop next s)) f.read (key_reserved d_is h)
 
     pub named_taken : (c : ℕ) (i slip : Slip) → d ≡ false → c ≡ find_in n names k → i ≡ slip_of_code A-RELATION LINE c → slip ≡ first_of p.slip i
-        → TreeOutcome (Is (name_next name)) s names n p before (set before p.used c) (Got (stepped p next slip))
+        → TreeOutcome (Is (name_next name)) s names n p before (set before p.used c) (Ok (stepped p next slip))
     unfolding tree_codes tree_uses
     named_taken c i slip h =
         name_taken (Is (name_next name)) tree_codes tree_uses (name f.spelling) A-RELATION LINE

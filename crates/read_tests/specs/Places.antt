@@ -2,7 +2,7 @@
 -- codes of the tree that it reads, children before parents. A slip of a name is remembered and not refused, since a fault of the
 -- notation further on in the line comes first.
 -- Assumes nothing.
-use Rattle.std.specs.Prelude.{ℕ, ◌+◌, ◌*◌, ◌-◌, ◌≤◌, ◌<◌, ◌≡◌, List, length, drop}
+use Rattle.std.specs.Prelude.{ℕ, ◌+◌, ◌*◌, ◌-◌, ◌≤◌, ◌<◌, ◌≡◌, Result, Ok, Err, List, length, drop}
 use Rattle.std.proofs.lemmas.List.Edits.{sets}
 use Rattle.claims.specs.Tokens.{Token, tokens}
 use Rattle.claims.specs.Grammar.{Found, got, wrong, deep}
@@ -13,8 +13,8 @@ use Rattle.memory.specs.Memory.{zeros}
 use Rattle.codes.specs.Codes.{test_codes, tree_codes}
 use Rattle.read_names.specs.Keys.{Knows}
 use Rattle.read_tests.specs.declared.Place.{Place}
-use Rattle.read_tests.specs.declared.Parsed.{Parsed}
-use Rattle.read_tests.specs.declared.Parsed.TheVariants.{Got, Wrong, Deep}
+use Rattle.read_tests.specs.declared.Fault.{Fault}
+use Rattle.read_tests.specs.declared.Fault.TheVariants.{Wrong, Deep}
 use Rattle.read_names.specs.Slips.{slip_by, first_of}
 
 -- the memory for codes has room for the rest of the line: each code takes a byte of the line at least
@@ -46,17 +46,17 @@ module _ {A : Type 0} (Reads : List Token → Found A → Type 0) (codes : Query
     pub moved : Moved s p r
     pub told : (q : Query) → Knows names n q → Told q p before after r (codes q tree) (uses tree)
 
-  abbrev pub ReaderOutcome : Parsed → Type 0
-  ReaderOutcome (Got r) = Read r
-  ReaderOutcome Wrong = Reads (tokens (drop p.at s)) wrong × (after ≡ zeros 4096)
-  ReaderOutcome Deep = Reads (tokens (drop p.at s)) deep × (after ≡ zeros 4096)
+  abbrev pub ReaderOutcome : Result Place Fault → Type 0
+  ReaderOutcome (Ok r) = Read r
+  ReaderOutcome (Err Wrong) = Reads (tokens (drop p.at s)) wrong × (after ≡ zeros 4096)
+  ReaderOutcome (Err Deep) = Reads (tokens (drop p.at s)) deep × (after ≡ zeros 4096)
 
 -- a reader of T
-abbrev pub TestOutcome : (List Token → Found TestTree → Type 0) → List ℕ → List ℕ → ℕ → Place → List ℕ → List ℕ → Parsed → Type 0
+abbrev pub TestOutcome : (List Token → Found TestTree → Type 0) → List ℕ → List ℕ → ℕ → Place → List ℕ → List ℕ → Result Place Fault → Type 0
 TestOutcome Reads s names n p before after r = ReaderOutcome Reads test_codes test_uses s names n p before after r
 
 -- a reader of E
-abbrev pub TreeOutcome : (List Token → Found Tree → Type 0) → List ℕ → List ℕ → ℕ → Place → List ℕ → List ℕ → Parsed → Type 0
+abbrev pub TreeOutcome : (List Token → Found Tree → Type 0) → List ℕ → List ℕ → ℕ → Place → List ℕ → List ℕ → Result Place Fault → Type 0
 TreeOutcome Reads s names n p before after r = ReaderOutcome Reads tree_codes tree_uses s names n p before after r
 
 -- The reader D of the grammar, at d open brackets, finds x in the tokens ts with any depth of calls that is enough for them: 8 for each

@@ -5,14 +5,12 @@
 // place of a reader serves the readers of E too.
 #![tactic(auto)]
 
-ghost use Rattle.std.specs.Prelude.{◌≡◌, ◌≤◌};
+ghost use Rattle.std.specs.Prelude.{◌≤◌};
 ghost use Rattle.claims.specs.Lines.{condition};
-ghost use Rattle.memory.specs.Memory.{zeros};
-ghost use Rattle.read_tests.specs.declared.Parsed.TheVariants.{Wrong, Deep};
 ghost use Rattle.read_tests.specs.Places.{Room, TestOutcome, Is, Finds, opened};
 ghost use Rattle.claims.specs.Grammar.{test_union, test_meet, test_not, test_basic, test_word};
 
-use read_names::Slip;
+use read_names::{Keyword, Slip};
 use read_tokens::Token;
 
 // How many round brackets may be open at once.
@@ -26,29 +24,12 @@ pub struct Place {
     pub slip: Slip,
 }
 
-// What a reader finds: a tree, whose codes it has written; a token with which the notation does not go on; or a 33rd open bracket. After
-// the last two no code is left, of this tree or of what was read before it.
+// Why a reader finds no tree: a token with which the notation does not go on, or a 33rd open bracket. A reader answers the place behind the
+// tree whose codes it has written, or the fault; and then no code is left, of this tree or of what was read before it.
 #[derive(Clone, Copy)]
-pub enum Parsed {
-    Got(Place),
+pub enum Fault {
     Wrong,
     Deep,
-}
-
-// A token with which the notation does not go on: no code is left.
-pub fn wrong(out: &mut [u64; 4096]) -> Parsed
-    ensures { (result ≡ Wrong) × (out.new ≡ zeros 4096) }
-{
-    read_next::clear_codes(out);
-    Parsed::Wrong
-}
-
-// A 33rd open bracket: no code is left.
-pub fn deep(out: &mut [u64; 4096]) -> Parsed
-    ensures { (result ≡ Deep) × (out.new ≡ zeros 4096) }
-{
-    read_next::clear_codes(out);
-    Parsed::Deep
 }
 
 // T, where `depth` more brackets may be opened.
@@ -60,31 +41,22 @@ pub fn union(
     depth: usize,
     p: Place,
     out: &mut [u64; 4096],
-) -> Parsed
+) -> Result<Place, Fault>
     requires { (depth ≤ 32) × Room s.now p }
     ensures { TestOutcome (Finds test_union (opened depth) 4) s.now names.now n p out.old out.new result }
 {
     let mut place = p;
     let mut more = 0;
     loop {
-        let r = meet(s, names, n, depth, place, out);
-        let Parsed::Got(got) = r else {
-            return r;
-        };
-        let slip = got.slip;
+        let got = meet(s, names, n, depth, place, out)?;
         let used = read_next::write(out, got.used, more, codes::OR);
-        let next = read_next::mark_next(s, got.at, b'|');
-        if next == 0 {
-            return Parsed::Got(Place {
-                at: got.at,
-                used,
-                slip,
-            });
-        }
+        let Some(next) = read_next::mark_next(s, got.at, b'|') else {
+            return Ok(Place { used, ..got });
+        };
         place = Place {
             at: next,
             used,
-            slip,
+            ..got
         };
         more = 1;
     }
@@ -92,31 +64,29 @@ pub fn union(
 
 // T without a `|` outside brackets.
 #[cycle(basic_meet_not_union)]
-fn meet(s: &[u8], names: &[u64], n: usize, depth: usize, p: Place, out: &mut [u64; 4096]) -> Parsed
+fn meet(
+    s: &[u8],
+    names: &[u64],
+    n: usize,
+    depth: usize,
+    p: Place,
+    out: &mut [u64; 4096],
+) -> Result<Place, Fault>
     requires { (depth ≤ 32) × Room s.now p }
     ensures { TestOutcome (Finds test_meet (opened depth) 3) s.now names.now n p out.old out.new result }
 {
     let mut place = p;
     let mut more = 0;
     loop {
-        let r = not(s, names, n, depth, place, out);
-        let Parsed::Got(got) = r else {
-            return r;
-        };
-        let slip = got.slip;
+        let got = not(s, names, n, depth, place, out)?;
         let used = read_next::write(out, got.used, more, codes::AND);
-        let next = read_next::mark_next(s, got.at, b'&');
-        if next == 0 {
-            return Parsed::Got(Place {
-                at: got.at,
-                used,
-                slip,
-            });
-        }
+        let Some(next) = read_next::mark_next(s, got.at, b'&') else {
+            return Ok(Place { used, ..got });
+        };
         place = Place {
             at: next,
             used,
-            slip,
+            ..got
         };
         more = 1;
     }
@@ -124,102 +94,87 @@ fn meet(s: &[u8], names: &[u64], n: usize, depth: usize, p: Place, out: &mut [u6
 
 // T without a `|` or `&` outside brackets.
 #[cycle(basic_meet_not_union)]
-fn not(s: &[u8], names: &[u64], n: usize, depth: usize, p: Place, out: &mut [u64; 4096]) -> Parsed
+fn not(
+    s: &[u8],
+    names: &[u64],
+    n: usize,
+    depth: usize,
+    p: Place,
+    out: &mut [u64; 4096],
+) -> Result<Place, Fault>
     requires { (depth ≤ 32) × Room s.now p }
     ensures { TestOutcome (Finds test_not (opened depth) 2) s.now names.now n p out.old out.new result }
 {
     let run = read_next::marks_next(s, p.at, b'!');
-    let slip = p.slip;
-    let inner = Place {
-        at: run.at,
-        used: p.used,
-        slip,
-    };
-    let r = basic(s, names, n, depth, inner, out);
-    let Parsed::Got(got) = r else {
-        return r;
-    };
-    let found = got.slip;
+    let inner = Place { at: run.at, ..p };
+    let got = basic(s, names, n, depth, inner, out)?;
     let used = read_next::write(out, got.used, run.count, codes::NOT);
-    Parsed::Got(Place {
-        at: got.at,
-        used,
-        slip: found,
-    })
+    Ok(Place { used, ..got })
 }
 
 // A name, `true`, `false`, or a T in round brackets.
 #[cycle(basic_meet_not_union)]
-fn basic(s: &[u8], names: &[u64], n: usize, depth: usize, p: Place, out: &mut [u64; 4096]) -> Parsed
+fn basic(
+    s: &[u8],
+    names: &[u64],
+    n: usize,
+    depth: usize,
+    p: Place,
+    out: &mut [u64; 4096],
+) -> Result<Place, Fault>
     requires { (depth ≤ 32) × Room s.now p }
     ensures { TestOutcome (Finds test_basic (opened depth) 1) s.now names.now n p out.old out.new result }
 {
-    let next = read_next::mark_next(s, p.at, b'(');
-    if next == 0 {
+    let Some(next) = read_next::mark_next(s, p.at, b'(') else {
         return word(s, names, n, p, out);
-    }
+    };
     if depth == 0 {
-        return deep(out);
+        return read_next::fail(out, Fault::Deep);
     }
-    let slip = p.slip;
-    let inner = Place {
-        at: next,
-        used: p.used,
-        slip,
+    let inner = Place { at: next, ..p };
+    let got = union(s, names, n, depth - 1, inner, out)?;
+    let Some(end) = read_next::mark_next(s, got.at, b')') else {
+        return read_next::fail(out, Fault::Wrong);
     };
-    let r = union(s, names, n, depth - 1, inner, out);
-    let Parsed::Got(got) = r else {
-        return r;
-    };
-    let found = got.slip;
-    let end = read_next::mark_next(s, got.at, b')');
-    if end == 0 {
-        return wrong(out);
-    }
-    Parsed::Got(Place {
-        at: end,
-        used: got.used,
-        slip: found,
-    })
+    Ok(Place { at: end, ..got })
 }
 
 // A name, `true` or `false`.
-fn word(s: &[u8], names: &[u64], n: usize, p: Place, out: &mut [u64; 4096]) -> Parsed
+fn word(s: &[u8], names: &[u64], n: usize, p: Place, out: &mut [u64; 4096]) -> Result<Place, Fault>
     requires { Room s.now p }
     ensures { TestOutcome (Is test_word) s.now names.now n p out.old out.new result }
 {
     let used = p.used;
-    let slip = p.slip;
     let t = read_tokens::token_at(s, p.at);
     let Token::Word(k, next) = t else {
-        return wrong(out);
+        return read_next::fail(out, Fault::Wrong);
     };
-    if read_names::same_key(read_names::word_key(read_names::TRUE_WORD), k) {
+    if Keyword::True.key() == k {
         out[used] = codes::TRUE;
-        return Parsed::Got(Place {
+        return Ok(Place {
             at: next,
             used: used + 1,
-            slip,
+            ..p
         });
     }
-    if read_names::same_key(read_names::word_key(read_names::FALSE_WORD), k) {
+    if Keyword::False.key() == k {
         out[used] = codes::FALSE;
-        return Parsed::Got(Place {
+        return Ok(Place {
             at: next,
             used: used + 1,
-            slip,
+            ..p
         });
     }
     if read_names::reserved(k) {
-        return wrong(out);
+        return read_next::fail(out, Fault::Wrong);
     }
     let code = read_names::find(names, n, k);
     out[used] = code;
-    Parsed::Got(Place {
+    Ok(Place {
         at: next,
         used: used + 1,
         slip: read_names::first_slip(
-            slip,
+            p.slip,
             read_names::slip_of(code, codes::A_TEST, codes::A_RELATION),
         ),
     })
@@ -227,7 +182,13 @@ fn word(s: &[u8], names: &[u64], n: usize, p: Place, out: &mut [u64; 4096]) -> P
 
 // A T from the place p on, with no open bracket. What is required of the room in `out` is no limit of its own: a code takes a byte of
 // the line at least, a query has at most 4,096, and what is ensured keeps the room for the rest of the line.
-pub fn condition(s: &[u8], names: &[u64], n: usize, p: Place, out: &mut [u64; 4096]) -> Parsed
+pub fn condition(
+    s: &[u8],
+    names: &[u64],
+    n: usize,
+    p: Place,
+    out: &mut [u64; 4096],
+) -> Result<Place, Fault>
     requires { Room s.now p }
     ensures { TestOutcome (Is condition) s.now names.now n p out.old out.new result }
 {

@@ -12,10 +12,11 @@ use mathlib.Core.Option.{Option, some, none}
 use lib.Dec.{ltb}
 use lib.ListN.{length, take, drop, length-take, length-append, drop_of_length-le}
 use lib.Seq.{sets, sets-eq, take-append_seam}
+use Rattle.std.specs.Prelude.{Result as Returned, Ok, Err}
 use Rattle.claims.specs.Bytes.{RawLine, raw_lines}
 use Rattle.claims.specs.Tree.{Claim}
 use Rattle.claims.specs.Lines.{line}
-use Rattle.claims.specs.Query.{Query, tests, relations, lets}
+use Rattle.claims.specs.Query.{Query, tests, relations}
 use Rattle.claims.specs.Reading.{claim_of, read_line, read_lines}
 use Rattle.claims.specs.Refusals.{no_claim, after_claim, Result, ok, refuse, afterwards}
 use Rattle.claims.specs.Names.{kind_of}
@@ -30,12 +31,9 @@ use Rattle.refusals.specs.Causes.{cause_of}
 use Rattle.refusals.specs.declared.Reason.{Reason}
 use Rattle.refusals.specs.declared.Reason.TheVariants.{NoClaim}
 use Rattle.read_text.specs.declared.Summary.{Summary}
-use Rattle.read_text.specs.declared.TextRead.TheVariants.{Accepted, Refused}
 use Rattle.read_declarations.specs.declared.LineState.{LineState}
-use Rattle.read_declarations.specs.declared.LineRead.{LineRead}
-use Rattle.read_declarations.specs.declared.LineRead.TheVariants.{Taken, Refused as LineRefused}
 use Rattle.read_text.proofs.TextLines.{line_split}
-use Rattle.read_text.proofs.Answers.{claimed_none, claimed_some}
+use Rattle.read_text.proofs.Answers.{refusal, claimed_none, claimed_some}
 
 -- the lines go by the fate of the first
 pub lines_by_fate : (q : Query) (n : ℕ) (l : RawLine) (ls : List RawLine)
@@ -81,8 +79,8 @@ going_start text out names a =
 
 -- a refusal's answer: no code is left
 refused_answer : (r : Result Query) (c : Reason) (p : ℕ) (before out : List ℕ) → out ≡ zeros 4096 → r ≡ refuse (cause_of c) p
-    → SaysSummary r (Refused c p) × Written r before out
-refused_answer r c p before out z e = subst⁻¹ (λ x. SaysSummary x (Refused c p) × Written x before out) e ((refl, refl), z)
+    → SaysSummary r (Err (refusal c p)) × Written r before out
+refused_answer r c p before out z e = subst⁻¹ (λ x. SaysSummary x (Err (refusal c p)) × Written x before out) e ((refl, refl), z)
 
 -- the line from `at` to e
 abbrev pub line_at : List ℕ → ℕ → ℕ → RawLine
@@ -98,7 +96,7 @@ module _ (text before : List ℕ) (st : LineState) (names out : List ℕ) (n at 
   next_line = ap (read_lines g.query n) (sym (line_split text at e h ends)) ∙ g.left
 
   -- a line that is taken
-  pub going_on : (names' out' : List ℕ) (r : LineRead) (next : LineState) → ReadsLine (line_at text at e) st names out r names' out' → r ≡ Taken next
+  pub going_on : (names' out' : List ℕ) (r : Returned LineState Reason) (next : LineState) → ReadsLine (line_at text at e) st names out r names' out' → r ≡ Ok next
       → Going text before next names' out' (n + 1) (e + 1)
   going_on names' out' r next says same =
       let t : Took g.query (line_at text at e) st next before names' out' =
@@ -121,8 +119,8 @@ module _ (text before : List ℕ) (st : LineState) (names out : List ℕ) (n at 
       }
 
   -- a line that is refused
-  pub refused_here : (names' out' : List ℕ) (r : LineRead) (c : Reason) → ReadsLine (line_at text at e) st names out r names' out' → r ≡ LineRefused c
-      → SaysSummary (in_lines text) (Refused c n) × Written (in_lines text) before out'
+  pub refused_here : (names' out' : List ℕ) (r : Returned LineState Reason) (c : Reason) → ReadsLine (line_at text at e) st names out r names' out' → r ≡ Err c
+      → SaysSummary (in_lines text) (Err (refusal c n)) × Written (in_lines text) before out'
   unfolding in_lines
   refused_here names' out' r c says same =
       let f : (k : ℕ) → line_fate g.query k (line_at text at e) ≡ refuse (cause_of c) k =
@@ -145,7 +143,7 @@ module _ (text before : List ℕ) (st : LineState) (names out : List ℕ) (n at 
       ap (λ x. afterwards x claimed) (sym g.left ∙ e)
 
   pub over_unclaimed : st.claimed ≡ false → (left : List ℕ) (size : ℕ) → size ≡ 4096 → left ≡ zeros size
-      → SaysSummary (in_lines text) (Refused NoClaim 0) × Written (in_lines text) before left
+      → SaysSummary (in_lines text) (Err (refusal NoClaim 0)) × Written (in_lines text) before left
   unfolding cause_of
   over_unclaimed e left size m z =
       refused_answer (in_lines text) NoClaim 0 before left (z ∙ ap zeros m)
@@ -172,9 +170,9 @@ module _ (text before : List ℕ) (st : LineState) (names out : List ℕ) (n at 
       rw (known, summary_of, front, lines, g.after.used, g.after.tests, g.after.relations) refl
 
   pub over_claimed : length text ≤ length before → st.claimed ≡ true → (s : Summary) → s ≡ known st (n - 1) (take st.used out)
-      → SaysSummary (in_lines text) (Accepted s) × Written (in_lines text) before out
+      → SaysSummary (in_lines text) (Ok s) × Written (in_lines text) before out
   over_claimed m e s i =
-      subst⁻¹ (λ x. SaysSummary x (Accepted s) × Written x before out) (all_read ∙ go (claim_of g.query) refl (sym g.after.claimed ∙ e))
+      subst⁻¹ (λ x. SaysSummary x (Ok s) × Written x before out) (all_read ∙ go (claim_of g.query) refl (sym g.after.claimed ∙ e))
       (i ∙ known_summary m, read_so_far m)
     where
       go : (o : Option Claim) → claim_of g.query ≡ o → elim o [ some c ↦ true | none ↦ false ] ≡ true → claimed g.query ≡ ok g.query

@@ -7,7 +7,7 @@ use mathlib.Core.Path.{◌≡◌, refl, sym, ◌∙◌, ap}
 use mathlib.Core.Logic.{⊎_elim}
 use mathlib.Core.Bool.{Bool, true, false, not}
 use mathlib.Core.List.{List, [], ◌∷◌}
-use mathlib.Core.Option.{Option, some, none}
+use mathlib.Core.Option.{some, none}
 use lib.Dec.{eqb, ltb, leb-suc-suc}
 use lib.ListN.{length, take, drop, get_or, length-drop, drop_of_length-le}
 use lib.Seq.{drop-cons, drop-drop}
@@ -15,10 +15,9 @@ use borrow.Author.Tests.{eq-eqb, ne_eqb, le-leb, lt-leb, lt-ltb, le-ltb}
 use Rattle.kat.proofs.Bools.{le_or_lt}
 use Rattle.claims.specs.Bytes.{RawLine, in_front, raw_lines}
 use Rattle.claims.specs.Reading.{bad_line}
-use Rattle.claims.proofs.FirstFault.{bad_line_lem}
 use Rattle.read_tokens.specs.Scan.{front}
 use Rattle.read_tokens.proofs.Fronts.{front_none, front_one}
-use Rattle.read_text.specs.inner.Steps.{in_line, or_zero}
+use Rattle.read_text.specs.inner.Steps.{in_line}
 
 -- the byte at i of s, in line n: it ends the line, may stand in it, or may not
 module _ (n : ℕ) (s : List ℕ) (i : ℕ) (h : i < length s) where
@@ -43,23 +42,6 @@ module _ (n : ℕ) (s : List ℕ) (i : ℕ) (h : i < length s) where
 pub bytes_over : (n : ℕ) (s : List ℕ) (i : ℕ) → length s ≤ i → bad_line n (drop i s) ≡ none
 unfolding bad_line
 bytes_over n s i h = rw (drop_of_length-le s h)
-
--- a bad line's number is not 0, so that 0 says that there is none
-pub bad_line_there : (bs : List ℕ) (n : ℕ) → n ≡ or_zero (bad_line 1 bs) → 0 < n → bad_line 1 bs ≡ some n
-unfolding or_zero
-bad_line_there bs n e h = go (bad_line 1 bs) e
-  where
-    go : (o : Option ℕ) → n ≡ or_zero o → o ≡ some n
-    go none f = absurd (omega arith)
-    go (some m) f = ap some (sym f)
-
-pub bad_line_none : (bs : List ℕ) (n : ℕ) → n ≡ or_zero (bad_line 1 bs) → n ≤ 0 → bad_line 1 bs ≡ none
-unfolding or_zero
-bad_line_none bs n e h = go (bad_line 1 bs) refl e
-  where
-    go : (o : Option ℕ) → bad_line 1 bs ≡ o → n ≡ or_zero o → o ≡ none
-    go none f g = refl
-    go (some m) f g = let (before, b, rest, q, ev, bad, at) = (bad_line_lem 1 bs m).0 f in absurd (omega arith)
 
 -- the first line is what stands in front of the first byte 10, and the others stand behind it
 abbrev first_of : List ℕ → RawLine

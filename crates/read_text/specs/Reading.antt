@@ -1,7 +1,7 @@
 -- What the reader answers and what it leaves in the lent array, for every list of bytes. (Document 01, "Refusals with an example each".)
 -- This is the reading up to refusal 7: `read` of document 01 is this and then the limits (refusal 8).
 -- Assumes nothing.
-use Rattle.std.specs.Prelude.{ℕ, ◌-◌, ◌≡◌, true, false, List, [], ◌++◌, leb, length}
+use Rattle.std.specs.Prelude.{Result as Returned, Ok, Err, ℕ, ◌-◌, ◌≡◌, true, false, List, [], ◌++◌, leb, length}
 use Rattle.std.proofs.Math.Option.{some, none}
 use Rattle.claims.specs.Bytes.{raw_lines}
 use Rattle.claims.specs.Query.{Query, tests, relations}
@@ -10,8 +10,7 @@ use Rattle.claims.specs.Refusals.{too_long, bad_byte, no_claim, Result, ok, refu
 use Rattle.codes.specs.Codes.{query_codes, claim_kind}
 use Rattle.refusals.specs.Causes.{cause_of}
 use Rattle.read_text.specs.declared.Summary.{Summary}
-use Rattle.read_text.specs.declared.TextRead.{TextRead}
-use Rattle.read_text.specs.declared.TextRead.TheVariants.{Accepted, Refused}
+use Rattle.refusals.specs.declared.Refusal.{Refusal}
 use Rattle.memory.specs.Memory.{zeros}
 
 -- a query must have a claim
@@ -42,11 +41,11 @@ summary_of q =
     }
 
 -- the answer says what was read: the summary of the query, or the cause and the place
-abbrev pub SaysSummary : Result Query → TextRead → Type 0
-SaysSummary (ok q) (Accepted s) = s ≡ summary_of q
-SaysSummary (ok q) (Refused c p) = ⊥
-SaysSummary (refused r) (Accepted s) = ⊥
-SaysSummary (refused r) (Refused c p) = (cause_of c ≡ r.cause) × (p ≡ r.place)
+abbrev pub SaysSummary : Result Query → Returned Summary Refusal → Type 0
+SaysSummary (ok q) (Ok s) = s ≡ summary_of q
+SaysSummary (ok q) (Err f) = ⊥
+SaysSummary (refused r) (Ok s) = ⊥
+SaysSummary (refused r) (Err f) = (cause_of f.why ≡ r.cause) × (f.place ≡ r.place)
 
 -- the lent array: the codes of the query, and zeros behind; all zeros after a refusal
 unfoldable pub left_codes : Result Query → List ℕ

@@ -3,11 +3,13 @@
 use Prim.Native.Nat.{ℕ, suc, ◌+◌, ◌≤◌, ◌<◌}
 use native.Mathlib.Omega.{arith}
 use native.Mathlib.Numerals.{add-one}
-use mathlib.Core.Path.{◌≡◌, refl}
+use mathlib.Core.Path.{◌≡◌, refl, ap, ◌∙◌}
 use mathlib.Core.Bool.{Bool, true, false, cond}
 use mathlib.Core.List.{List, [], ◌∷◌}
-use lib.ListN.{length, take, drop, get_or, drop_of_length-le}
+use lib.ListN.{length, take, drop, get_or, drop_of_length-le, length-drop}
 use lib.Seq.{drop-cons}
+use Rattle.std.specs.List.{prefix_len}
+use Rattle.std.proofs.lemmas.List.Folds.{length-prefix_len}
 use Rattle.kat.specs.Lists.{every}
 use Rattle.read_tokens.specs.Scan.{front}
 
@@ -32,6 +34,11 @@ module _ (p : ℕ → Bool) where
   unfolding front
   front_end s i h = rw (drop_of_length-le s h) (omega arith)
 
+  front_prefix : (s : List ℕ) → prefix_len p s ≡ front p s
+  unfolding front
+  front_prefix [] = refl
+  front_prefix (b ∷ bs) = let more : 1 + prefix_len p bs ≡ suc (front p bs) = omega (arith, front_prefix bs) in ap (λ n. cond (p b) n 0) more
+
   pub front_within : (s : List ℕ) → front p s ≤ length s
   unfolding front
   front_within [] = omega arith
@@ -40,6 +47,13 @@ module _ (p : ℕ → Bool) where
       go : (t : Bool) → front p bs ≤ length bs → cond t (suc (front p bs)) 0 ≤ suc (length bs)
       go true h = omega arith
       go false h = omega arith
+
+  -- the count of what `take_while` takes of the bytes behind i
+  pub front_taken : (s : List ℕ) (i n : ℕ) → i ≤ length s → n ≡ length (take (prefix_len p (drop i s)) (drop i s))
+      → (i + n ≡ i + front p (drop i s)) × (i + n ≤ length s)
+  front_taken s i n h e =
+      let f : n ≡ front p (drop i s) = e ∙ length-prefix_len p (drop i s) ∙ front_prefix (drop i s) in
+      (ap (λ k. i + k) f, omega (arith, f, front_within (drop i s), length-drop i s))
 
   -- what stands in front passes the test
   pub front_passes : (s : List ℕ) → every p (take (front p s) s) ≡ true

@@ -7,7 +7,7 @@ ghost use Rattle.claims.specs.Bytes.{letter as isLetter};
 ghost use Rattle.read_tokens.specs.Scan.{is_space, word_byte, is_mark, front, half_of, key_of, word_at, token_at, first_byte};
 
 // The bytes of a name, 8 in each half, zeros behind.
-#[derive(Clone, Copy)]
+#[derive(Clone, Copy, PartialEq, Eq)]
 pub struct Key {
     pub high: u64,
     pub low: u64,
@@ -25,24 +25,20 @@ pub enum Token {
 fn letter(b: u8) -> bool
     ensures { result ≡ isLetter b }
 {
-    ((65 <= b) & (b <= 90)) | ((97 <= b) & (b <= 122))
+    b.is_ascii_alphabetic()
 }
 
 fn word_byte(b: u8) -> bool
     ensures { result ≡ word_byte b }
 {
-    letter(b) | ((48 <= b) & (b <= 57))
+    letter(b) | b.is_ascii_digit()
 }
 
 // The marks `| ; * + ? [ ] ( ) & ! =`.
 fn mark(b: u8) -> bool
     ensures { result ≡ is_mark b }
 {
-    let pairs = (b == b'[')
-        | ((b == b']')
-            | ((b == b'(')
-                | ((b == b')') | ((b == b'&') | ((b == b'!') | ((b == b'=') | false))))));
-    (b == b'|') | ((b == b';') | ((b == b'*') | ((b == b'+') | ((b == b'?') | pairs))))
+    b"|;*+?[]()&!=".contains(&b)
 }
 
 // The first position at or behind `at` that holds no space.
@@ -50,14 +46,7 @@ fn skip(s: &[u8], at: usize) -> usize
     requires { at ≤ length s.now }
     ensures { (result ≡ at + front is_space (drop at s.now)) × (result ≤ length s.now) }
 {
-    let mut i = at;
-    while i < s.len() {
-        if s[i] != b' ' {
-            return i;
-        }
-        i += 1;
-    }
-    i
+    at + s[at..].iter().take_while(|b| **b == b' ').count()
 }
 
 // The end of the run of letters and digits from `at` on.
@@ -65,14 +54,7 @@ fn run_end(s: &[u8], at: usize) -> usize
     requires { at ≤ length s.now }
     ensures { (result ≡ at + front word_byte (drop at s.now)) × (result ≤ length s.now) }
 {
-    let mut i = at;
-    while i < s.len() {
-        if !word_byte(s[i]) {
-            return i;
-        }
-        i += 1;
-    }
-    i
+    at + s[at..].iter().take_while(|b| word_byte(**b)).count()
 }
 
 // Byte j of the n bytes at i, and 0 behind them.

@@ -12,11 +12,11 @@ use Rattle.kat.proofs.Bools.{lt_or_le}
 use Rattle.claims.specs.Refusals.{Cause, number, too_long, bad_byte, notation, too_deep, unknown_name, wrong_kind, declared_twice, reserved_name, too_many, no_claim, after_claim, over_limit, bad_allowance, short_memory, spent_allowance, short_buffer, graph_field, sheet_field, does_not_pass}
 use Rattle.claims.specs.Printed.{digits_before, decimal, spaced, refusal_line}
 use Rattle.refusals.specs.Causes.{cause_of}
-use Rattle.refusals.specs.declared.Reason.{Reason}
+use Rattle.refusals.specs.declared.Refusal.{Refusal}
 use Rattle.print_line.proofs.Decimals.{fewer_digits}
 use Rattle.query.specs.declared.Facts.{Facts}
-use Rattle.query.specs.declared.Answer.{Answer}
-use Rattle.query.specs.declared.Answer.TheVariants.{Accepted, Refused}
+use Rattle.std.specs.Prelude.{Ok, Err}
+use Rattle.query.specs.Answer.{Answer}
 use Rattle.reading_line.specs.Shown.{accepted_line}
 use Rattle.reading_line.specs.inner.Answers.{answer_line}
 
@@ -69,12 +69,12 @@ accepted_short true left right a b = simp length-append (omega (arith, decimal_f
 accepted_short false left right a b = simp length-append (omega (arith, decimal_few left a, decimal_few right b))
 
 -- by the case of the answer
-pub answer_accepted : (a : Answer) (f : Facts) → a ≡ Accepted f → length (accepted_line f.ring f.left f.right) ≤ 56 → length (answer_line a) ≤ 56
+pub answer_accepted : (a : Answer) (f : Facts) → a ≡ Ok f → length (accepted_line f.ring f.left f.right) ≤ 56 → length (answer_line a) ≤ 56
 unfolding answer_line
 answer_accepted a f e h = subst⁻¹ (λ (x : Answer). length (answer_line x) ≤ 56) e h
 
-pub answer_refused : (a : Answer) (why : Reason) (p : ℕ) → a ≡ Refused why p → p < 2 ^ 64 → length (answer_line a) ≤ 56
+pub answer_refused : (a : Answer) (y : Refusal) → a ≡ Err y → y.place < 2 ^ 64 → length (answer_line a) ≤ 56
 unfolding answer_line refusal_line spaced
-answer_refused a why p e h =
+answer_refused a y e h =
     subst⁻¹ (λ (x : Answer). length (answer_line x) ≤ 56) e
-    (simp length-append (omega (arith, decimal_few (number (cause_of why)) (number_small (cause_of why)), decimal_few p h)))
+    (simp length-append (omega (arith, decimal_few (number (cause_of y.why)) (number_small (cause_of y.why)), decimal_few y.place h)))

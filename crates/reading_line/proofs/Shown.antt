@@ -13,11 +13,10 @@ use Rattle.claims.specs.Sides.{decision}
 use Rattle.claims.specs.Refusals.{Cause, number, Result, ok, refused, Refusal}
 use Rattle.claims.specs.Printed.{spaced, refusal_line}
 use Rattle.refusals.specs.Causes.{cause_of}
-use Rattle.refusals.specs.declared.Reason.{Reason}
+use Rattle.refusals.specs.declared.Refusal.{Refusal as Reported}
 use Rattle.query.specs.declared.Facts.{Facts}
-use Rattle.query.specs.declared.Answer.{Answer}
-use Rattle.query.specs.declared.Answer.TheVariants.{Accepted, Refused}
-use Rattle.query.specs.Answer.{facts_of, Says}
+use Rattle.std.specs.Prelude.{Ok, Err}
+use Rattle.query.specs.Answer.{Answer, facts_of, Says}
 use Rattle.print_line.specs.Puts.{Puts}
 use Rattle.print_line.proofs.Putting.{puts_append, puts_bytes}
 use Rattle.print_line.proofs.Decimals.{spaced_append}
@@ -42,7 +41,7 @@ pub kind_path : {l m : List ℕ} {at to : ℕ} (ring : Bool) → ring ≡ false 
 kind_path ring e p = puts_bytes (ap kind_text (sym e)) p
 
 -- by the case of the answer
-pub as_accepted : {l m : List ℕ} {to : ℕ} (a : Answer) (f : Facts) → a ≡ Accepted f → Puts l 0 (accepted_line f.ring f.left f.right) to m
+pub as_accepted : {l m : List ℕ} {to : ℕ} (a : Answer) (f : Facts) → a ≡ Ok f → Puts l 0 (accepted_line f.ring f.left f.right) to m
     → Puts l 0 (answer_line a) to m
 unfolding answer_line
 as_accepted a f e p = puts_bytes (ap answer_line (sym e)) p
@@ -55,21 +54,21 @@ refusal_ended r =
     ap (λ (l : List ℕ). text "refusal" ++ l)
     (sym (append_assoc (spaced (number r.cause ∷ [])) (text " line" ++ spaced (r.place ∷ [])) (10 ∷ [])))
 
-pub as_refused : {l m : List ℕ} {to : ℕ} (a : Answer) (why : Reason) (p : ℕ) → a ≡ Refused why p
-    → Puts l 0 (text "refusal" ++ (spaced (number (cause_of why) ∷ []) ++ (text " line" ++ (spaced (p ∷ []) ++ (10 ∷ []))))) to m
+pub as_refused : {l m : List ℕ} {to : ℕ} (a : Answer) (y : Reported) → a ≡ Err y
+    → Puts l 0 (text "refusal" ++ (spaced (number (cause_of y.why) ∷ []) ++ (text " line" ++ (spaced (y.place ∷ []) ++ (10 ∷ []))))) to m
     → Puts l 0 (answer_line a) to m
 unfolding answer_line
-as_refused a why p e h = puts_bytes (refusal_ended (record { cause = cause_of why; place = p }) ∙ ap answer_line (sym e)) h
+as_refused a y e h = puts_bytes (refusal_ended (record { cause = cause_of y.why; place = y.place }) ∙ ap answer_line (sym e)) h
 
 -- the line of an answer that says the reading
 says_line : (r : Result Query) (a : Answer) → Says r a → answer_line a ≡ read_line r
 unfolding answer_line read_line facts_of
-says_line (ok q) (Accepted f) (c, h, i) =
+says_line (ok q) (Ok f) (c, h, i) =
     ap (λ (x : Facts). accepted_line x.ring x.left x.right) i
     ∙ ap (λ (o : Option Claim). elim o [ none ↦ [] | some d ↦ decision_line (decision q d) ]) (sym h)
-says_line (ok q) (Refused why p) s = absurd s
-says_line (refused r) (Accepted f) s = absurd s
-says_line (refused r) (Refused why p) (e, f) =
+says_line (ok q) (Err y) s = absurd s
+says_line (refused r) (Ok f) s = absurd s
+says_line (refused r) (Err y) (e, f) =
     ap₂ (λ (c : Cause) (k : ℕ). refusal_line (record { cause = c; place = k }) ++ (10 ∷ [])) e f
 
 pub read_line_lem : {l m : List ℕ} {to : ℕ} (r : Result Query) (a : Answer) → Says r a → Puts l 0 (answer_line a) to m → length (answer_line a) ≤ 56

@@ -9,7 +9,8 @@ ghost use Rattle.reading_line.specs.Shown.{kind_text, accepted_line, read_line, 
 ghost use Rattle.reading_line.specs.inner.Answers.{answer_line};
 
 use print_line::{put_byte, put_spaced, put_text};
-use query::Answer;
+use query::Facts;
+use refusals::Refusal;
 use side_tables::TABLE;
 
 // `ring` or `path`.
@@ -35,13 +36,13 @@ fn accepted_line(out: &mut [u8], ring: bool, left: usize, right: usize) -> usize
 }
 
 // The line of what the reader answered.
-fn answer_line(out: &mut [u8], a: Answer) -> usize
+fn answer_line(out: &mut [u8], a: Result<Facts, Refusal>) -> usize
     ensures puts { Puts out.old 0 (answer_line a) result out.new }
     ensures short { length (answer_line a) ≤ LONGEST }
 {
     match a {
-        Answer::Accepted(f) => accepted_line(out, f.ring, f.left, f.right),
-        Answer::Refused(why, place) => print_line::refusal_line(out, why, place),
+        Ok(f) => accepted_line(out, f.ring, f.left, f.right),
+        Err(e) => print_line::refusal_line(out, e.why, e.place),
     }
 }
 

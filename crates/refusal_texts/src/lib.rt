@@ -171,10 +171,8 @@ fn put_shown(out: &mut [u8], at: usize, line: &[u8]) -> usize
     ensures { Puts out.old at (map visible line.now) result out.new }
 {
     let mut to = at;
-    let mut i = 0;
-    while i < line.len() {
-        to = print_line::put_byte(out, to, shown_byte(line[i]));
-        i += 1;
+    for b in line {
+        to = print_line::put_byte(out, to, shown_byte(*b));
     }
     to
 }

@@ -29,6 +29,13 @@ pub enum Reason {
     DoesNotPass,
 }
 
+// A refusal: why, and where: the line of a query or of a judgement's graph, or the field of a sheet, as the call that refuses says.
+#[derive(Clone, Copy)]
+pub struct Refusal {
+    pub why: Reason,
+    pub place: usize,
+}
+
 // The number of a refusal.
 pub fn number(why: Reason) -> u64
     ensures { result ≡ number_of (cause_of why) }

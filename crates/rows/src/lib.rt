@@ -19,10 +19,8 @@ fn join(t: &mut [u64], u: &[u64])
     requires { (length t.old ≡ 64) × (length u.now ≡ 64) }
     ensures { t.new ≡ joined t.old u.now }
 {
-    let mut x = 0;
-    while x < t.len() {
-        t[x] = t[x] | u[x];
-        x += 1;
+    for (x, w) in t.iter_mut().enumerate() {
+        *w |= u[x];
     }
 }
 
@@ -40,10 +38,8 @@ fn compose(t: &[u64], u: &[u64], out: &mut [u64])
     requires { length out.old ≡ 64 }
     ensures { out.new ≡ composed t.now u.now }
 {
-    let mut x = 0;
-    while x < out.len() {
-        out[x] = bits::union_rows(u, row(t, x));
-        x += 1;
+    for (x, w) in out.iter_mut().enumerate() {
+        *w = bits::union_rows(u, row(t, x));
     }
 }
 
@@ -61,10 +57,8 @@ fn add_selves(t: &mut [u64], n: usize)
     requires { length t.old ≡ 64 }
     ensures { t.new ≡ reflexive t.old n }
 {
-    let mut x = 0;
-    while x < t.len() {
-        t[x] = marked(t[x], x, x < n);
-        x += 1;
+    for (x, w) in t.iter_mut().enumerate() {
+        *w = marked(*w, x, x < n);
     }
 }
 
@@ -89,10 +83,8 @@ fn join_where(t: &mut [u64], c: u64, k: usize, n: usize)
     ensures { t.new ≡ joined_where t.old c k n }
 {
     let m = memory::least(n, t.len());
-    let mut x = 0;
-    while x < m {
+    for x in 0..m {
         t[x] = merged(t[x], c, k);
-        x += 1;
     }
 }
 
@@ -100,10 +92,8 @@ fn join_where(t: &mut [u64], c: u64, k: usize, n: usize)
 fn close(t: &mut [u64], n: usize)
     ensures { t.new ≡ rounds t.old n n }
 {
-    let mut k = 0;
-    while k < n {
+    for k in 0..n {
         join_where(t, row(t, k), k, n);
-        k += 1;
     }
 }
 
@@ -121,10 +111,8 @@ fn put_selves(t: &mut [u64], s: u64)
     requires { length t.old ≡ 64 }
     ensures { t.new ≡ diagonal s }
 {
-    let mut x = 0;
-    while x < t.len() {
-        t[x] = marked(0, x, member(s, x));
-        x += 1;
+    for (x, w) in t.iter_mut().enumerate() {
+        *w = marked(0, x, member(s, x));
     }
 }
 
@@ -143,10 +131,8 @@ pub fn events_in(atoms: &[u64], n: usize, s: u64) -> u64
 {
     let m = memory::least(n, 64);
     let mut all: u64 = 0;
-    let mut x = 0;
-    while x < m {
+    for x in 0..m {
         all = marked(all, x, member(s, memory::word(atoms, x) as usize));
-        x += 1;
     }
     all
 }
@@ -157,14 +143,12 @@ fn lowest_from(t: &[u64], u: &[u64], n: usize) -> usize
     ensures { result ≡ lowest_pair t.now u.now n }
 {
     let m = memory::least(n, 64);
-    let mut x = 0;
-    while x < m {
+    for x in 0..m {
         let left = t[x] & (bits::ALL - u[x]);
         if left != 0 {
             let y = u64::trailing_zeros(left) as usize;
             return 64 * x + y;
         }
-        x += 1;
     }
     NOWHERE
 }
@@ -182,12 +166,10 @@ fn lowest_of(t: &[u64], n: usize) -> usize
     ensures { result ≡ lowest_loop t.now n }
 {
     let m = memory::least(n, 64);
-    let mut x = 0;
-    while x < m {
+    for x in 0..m {
         if member(t[x], x) {
             return x;
         }
-        x += 1;
     }
     NOWHERE
 }

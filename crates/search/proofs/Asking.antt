@@ -8,31 +8,28 @@ use Rattle.claims.specs.Reading.{read}
 use Rattle.claims.specs.Refusals.{Result, ok, refused, afterwards}
 use Rattle.claims.specs.Calls.{Asked, Lent, searched, search_asked, search_call}
 use Rattle.claims.proofs.SearchOrder.{search_reads_first}
-use Rattle.refusals.specs.declared.Reason.{Reason}
+use Rattle.refusals.specs.declared.Refusal.{Refusal}
 use Rattle.query.specs.declared.Facts.{Facts}
-use Rattle.query.specs.declared.Answer.{Answer}
-use Rattle.query.specs.declared.Answer.TheVariants.{Accepted as AcceptedFacts, Refused as RefusedQuery}
-use Rattle.query.specs.Answer.{Says, left_after, right_after}
-use Rattle.search_outcomes.specs.declared.Outcome.{Outcome}
-use Rattle.search_outcomes.specs.declared.Outcome.TheVariants.{Refused}
-use Rattle.search_outcomes.specs.Outcomes.{Gives, given_by, SearchGives}
+use Rattle.std.specs.Prelude.{Ok, Err}
+use Rattle.query.specs.Answer.{Answer, Says, left_after, right_after}
+use Rattle.search_outcomes.specs.Outcomes.{Outcome, Gives, given_by, SearchGives}
 use Rattle.search_outcomes.specs.ByWords.{SearchedByWords}
 use Rattle.search_outcomes.proofs.ByWords.{search_by_words}
 use Rattle.query.specs.Decided.{Decided}
 use Rattle.query.proofs.Asked.{asked_with}
 
 -- a refusal of the reader
-pub refused_gives : (bs : List ℕ) (x : Answer) → Says (read bs) x → (why : Reason) (p : ℕ) → x ≡ RefusedQuery why p → (allowance : ℕ) (m : Lent)
-    → SearchGives bs allowance m (Refused why p) m
-refused_gives bs x said why p e allowance m = go (read bs) refl (subst (Says (read bs)) e said)
+pub refused_gives : (bs : List ℕ) (x : Answer) → Says (read bs) x → (y : Refusal) → x ≡ Err y → (allowance : ℕ) (m : Lent)
+    → SearchGives bs allowance m (Err y) m
+refused_gives bs x said y e allowance m = go (read bs) refl (subst (Says (read bs)) e said)
   where
-    go : (r : Result Query) → read bs ≡ r → Says r (RefusedQuery why p) → SearchGives bs allowance m (Refused why p) m
+    go : (r : Result Query) → read bs ≡ r → Says r (Err y) → SearchGives bs allowance m (Err y) m
     go (ok q) f s = absurd s
     go (refused r) f s =
-        subst⁻¹ (λ d. Gives (given_by bs allowance) d (Refused why p) m) (search_reads_first bs allowance m r f)
+        subst⁻¹ (λ d. Gives (given_by bs allowance) d (Err y) m) (search_reads_first bs allowance m r f)
         (record { says = s; leaves = refl; sized = tt })
 
-module _ (bs : List ℕ) (x : Answer) (said : Says (read bs) x) (f : Facts) (e : x ≡ AcceptedFacts f) (left right : List ℕ)
+module _ (bs : List ℕ) (x : Answer) (said : Says (read bs) x) (f : Facts) (e : x ≡ Ok f) (left right : List ℕ)
     (is-left : left ≡ left_after (read bs)) (is_right : right ≡ right_after (read bs)) where
   -- an accepted query is searched
   pub accepted_gives : (allowance : ℕ) (m m' : Lent) (o : Outcome)

@@ -10,8 +10,8 @@ ghost use Rattle.search_outcomes.specs.Outcomes.{lent_of, SearchGives};
 ghost use Rattle.search_outcomes.specs.ByWords.{SearchedByWords};
 ghost use Rattle.layout.specs.Layout.{MOST-STANDINGS};
 
-use query::Answer;
-use search_outcomes::Outcome;
+use refusals::Refusal;
+use search_outcomes::Verdict;
 use search_records::Record;
 use side_tables::TABLE;
 
@@ -24,7 +24,7 @@ pub fn search(
     records: &mut [Record],
     words: &mut [u64],
     buffer: &mut [u8],
-) -> Outcome
+) -> Result<Verdict, Refusal>
     ensures gives { SearchGives text.now allowance (lent_of records.old words.old buffer.old) result
         (lent_of records.new words.new buffer.new) }
     ensures by_words { SearchedByWords text.now allowance (lent_of records.old words.old buffer.old)
@@ -33,26 +33,23 @@ pub fn search(
     let mut codes = [0u64; 4096];
     let mut left = [0u64; TABLE];
     let mut right = [0u64; TABLE];
-    let answer = query::read(text, &mut codes, &mut left, &mut right);
-    match answer {
-        Answer::Refused(why, place) => Outcome::Refused(why, place),
-        Answer::Accepted(f) => search_run::decide(
-            f, &left, &right, allowance, records, words, buffer,
-        ),
-    }
+    let f = query::read(text, &mut codes, &mut left, &mut right)?;
+    search_run::decide(f, &left, &right, allowance, records, words, buffer)
 }
 
 // The search with records of its own, for a caller that has none: as if 4,096 records of zeros had been lent. The query is read before there are
 // records.
-pub fn search_alone(text: &[u8], allowance: usize, words: &mut [u64], buffer: &mut [u8]) -> Outcome
+pub fn search_alone(
+    text: &[u8],
+    allowance: usize,
+    words: &mut [u64],
+    buffer: &mut [u8],
+) -> Result<Verdict, Refusal>
     ensures { (after : List Record) × SearchGives text.now allowance (lent_of (replicate MOST-STANDINGS blank) words.old buffer.old) result
         (lent_of after words.new buffer.new) }
 {
     let mut left = [0u64; TABLE];
     let mut right = [0u64; TABLE];
-    let answer = query::read_sides(text, &mut left, &mut right);
-    match answer {
-        Answer::Refused(why, line) => Outcome::Refused(why, line),
-        Answer::Accepted(f) => search_run::decide_alone(f, &left, &right, allowance, words, buffer),
-    }
+    let f = query::read_sides(text, &mut left, &mut right)?;
+    search_run::decide_alone(f, &left, &right, allowance, words, buffer)
 }

@@ -26,15 +26,7 @@ fn rows_alike(table: &Table, n: usize, r: usize, a: usize, b: usize) -> bool
     ensures { result ≡ rows_alike table.now n r a b }
 {
     let end = least(n, 64) + 1;
-    let mut p = 0;
-    while p < end {
-        let same = row_alike(table, r, a, b, p);
-        if !same {
-            return false;
-        }
-        p += 1;
-    }
-    true
+    (0..end).all(|p| row_alike(table, r, a, b, p))
 }
 
 // Whether both or neither of the single atoms are words, and the same occurrences may be last.
@@ -110,32 +102,12 @@ fn mask_at(k: Shape, n: usize, left: &Table, right: &Table, r: usize) -> u64
     }
 }
 
-// The masks, one after another.
-fn fill(k: Shape, n: usize, left: &Table, right: &Table, out: &mut [u64])
-    ensures { out.new ≡ words (length out.old) (mask_at k n left.now right.now) }
-{
-    let mut r = 0;
-    while r < out.len() {
-        out[r] = mask_at(k, n, left, right, r);
-        r += 1;
-    }
-}
-
 // For each relation the live atoms such that no lower live atom is alike before it; n left occurrences.
 pub fn masks(k: Shape, n: usize, left: &Table, right: &Table, out: &mut [u64; 16])
     ensures { out.new ≡ masks_of k n left.now right.now }
 {
-    fill(k, n, left, right, out);
-}
-
-// All live atoms, one word after another.
-fn fill_live(live: u64, out: &mut [u64])
-    ensures { out.new ≡ words (length out.old) (λ r. live) }
-{
-    let mut r = 0;
-    while r < out.len() {
-        out[r] = live;
-        r += 1;
+    for (r, word) in out.iter_mut().enumerate() {
+        *word = mask_at(k, n, left, right, r);
     }
 }
 
@@ -143,5 +115,5 @@ fn fill_live(live: u64, out: &mut [u64])
 pub fn all_live(live: u64, out: &mut [u64; 16])
     ensures { out.new ≡ words 16 (λ r. live) }
 {
-    fill_live(live, out);
+    out.fill(live);
 }

@@ -46,9 +46,7 @@ module _ (k : Shape) (left right first later : List ℕ) (cap : ℕ) (t : Course
       → m ≡ quietly u → Stepped k left right first later cap t m r w w × (turn_weight m.course < turn_weight t)
   quiet_steps u e f m same =
       subst⁻¹ (λ z. Stepped k left right first later cap t z r w w × (turn_weight z.course < turn_weight t)) same (
-        inl (
-          refl,
-          refl,
+        (
           subst (λ n. Inside k.ring cap (state r w t.count) (state r w n)) (sym e) (inside_none k.ring cap (state r w t.count) a.ready.counted),
           f.0,
         ),
@@ -167,9 +165,7 @@ module _ (k : Shape) (left right first later : List ℕ) (cap : ℕ) (t : Course
         → Stepped k left right first later cap t m r w w' × (turn_weight m.course < turn_weight t)
     ring_steps_lem e n w' inside noted m same =
         subst⁻¹ (λ z. Stepped k left right first later cap t z r w w' × (turn_weight z.course < turn_weight t)) same (
-          inl (
-            refl,
-            refl,
+          (
             within,
             on_with n w' (still_ready k.ring cap s (state r w' n) within a.ready) inside.low
                 (noted_letter (count_trailing_zeros 64 rest) relation small to words (state r w' n) within
@@ -194,8 +190,7 @@ module _ (k : Shape) (left right first later : List ℕ) (cap : ℕ) (t : Course
         → Stepped k left right first later cap t m r w w × (turn_weight m.course < turn_weight t)
     path_offers e possible within m same =
         subst⁻¹ (λ z. Stepped k left right first later cap t z r w w × (turn_weight z.course < turn_weight t)) same (
-          inr (
-            refl,
+          (
             refl,
             (
               l,
@@ -203,6 +198,7 @@ module _ (k : Shape) (left right first later : List ℕ) (cap : ℕ) (t : Course
                 path = e;
                 tries = tries;
                 same = refl;
+                seek = refl;
                 within = within;
                 possible = possible;
                 relation_small = small;

@@ -70,10 +70,9 @@ pub fn try_letter(
         → Stepped k left.now right.now first later cap t result r words.old words.new
         × (turn_weight result.course < turn_weight t) }
 {
-    let spot = search_grow::seek(masks, k.relations, t.rest, t.relation);
-    if spot.rest == 0 {
+    let Some(spot) = search_grow::seek(masks, k.relations, t.rest, t.relation) else {
         return quiet(search_course::next_place(k.live, cap, t));
-    }
+    };
     let a = u64::trailing_zeros(spot.rest) as usize;
     let r = spot.relation;
     let place = t.place;

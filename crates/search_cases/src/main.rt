@@ -3,10 +3,10 @@
 // bytes of the sheet in hex instead, or the refusal.
 #![tactic(auto)]
 
-use case_lines::{Case, Cases};
+use case_lines::Cases;
 use layout::{MOST_STANDINGS, RING_FIELD, RING_WORDS, VERDICT};
-use memory::wide;
-use search_outcomes::Outcome;
+use refusals::Refusal;
+use search_outcomes::Verdict;
 use streams::STDOUT;
 
 // The words of the working memory at the largest allowance.
@@ -17,40 +17,24 @@ const BYTES: usize = VERDICT + RING_FIELD * MOST_STANDINGS;
 
 // Whether the line is the one behind which sheets are asked for.
 fn asks_sheets(text: &[u8], n: usize) -> bool {
-    if text.len() == 0 {
-        return false;
-    }
-    if n != 5 {
-        return false;
-    }
-    text[0] == b's'
+    n == 5 && text.first() == Some(&b's')
 }
 
 // Writes the line of an outcome.
-fn write_line(r: Outcome, buffer: &[u8], out: &mut [u8]) {
+fn write_line(r: Result<Verdict, Refusal>, buffer: &[u8], out: &mut [u8]) {
     let m = outcome_lines::outcome_line(r, buffer, out);
     if m <= out.len() {
         io::write_all(STDOUT, &out[..m]);
     }
 }
 
-// Writes bytes in hex, and the end of the line.
-fn write_hex(bytes: &[u8]) {
-    let mut i = 0;
-    while i < bytes.len() {
-        io::print_hex(STDOUT, wide(bytes[i]), 2);
-        i += 1;
-    }
-    io::write_all(STDOUT, b"\n");
-}
-
 // Writes the sheet of an answer, or the line of a refusal.
-fn write_sheet(r: Outcome, buffer: &[u8], out: &mut [u8]) {
-    if let Outcome::Refused(_, _) = r {
+fn write_sheet(r: Result<Verdict, Refusal>, buffer: &[u8], out: &mut [u8]) {
+    if let Err(_) = r {
         write_line(r, buffer, out);
         return;
     }
-    write_hex(outcome_lines::sheet_of(r, buffer));
+    case_lines::write_hex(outcome_lines::sheet_of(r, buffer));
 }
 
 // Searches the query that stands behind the allowance in the first n bytes of the text, and writes its line or its sheet.
@@ -96,17 +80,12 @@ fn take(
 fn run(part: &mut [u8], text: &mut [u8], words: &mut [u64], buffer: &mut [u8], out: &mut [u8]) {
     let mut used = Cases { at: 0, filled: 0 };
     let mut sheets = false;
-    let mut left: u64 = 1048576;
-    while 0 < left {
-        let c = case_lines::next(part, used, text);
-        match c {
-            Case::Line(n, behind) => {
-                sheets = take(text, n, sheets, words, buffer, out);
-                used = behind;
-            }
-            Case::End => return,
-        }
-        left -= 1;
+    for _ in 0..1048576 {
+        let Some(case) = case_lines::next(part, used, text) else {
+            return;
+        };
+        sheets = take(text, case.bytes, sheets, words, buffer, out);
+        used = case.behind;
     }
 }
 

@@ -2,7 +2,7 @@
 -- prefix come first; then, level by level, each standing of the level is looked at whether it completes a refuting word, and then the letters
 -- behind each of them. Numbers of the phases: 0 begins, 1 completes, 2 grows, 3 proved, 4 refuted, 5 spent.
 -- Assumes nothing.
-use Rattle.std.specs.Prelude.{ℕ, suc, ◌+◌, ◌*◌, ◌-◌, ◌≤◌, ◌<◌, ◌≡◌, ◌⊎◌, Bool, false, true, cond, List, [], ◌∷◌, eqb, ltb, drop}
+use Rattle.std.specs.Prelude.{ℕ, suc, ◌+◌, ◌*◌, ◌-◌, ◌≤◌, ◌<◌, ◌≡◌, ◌⊎◌, Bool, false, true, cond, Option, Some, None, List, [], ◌∷◌, eqb, ltb, drop}
 use Rattle.claims.specs.Standings.{Letter}
 use Rattle.claims.specs.Search.{completed}
 use Rattle.search_standings.specs.declared.Shape.{Shape}
@@ -13,6 +13,7 @@ use Rattle.search_grow.specs.Kept.{State, state, Inside, Ready, Seen, Keeps, wor
 use Rattle.layout.specs.Layout.{RING-WORDS, MOST-STANDINGS}
 use Rattle.search_course.specs.declared.Course.{Course}
 use Rattle.search_course.specs.declared.Move.{Move}
+use Rattle.search_course.specs.declared.Offer.{Offer}
 use Rattle.search_course.specs.declared.Finding.{Finding}
 use Rattle.search_course.specs.declared.Finding.TheVariants.{Proved, Refuted, Spent}
 use Rattle.search_course.specs.Answers.{Running, Answered}
@@ -70,11 +71,11 @@ advanced t rest relation count =
 
 -- a step that offers nothing
 abbrev pub quietly : Course → Move
-quietly t = record { course = t; offer = record { put = false; seek = 0; p = 0; s = 0; letter = 0 } }
+quietly t = record { course = t; offer = None }
 
 -- a step that offers a candidate, which is looked for among so many records
 abbrev pub offers : Course → ℕ → ℕ → ℕ → ℕ → Move
-offers t seek p s letter = record { course = t; offer = record { put = true; seek = seek; p = p; s = s; letter = letter } }
+offers t seek p s letter = record { course = t; offer = Some (record { seek = seek; p = p; s = s; letter = letter }) }
 
 -- letters are tried in the phases 0 and 2
 abbrev pub Tries : Course → Type 0
@@ -102,22 +103,18 @@ pub record Small (ring : Bool) (relations cap words : ℕ) (t : Course) : Type 0
   pub grows : t.phase ≡ 2 → (t.place ≡ t.at + 1) × (t.at < t.hi) × (t.hi ≤ cap) × (t.relation ≤ relations)
 
 -- a candidate that is offered is decided by where it was found: kept already, new and to be put, or new past the allowance
-pub record Puts (cap found : ℕ) (m : Move) (put : Bool) : Type 0 where
-  pub nothing : m.offer.put ≡ false → put ≡ false
-  pub seen : m.offer.put ≡ true → found < m.course.count → put ≡ false
-  pub new : m.offer.put ≡ true → m.course.count ≤ found → put ≡ ltb m.course.count cap
+abbrev pub puts : ℕ → Option ℕ → Course → Bool
+puts cap (Some i) t = false
+puts cap None t = ltb t.count cap
 
 -- and counted where it is new
-pub record Settles (found : ℕ) (m : Move) (u : Course) : Type 0 where
-  pub nothing : m.offer.put ≡ false → u ≡ m.course
-  pub seen : m.offer.put ≡ true → found < m.course.count → u ≡ m.course
-  pub new :
-      m.offer.put ≡ true → m.course.count ≤ found
-      → u ≡ advanced m.course m.course.rest m.course.relation (m.course.count + 1)
+abbrev pub settled : Option ℕ → Course → Course
+settled (Some i) t = t
+settled None t = advanced t t.rest t.relation (t.count + 1)
 
 -- the record of the candidate
-abbrev pub record_of : Move → Record
-record_of m = record { p = m.offer.p; s = m.offer.s; parent = m.course.place; letter = m.offer.letter }
+abbrev pub record_of : Course → Offer → Record
+record_of t o = record { p = o.p; s = o.s; parent = t.place; letter = o.letter }
 
 -- the masks of the letters that are tried: one array for level 1, another for the later levels
 unfoldable pub masks_now : List ℕ → List ℕ → Course → List ℕ
@@ -176,26 +173,26 @@ module _ (k : Shape) (left right first later : List ℕ) (cap : ℕ) where
     pub grows : t.phase ≡ 2 → Growing t (state r w t.count)
     pub answered : 3 ≤ t.phase → Answered k left right first_ones later_ones (suc (suc cap)) cap r w (finding_of t)
 
-  -- the step offers a candidate of a path claim, which is to be looked up
-  pub record Offers (t : Course) (m : Move) (r : List (List ℕ)) (w : List ℕ) (l : Letter) : Type 0 where
+  -- the step, behind which the search stands at u, offers a candidate of a path claim, which is to be looked up
+  pub record Offers (t u : Course) (o : Offer) (r : List (List ℕ)) (w : List ℕ) (l : Letter) : Type 0 where
     pub path : k.ring ≡ false
     pub tries : Tries t
-    pub same :
-        m
-        ≡ offers (advanced t m.course.rest m.course.relation t.count) t.count m.offer.p m.offer.s m.offer.letter
+    pub same : u ≡ advanced t u.rest u.relation t.count
+    pub seek : o.seek ≡ t.count
     pub within : t.count ≤ cap
-    pub possible : m.offer.p ≡ 0 → ⊥
+    pub possible : o.p ≡ 0 → ⊥
     pub relation_small : l.relation < 16
-    pub letter : m.offer.letter ≡ 16 * l.atom + l.relation
-    pub words : m.offer.p ∷ m.offer.s ∷ [] ≡ words_at k left right r w t.place l
-    pub relation : m.course.relation ≤ k.relations
+    pub letter : o.letter ≡ 16 * l.atom + l.relation
+    pub words : o.p ∷ o.s ∷ [] ≡ words_at k left right r w t.place l
+    pub relation : u.relation ≤ k.relations
     pub rest :
         letters_left (masks_now first later t) k.relations t.rest t.relation
-        ≡ l ∷ letters_left (masks_now first later t) k.relations m.course.rest m.course.relation
+        ≡ l ∷ letters_left (masks_now first later t) k.relations u.rest u.relation
 
-  -- a step changes nothing past the needed memory and keeps what holds before each turn; or it offers a candidate and changes nothing
+  -- a step that offers nothing changes nothing past the needed memory and keeps what holds before each turn; one that offers a candidate changes nothing
+  abbrev pub Leads : Course → Course → Option Offer → List (List ℕ) → List ℕ → List ℕ → Type 0
+  Leads t u None r w w' = Inside k.ring cap (state r w t.count) (state r w' u.count) × At u r w'
+  Leads t u (Some o) r w w' = (w' ≡ w) × ((l : Letter) × Offers t u o r w l)
+
   abbrev pub Stepped : Course → Move → List (List ℕ) → List ℕ → List ℕ → Type 0
-  Stepped t m r w w' =
-      ((m.offer.put ≡ false) × (m.offer.seek ≡ 0) × Inside k.ring cap (state r w t.count) (state r w' m.course.count)
-      × At m.course r w')
-      ⊎ ((m.offer.put ≡ true) × (w' ≡ w) × ((l : Letter) × Offers t m r w l))
+  Stepped t m r w w' = Leads t m.course m.offer r w w'

@@ -8,7 +8,7 @@ ghost use Rattle.std.specs.Prelude.{ℕ, ◌+◌, ◌-◌, ◌≤◌, ◌<◌, �
 ghost use Rattle.search_standings.specs.declared.Shape.{Shape};
 ghost use Rattle.search_grow.specs.Masks.{letters_left};
 ghost use Rattle.search_grow.specs.Kept.{state, Ready};
-ghost use Rattle.search_course.specs.Turns.{finding_of, turn_weight, level_weight, Tries, quietly, offers, Puts, Settles, record_of, masks_now, RunsOn, At};
+ghost use Rattle.search_course.specs.Turns.{finding_of, turn_weight, level_weight, Tries, quietly, offers, puts, settled, record_of, masks_now, RunsOn, At};
 
 use search_records::Record;
 use search_standings::Shape;
@@ -44,22 +44,21 @@ pub struct Course {
     pub last: usize,
 }
 
-// What is offered to the memory of a path claim: whether there is a candidate; among how many records it is looked for, behind which it is put
-// where it is new; and its P, its S and its letter.
+// A candidate that is offered to the memory of a path claim: among how many records it is looked for, behind which it is put where it is new; and
+// its P, its S and its letter.
 #[derive(Clone, Copy)]
 pub struct Offer {
-    pub put: bool,
     pub seek: usize,
     pub p: u64,
     pub s: u64,
     pub letter: u64,
 }
 
-// A step: where the search stands behind it, and what it offers.
+// A step: where the search stands behind it, and the candidate that it offers.
 #[derive(Clone, Copy)]
 pub struct Move {
     pub course: Course,
-    pub offer: Offer,
+    pub offer: Option<Offer>,
 }
 
 // Proved, with the count of standings; refuted, with the place of the word's prefix and its last atom; or the allowance spent.
@@ -131,14 +130,10 @@ pub fn next_place(live: u64, cap: usize, t: Course) -> Course
 pub fn quiet(t: Course) -> Move
     ensures { result ≡ quietly t }
 {
-    let offer = Offer {
-        put: false,
-        seek: 0,
-        p: 0,
-        s: 0,
-        letter: 0,
-    };
-    Move { course: t, offer }
+    Move {
+        course: t,
+        offer: None,
+    }
 }
 
 // A step that offers a candidate, which is looked for among all records.
@@ -146,61 +141,44 @@ pub fn offering(t: Course, p: u64, s: u64, letter: u64) -> Move
     ensures { result ≡ offers t t.count p s letter }
 {
     let offer = Offer {
-        put: true,
         seek: t.count,
         p,
         s,
         letter,
     };
-    Move { course: t, offer }
-}
-
-// What a step offers.
-pub fn offer_of(m: Move) -> Offer
-    ensures { result ≡ m.offer }
-{
-    m.offer
-}
-
-// Whether the candidate that is offered is put, by where it was found: if it is new and within the allowance.
-pub fn puts(cap: usize, m: Move, found: usize) -> bool
-    ensures { Puts cap found m result }
-{
-    let t = m.course;
-    let o = m.offer;
-    if o.put {
-        if found < t.count {
-            return false;
-        }
-        return t.count < cap;
+    Move {
+        course: t,
+        offer: Some(offer),
     }
-    false
 }
 
-// Where the search stands once the candidate that is offered is decided, by where it was found: a new one is counted.
-pub fn settle(m: Move, found: usize) -> Course
-    requires { m.course.count ≤ 4097 }
-    ensures { Settles found m result }
+// Whether a candidate is put, by where it was found: if it is new and within the allowance.
+pub fn puts(cap: usize, t: Course, found: Option<usize>) -> bool
+    ensures { result ≡ puts cap found t }
 {
-    let t = m.course;
-    let o = m.offer;
+    match found {
+        Some(_) => false,
+        None => t.count < cap,
+    }
+}
+
+// Where the search stands once a candidate is decided, by where it was found: a new one is counted.
+pub fn settle(t: Course, found: Option<usize>) -> Course
+    requires { t.count ≤ 4097 }
+    ensures { result ≡ settled found t }
+{
+    if found.is_some() {
+        return t;
+    }
     let mut u = t;
-    if o.put {
-        if found < t.count {
-            return u;
-        }
-        u.count = t.count + 1;
-        return u;
-    }
+    u.count = t.count + 1;
     u
 }
 
 // The record of the candidate.
-pub fn record_of(m: Move) -> Record
-    ensures { result ≡ record_of m }
+pub fn record_of(t: Course, o: Offer) -> Record
+    ensures { result ≡ record_of t o }
 {
-    let t = m.course;
-    let o = m.offer;
     Record {
         p: o.p,
         s: o.s,

@@ -1,19 +1,22 @@
 -- The rounds on columns close the table: after the rounds through the numbers below k, word y has bit x exactly where x leads to y through
 -- these numbers, by Warshall's recursion. Word k does not change in round k, so that a round may be done in place.
 -- Assumes nothing.
-use Prim.Native.Nat.{ℕ, zero, suc, ◌+◌, ◌≤◌, ◌<◌}
+use Prim.Native.Nat.{ℕ, zero, suc, ◌+◌, ◌-◌, ◌≤◌, ◌<◌}
 use native.Mathlib.Numerals.{add-one}
 use native.Mathlib.Omega.{arith}
 use mathlib.Core.Path.{◌≡◌, refl, sym, ◌∙◌, ap, ap₂}
+use mathlib.Core.Logic.{⊎_elim}
 use mathlib.Core.Bool.{Bool, true, false, cond, ◌&&◌, ◌||◌, and_comm}
-use mathlib.Core.List.{List}
+use mathlib.Core.List.{List, ◌++◌}
 use lib.Bits.{bit_or, or_zero_r}
-use lib.ListN.{length, get_or, set}
+use lib.ListN.{length, get_or, set, take, drop, length-append, length-drop, get_or-append}
+use lib.Seq.{ext_get_or, length-take-le, get_or-take, get_or-drop, get_or-append-add}
 use Rattle.kat.specs.Closure.{table, entry, through, closure}
+use Rattle.kat.proofs.Bools.{le_or_lt}
 use Rattle.kat.proofs.Closure.{entry_table}
 use Rattle.claims.specs.Query.{bit}
 use Rattle.memory.specs.Memory.{between, changed}
-use Rattle.memory.proofs.Words.{words_ext, changed_length, changed_in, changed_end, changed_more}
+use Rattle.memory.proofs.Words.{words_ext, above, changed_length, changed_in, changed_out, changed_end, changed_more}
 use Rattle.bits.proofs.Bit.{bit_none, bit-bit_or}
 use Rattle.search_cover.specs.inner.Rounds.{joined_where, round, rounds}
 
@@ -39,6 +42,31 @@ module _ (c k : ℕ) where
 
   pub where_end : (t : List ℕ) (hi y : ℕ) → hi ≤ y → changed merge t y hi ≡ t
   where_end t hi y h = changed_end merge t hi y (omega arith)
+
+  -- the columns below hi by themselves, and the others behind them
+  pub where_whole : (t : List ℕ) (hi : ℕ) → hi ≤ length t → changed merge (take hi t) 0 hi ++ drop hi t ≡ joined_where t c k hi
+  unfolding joined_where
+  where_whole t hi h =
+      let l : length (take hi t) ≡ hi = length-take-le hi t h in
+      let e : length (changed merge (take hi t) 0 hi) ≡ hi = changed_length merge (take hi t) hi 0 ∙ l in
+      ext_get_or 0 (changed merge (take hi t) 0 hi ++ drop hi t) (changed merge t 0 hi)
+      (omega (arith, length-append (changed merge (take hi t) 0 hi) (drop hi t), length-drop hi t, changed_length merge t hi 0))
+      (λ y i. ⊎_elim (λ b. second y (y - hi) (omega arith) (omega (arith, length-append (changed merge (take hi t) 0 hi) (drop hi t), length-drop hi t)) e b)
+      (λ b. first y b e) (le_or_lt hi y))
+    where
+      first : (y : ℕ) → y < hi → length (changed merge (take hi t) 0 hi) ≡ hi
+          → get_or (changed merge (take hi t) 0 hi ++ drop hi t) y 0 ≡ get_or (changed merge t 0 hi) y 0
+      first y b e =
+          get_or-append (changed merge (take hi t) 0 hi) (drop hi t) 0 y (omega arith)
+          ∙ changed_in merge (take hi t) hi 0 y (omega (arith, length-take-le hi t h)) (omega arith) b ∙ ap (merge y) (get_or-take hi t y 0 b)
+          ∙ sym (changed_in merge t hi 0 y (omega arith) (omega arith) b)
+
+      second : (y j : ℕ) → y ≡ hi + j → y < length t → length (changed merge (take hi t) 0 hi) ≡ hi → hi ≤ y
+          → get_or (changed merge (take hi t) 0 hi ++ drop hi t) y 0 ≡ get_or (changed merge t 0 hi) y 0
+      second y j z i e b =
+          ap (λ n. get_or (changed merge (take hi t) 0 hi ++ drop hi t) n 0) (z ∙ ap (λ n. n + j) (sym e))
+          ∙ get_or-append-add (changed merge (take hi t) 0 hi) (drop hi t) j 0 ∙ get_or-drop hi t j 0 ∙ ap (λ n. get_or t n 0) (sym z)
+          ∙ sym (changed_out merge t hi 0 y i (above 0 hi y b))
 
 -- a round through a number whose column is empty
 pub round_none : (t : List ℕ) (c k hi : ℕ) → c ≡ get_or t k 0 → c ≡ 0 → t ≡ round t k hi

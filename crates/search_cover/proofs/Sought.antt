@@ -23,7 +23,7 @@ use Rattle.bits.proofs.Members.{some_number}
 use Rattle.bits.proofs.Rows.{bit_all}
 use Rattle.standings.specs.Steps.{enders}
 use Rattle.search_standings.specs.RingWords.{in_m, in_n, turn_ends, pair_turns, ring_covered}
-use Rattle.standings.proofs.Upto.{upto_more, upto_none, some_range, some_higher}
+use Rattle.standings.proofs.Upto.{some_range, some_higher}
 use Rattle.bits.proofs.Shifted.{bit_down}
 use Rattle.search_standings.proofs.RingShown.{in_n_some}
 use Rattle.search_standings.proofs.RingRows.{in_m_some, in_m_none}
@@ -103,20 +103,6 @@ module _ (t : List ℕ) (w q m pairs : ℕ) (in_range : q ≤ m) (few : m ≤ 31
 module _ (t s : List ℕ) (m : ℕ) where
   abbrev pub sought : ℕ → Bool
   sought q = pairs_of t (get_or s q 0) q m
-
-  pub pairs_begin : some sought (upto 1 (suc m)) ≡ pairs_by t s m
-  unfolding pairs_by
-  pairs_begin = refl
-
-  pub pairs_hit : (q : ℕ) → q ≤ m → sought q ≡ true → some sought (upto q (suc m)) ≡ true
-  pairs_hit q h e = ap (some sought) (upto_more q (suc m) (omega arith)) ∙ ap (λ b. b || some sought (upto (q + 1) (suc m))) e
-
-  pub pairs_miss : (q : ℕ) → q ≤ m → sought q ≡ false → some sought (upto (q + 1) (suc m)) ≡ some sought (upto q (suc m))
-  pairs_miss q h e =
-      sym (ap (some sought) (upto_more q (suc m) (omega arith)) ∙ ap (λ b. b || some sought (upto (q + 1) (suc m))) e)
-
-  pub pairs_end : (q : ℕ) → m < q → some sought (upto q (suc m)) ≡ false
-  pairs_end q h = ap (some sought) (upto_none q (suc m) (omega arith))
 
 -- the closed columns are the turns
 module _ (right u : List ℕ) (full : length u ≡ 40) where

@@ -32,10 +32,8 @@ fn join_where(t: &mut [u64], c: u64, k: usize, hi: usize)
     requires { hi ≤ length t.old }
     ensures { t.new ≡ joined_where t.old c k hi }
 {
-    let mut y = 0;
-    while y < hi {
-        t[y] = merged(t[y], c, k);
-        y += 1;
+    for column in t[..hi].iter_mut() {
+        *column = merged(*column, c, k);
     }
 }
 
@@ -56,10 +54,8 @@ fn close(t: &mut [u64], hi: usize)
     requires { hi ≤ length t.old }
     ensures { t.new ≡ rounds t.old hi hi }
 {
-    let mut k = 0;
-    while k < hi {
+    for k in 0..hi {
         close_through(t, k, hi);
-        k += 1;
     }
 }
 
@@ -97,14 +93,7 @@ fn some_pair_turns(t: &[u64], s: &[u64], m: usize) -> bool
     requires { (length t.now ≡ RING-WORDS) × (m ≤ MOST-RIGHT) }
     ensures { result ≡ pairs_by t.now s.now m }
 {
-    let mut q = 1;
-    while q <= m {
-        if pair_turns(t, word(s, q), q, m) {
-            return true;
-        }
-        q += 1;
-    }
-    false
+    (1..m + 1).any(|q| pair_turns(t, word(s, q), q, m))
 }
 
 // Whether the turns, closed in t, cover the standing s.

@@ -34,11 +34,7 @@ pub fn put_bytes(out: &mut [u8], at: usize, bytes: &[u8]) -> usize
     requires { at + length bytes.now ≤ length out.old }
     ensures { (result ≡ at + length bytes.now) × (out.new ≡ over at bytes.now out.old) }
 {
-    let mut k: usize = 0;
-    while k < bytes.len() {
-        out[at + k] = bytes[k];
-        k += 1;
-    }
+    out[at..at + bytes.len()].copy_from_slice(bytes);
     at + bytes.len()
 }
 
@@ -57,11 +53,9 @@ fn row_m(s: &Standing, p: usize) -> u64
     ensures { result ≡ number_m s.now p }
 {
     let mut row: u64 = 0;
-    let mut q: usize = 1;
-    while q < WIDTH {
+    for q in 1..WIDTH {
         let on = bits::member(s[q], p);
         row = bits::marked(row, q, on);
-        q += 1;
     }
     row
 }
@@ -86,11 +80,9 @@ fn put_rows(out: &mut [u8], at: usize, s: &Standing, upper: bool) -> usize
     ensures { (result ≡ at + 4 * WIDTH) × (out.new ≡ over at (rows_bytes upper s.now) out.old) }
 {
     let mut next = at;
-    let mut p: usize = 0;
-    while p < WIDTH {
+    for p in 0..WIDTH {
         let row = row_of(s, upper, p);
         next = put_big_endian(out, next, 4, row);
-        p += 1;
     }
     next
 }

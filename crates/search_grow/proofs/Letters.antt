@@ -31,9 +31,9 @@ module _ (masks : List ℕ) (relations : ℕ) where
       rest_more masks relations a r h
       ∙ ap (λ ls. ls ++ filter (tried masks) (letters_at (upto (r + 1) relations) a)) (is_tried masks (letter_of a r) e)
 
-  relation_none : (a r : ℕ) → relations ≤ r → relations_left masks relations a r ≡ []
+  pub relations_none : (a r : ℕ) → relations ≤ r → relations_left masks relations a r ≡ []
   unfolding relations_left
-  relation_none a r h = rest_none masks relations a r h
+  relations_none a r h = rest_none masks relations a r h
 
   -- some atoms
   pub letters_none : (atoms r : ℕ) → atoms ≡ 0 → letters_left masks relations atoms r ≡ []
@@ -76,11 +76,11 @@ module _ (masks : List ℕ) (relations : ℕ) where
       letters_here atoms r z ∙ ap (λ ls. ls ++ letters_in masks (bit_and atoms (atoms - 1)) relations) e ∙ sym (letters_here atoms x z)
 
   -- to the next atom
-  pub letters_next : (atoms r : ℕ) → atoms < 2 ^ 64 → (atoms ≡ 0 → ⊥) → relations ≤ r
+  pub letters_next : (atoms r : ℕ) → atoms < 2 ^ 64 → (atoms ≡ 0 → ⊥) → relations_left masks relations (count_trailing_zeros 64 atoms) r ≡ []
       → letters_left masks relations atoms r ≡ letters_left masks relations (bit_and atoms (atoms - 1)) 0
   letters_next atoms r small z h =
       letters_here atoms r z
-      ∙ ap (λ ls. ls ++ letters_in masks (bit_and atoms (atoms - 1)) relations) (relation_none (count_trailing_zeros 64 atoms) r h)
+      ∙ ap (λ ls. ls ++ letters_in masks (bit_and atoms (atoms - 1)) relations) h
       ∙ letters_start (bit_and atoms (atoms - 1)) (omega (arith, (lowest 64 atoms small z).less))
 
   -- the first letter

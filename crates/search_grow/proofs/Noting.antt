@@ -20,6 +20,7 @@ use Rattle.bits.proofs.Lists.{some_map}
 use Rattle.search_standings.specs.declared.Shape.{Shape}
 use Rattle.memory.specs.Memory.{words}
 use Rattle.search_standings.specs.Systems.{width, word_system}
+use Rattle.std.specs.Prelude.{Option, Some, None}
 use Rattle.search_store.specs.Store.{field_at, standing_at, standing_in, Room, Place, records_after, words_after, prefix_at, Holds}
 use Rattle.search_store.proofs.Appended.{records_length, words_length, records_past, words_past, other_records, other_words}
 use Rattle.search_store.proofs.Held.{holds_more, prefix_stays, found_kept, none_kept}
@@ -61,10 +62,11 @@ by_ring P f k e =
     (f k.right k.live k.relations)
 
 -- the words of ring standings, whatever the records
-pub ring_place : (rows : List (List ℕ)) (w : List ℕ) (n : ℕ) (s : List ℕ) (p : ℕ) → Place (standing_at true [] w) n s p
+pub ring_place : (rows : List (List ℕ)) (w : List ℕ) (n : ℕ) (s : List ℕ) (p : Option ℕ) → Place (standing_at true [] w) n s p
     → Place (standing_at true rows w) n s p
 unfolding standing_at field_at
-ring_place rows w n s p h = h
+ring_place rows w n s (Some p) h = h
+ring_place rows w n s None h = h
 
 -- room for ring standings
 pub ring_room : (rows : List (List ℕ)) (w : List ℕ) (n : ℕ) → 40 * n ≤ length w → Room true rows w n
@@ -106,9 +108,9 @@ module _ (k : Shape) (left right : List ℕ) where
         ))
         h
 
-    pub note_found : (ws : List ℕ) (p : ℕ) → Place (standing_at k.ring s.records s.words) s.count ws p → p < s.count → s.count ≤ cap
+    pub note_found : (ws : List ℕ) (p : ℕ) → Place (standing_at k.ring s.records s.words) s.count ws (Some p) → s.count ≤ cap
         → Adds k left right cap old s s (entry_of k left right old ws parent letter ∷ [])
-    note_found ws p place l c more h = ⊎_elim (λ q. dropped q.1) (λ q. absurd (omega (arith, q.0))) h
+    note_found ws p place c more h = ⊎_elim (λ q. dropped q.1) (λ q. absurd (omega (arith, q.0))) h
       where
         e : Entry (word_system k left right)
         e = entry_of k left right old ws parent letter
@@ -120,11 +122,11 @@ module _ (k : Shape) (left right : List ℕ) where
             (and-false (not (eqb (get_or ws 0 0) 0)) (not (seen_in (word_system k left right) (old ++ more) ws))
             (ap not
             (seen_words (old ++ more) ws
-            ∙ found_kept k.ring s.records s.words s.count (standings k left right (old ++ more)) (prefixes k left right (old ++ more)) q ws p place l))))) h
+            ∙ found_kept k.ring s.records s.words s.count (standings k left right (old ++ more)) (prefixes k left right (old ++ more)) q ws p place))))) h
 
     -- the standing is possible and new
-    module _ (arr : List ℕ) (p : ℕ) (z : get_or (standing_in k.ring arr) 0 0 ≡ 0 → ⊥)
-        (place : Place (standing_at k.ring s.records s.words) s.count (standing_in k.ring arr) p) (none : s.count ≤ p) where
+    module _ (arr : List ℕ) (z : get_or (standing_in k.ring arr) 0 0 ≡ 0 → ⊥)
+        (place : Place (standing_at k.ring s.records s.words) s.count (standing_in k.ring arr) None) where
       abbrev e : Entry (word_system k left right)
       e = entry_of k left right old (standing_in k.ring arr) parent letter
 
@@ -135,7 +137,7 @@ module _ (k : Shape) (left right : List ℕ) where
           (and_both (ap not (ne_eqb _ _ z))
           (ap not
           (seen_words (old ++ more) (standing_in k.ring arr)
-          ∙ none_kept k.ring s.records s.words s.count _ _ q (standing_in k.ring arr) p place (omega (arith, place.within)))))
+          ∙ none_kept k.ring s.records s.words s.count _ _ q (standing_in k.ring arr) place)))
 
       pub note_over : s.count ≡ cap → Adds k left right cap old s (state s.records s.words (s.count + 1)) (e ∷ [])
       note_over c more h =

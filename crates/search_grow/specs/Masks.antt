@@ -1,12 +1,13 @@
 -- The letters that the search tries: one set of atoms for each relation says with which atoms it is tried. (Document 01, "Standings".)
 -- Assumes nothing.
-use Rattle.std.specs.Prelude.{ℕ, ◌+◌, ◌*◌, ◌-◌, ◌≡◌, Bool, true, cond, List, [], ◌++◌, eqb, get_or}
+use Rattle.std.specs.Prelude.{ℕ, ◌+◌, ◌*◌, ◌-◌, ◌≤◌, ◌<◌, ◌≡◌, Bool, true, cond, List, [], ◌++◌, eqb, get_or}
 use Rattle.std.specs.Int.Bits.{bit_and}
 use Rattle.std.specs.Int.Count.{ones, count_trailing_zeros}
 use Rattle.kat.specs.Lists.{upto, filter}
 use Rattle.claims.specs.Standings.{Letter, letters_at, letters_of}
 use Rattle.claims.specs.Query.{bit}
 use Rattle.bits.specs.Sets.{members}
+use Rattle.search_grow.specs.declared.Spot.{Spot}
 
 -- the letter's atom is in the set of its relation ("Standings")
 unfoldable pub tried : List ℕ → Letter → Bool
@@ -33,3 +34,12 @@ letters_left masks relations atoms r =
 -- a number that falls from letter to letter
 unfoldable pub letter_weight : ℕ → ℕ → ℕ
 letter_weight atoms r = 17 * ones atoms + (16 - r)
+
+-- the letter that is sought among those that are left from the lowest of some atoms and a relation on: it is tried, those before it are not, and
+-- the number falls no less
+pub record Sought (masks : List ℕ) (relations rest relation : ℕ) (s : Spot) : Type 0 where
+  pub some : s.rest ≡ 0 → ⊥
+  pub same : letters_left masks relations rest relation ≡ letters_left masks relations s.rest s.relation
+  pub within : s.relation < relations
+  pub tried : TriedAt masks (count_trailing_zeros 64 s.rest) s.relation
+  pub falls : letter_weight s.rest s.relation ≤ letter_weight rest relation

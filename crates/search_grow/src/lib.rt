@@ -3,14 +3,13 @@
 // not kept. What is required of the room is what the search call has tested (refusal 9), and of the relations what the reader lets through.
 #![tactic(auto)]
 
-ghost use Rattle.std.specs.Prelude.{ℕ, ◌+◌, ◌*◌, ◌-◌, ◌≤◌, ◌<◌, ◌≡◌, true, List, length, take};
-ghost use Rattle.std.specs.Int.Count.{count_trailing_zeros};
+ghost use Rattle.std.specs.Prelude.{ℕ, ◌+◌, ◌*◌, ◌-◌, ◌≤◌, ◌<◌, ◌≡◌, MatchOption, true, List, [], length, take};
 ghost use Rattle.search_standings.specs.declared.Shape.{Shape};
 ghost use Rattle.search_standings.specs.Systems.{width};
 ghost use Rattle.search_records.specs.Rows.{record_at};
 ghost use Rattle.search_store.specs.Store.{standing_in};
 ghost use Rattle.layout.specs.Layout.{RING-WORDS, MOST-STANDINGS};
-ghost use Rattle.search_grow.specs.Masks.{letters_left, relations_left, TriedAt, letter_weight};
+ghost use Rattle.search_grow.specs.Masks.{letters_left, relations_left, TriedAt, Sought};
 ghost use Rattle.search_grow.specs.Kept.{state, Inside, words_at, Noted};
 
 use layout::RING_WORDS;
@@ -18,21 +17,18 @@ use search_records::Record;
 use search_standings::{Shape, Standing};
 use side_tables::Table;
 
-// The first relation from r on with which the atom is tried, or the number of relations.
-fn next_relation(masks: &[u64; 16], relations: usize, a: usize, r: usize) -> usize
+// The first relation from r on with which the atom is tried.
+fn next_relation(masks: &[u64; 16], relations: usize, a: usize, r: usize) -> Option<usize>
     requires { (r ≤ relations) × (relations ≤ 16) × (a < 64) }
-    ensures within { (r ≤ result) × (result ≤ relations) }
-    ensures same { relations_left masks.now relations a r ≡ relations_left masks.now relations a result }
-    ensures tried { result < relations → TriedAt masks.now a result }
+    ensures { MatchOption result (relations_left masks.now relations a r ≡ [])
+        (λ i. (r ≤ i) × (i < relations) × (relations_left masks.now relations a r ≡ relations_left masks.now relations a i) × TriedAt masks.now a i) }
 {
-    let mut i = r;
-    while i < relations {
+    for i in r..relations {
         if bits::member(masks[i], a) {
-            return i;
+            return Some(i);
         }
-        i += 1;
     }
-    relations
+    None
 }
 
 // The atoms that are left behind a place, and the relation with which the lowest of them is tried next.
@@ -42,31 +38,25 @@ pub struct Spot {
     pub relation: usize,
 }
 
-// The first letter that is tried, from the one on that has the lowest of these atoms and this relation; no atoms where there is none.
-pub fn seek(masks: &[u64; 16], relations: usize, rest: u64, relation: usize) -> Spot
+// The first letter that is tried, from the one on that has the lowest of these atoms and this relation.
+pub fn seek(masks: &[u64; 16], relations: usize, rest: u64, relation: usize) -> Option<Spot>
     requires { (relation ≤ relations) × (relations ≤ 16) }
-    ensures same { letters_left masks.now relations rest relation ≡ letters_left masks.now relations result.rest result.relation }
-    ensures tried { (result.rest ≡ 0 → ⊥) → (result.relation < relations) × TriedAt masks.now (count_trailing_zeros 64 result.rest) result.relation }
-    ensures falls { letter_weight result.rest result.relation ≤ letter_weight rest relation }
+    ensures { MatchOption result (letters_left masks.now relations rest relation ≡ []) (λ s. Sought masks.now relations rest relation s) }
 {
     let mut atoms = rest;
     let mut r = relation;
     while atoms != 0 {
         let a = u64::trailing_zeros(atoms) as usize;
-        r = next_relation(masks, relations, a, r);
-        if r < relations {
-            return Spot {
+        if let Some(tried) = next_relation(masks, relations, a, r) {
+            return Some(Spot {
                 rest: atoms,
-                relation: r,
-            };
+                relation: tried,
+            });
         }
         atoms = atoms & (atoms - 1);
         r = 0;
     }
-    Spot {
-        rest: atoms,
-        relation: r,
-    }
+    None
 }
 
 // The words of the standing one letter behind a place, of which a path claim has the record.
@@ -117,8 +107,7 @@ pub fn note(
     if cap < n {
         return n;
     }
-    let at = search_store::find(words, n, s);
-    if at < n {
+    if search_store::find(words, n, s).is_some() {
         return n;
     }
     if n < cap {

@@ -6,6 +6,7 @@ use mathlib.Core.Path.{◌≡◌, refl, sym, ◌∙◌, ap, subst, subst⁻¹}
 use mathlib.Core.Bool.{Bool, cond}
 use mathlib.Core.List.{List}
 use lib.ListN.{length, get_or, set}
+use Rattle.std.specs.Prelude.{Option, Some, None}
 use Rattle.search_standings.specs.declared.Shape.{Shape}
 use Rattle.search_records.specs.declared.Record.{Record}
 use Rattle.search_records.specs.Records.{blank, Found}
@@ -19,7 +20,7 @@ use Rattle.search_course.specs.declared.Move.{Move}
 use Rattle.search_course.specs.declared.Offer.{Offer}
 use Rattle.search_course.specs.declared.Finding.{Finding}
 use Rattle.search_course.specs.Answers.{Answered}
-use Rattle.search_course.specs.Turns.{finding_of, turn_weight, Small, Puts, Settles, record_of, At, Stepped}
+use Rattle.search_course.specs.Turns.{finding_of, turn_weight, Small, puts, settled, record_of, At, Leads, Stepped}
 use Rattle.search_levels.proofs.OneTurn.{at_small, seek_inside, count_small, turn_on}
 
 module _ (k : Shape) (left right first later : List ℕ) (cap : ℕ) (t : Course) (rs : List Record) (w : List ℕ)
@@ -34,25 +35,35 @@ module _ (k : Shape) (left right first later : List ℕ) (cap : ℕ) (t : Course
     stepped : Stepped k left right first later cap t m (rows rs) w w' × (turn_weight m.course < turn_weight t)
     stepped = step (rows rs) (here ∙ rows_at rs t.at) pre.2
 
-    pub find_asks : (o : Offer) → o ≡ m.offer → o.seek ≤ length rs
-    find_asks o e =
-        subst⁻¹ (λ (x : Offer). x.seek ≤ length rs) e
-        (subst (λ n. m.offer.seek ≤ n) (rows_length rs) (seek_inside k left right first later cap t (rows rs) w pre.2 m w' stepped.0))
+    -- nothing is offered
+    pub unoffered : m.offer ≡ None → Inside k.ring cap (state (rows rs) w t.count) (state (rows rs) w' m.course.count)
+        × At k left right first later cap m.course (rows rs) w' × (turn_weight m.course < turn_weight t)
+    unoffered e =
+        let q = subst (λ x. Leads k left right first later cap t m.course x (rows rs) w w') e stepped.0 in
+        (q.0, q.1, stepped.1)
 
-    pub settle_asks : m.course.count ≤ 4097
-    settle_asks = count_small k left right first later cap t (rows rs) w pre.2 m w' stepped.0
+    -- a candidate is offered
+    module _ (o : Offer) (is : m.offer ≡ Some o) where
+      leads : Leads k left right first later cap t m.course (Some o) (rows rs) w w'
+      leads = subst (λ x. Leads k left right first later cap t m.course x (rows rs) w w') is stepped.0
 
-    -- and at the end
-    pub turned : (o : Offer) → o ≡ m.offer → (found : ℕ) → Found rs o.seek o.p o.s found → (put : Bool) → Puts cap found m put
-        → (made : Record) → made ≡ record_of m → (rs' : List Record) → rs' ≡ cond put (set rs o.seek made) rs → (d : Course) → Settles found m d
-        → Inside k.ring cap (state (rows rs) w t.count) (state (rows rs') w' d.count)
-        × At k left right first later cap d (rows rs') w' × (turn_weight d < turn_weight t)
-    turned o same found f put h made n rs' e d g =
-        turn_on k left right first later cap t (rows rs) w pre.2 m w' stepped.0 stepped.1 found
-        (subst (λ (x : Offer). FoundIn (rows rs) x.seek x.p x.s found) same (rows_found rs o.seek o.p o.s found f)) d g put h (rows rs')
-        (ap rows e ∙ rows_kept rs put o.seek made
-        ∙ ap (λ x. cond put (set (rows rs) o.seek (row_of x)) (rows rs)) n
-        ∙ ap (λ (x : Offer). cond put (set (rows rs) x.seek (row_of (record_of m))) (rows rs)) same)
+      pub find_asks : o.seek ≤ length rs
+      find_asks =
+          let (l, x) = leads.1 in
+          subst (λ n. o.seek ≤ n) (rows_length rs) (seek_inside k left right first later cap t (rows rs) w pre.2 m.course o l x)
+
+      pub settle_asks : m.course.count ≤ 4097
+      settle_asks = let (l, x) = leads.1 in count_small k left right first later cap t (rows rs) w pre.2 m.course o l x
+
+      -- and at the end
+      pub turned : (found : Option ℕ) → Found rs o.seek o.p o.s found → (put : Bool) → put ≡ puts cap found m.course
+          → (rs' : List Record) → rs' ≡ cond put (set rs o.seek (record_of m.course o)) rs → (d : Course) → d ≡ settled found m.course
+          → Inside k.ring cap (state (rows rs) w t.count) (state (rows rs') w' d.count)
+          × At k left right first later cap d (rows rs') w' × (turn_weight d < turn_weight t)
+      turned found f put h rs' e d g =
+          let (l, x) = leads.1 in
+          turn_on k left right first later cap t (rows rs) w pre.2 m.course o l x w' leads.0 stepped.1 found
+          (rows_found rs o.seek o.p o.s found f) d g put h (rows rs') (ap rows e ∙ rows_kept rs put o.seek (record_of m.course o))
 
 -- the loop over turns, from its start to its end
 module _ (k : Shape) (left right first later : List ℕ) (cap : ℕ) (rs₀ : List Record) (w₀ : List ℕ) where

@@ -65,12 +65,14 @@ fn turn(
 {
     let from = search_records::load(records, t.at);
     let m = step(k, cap, left, right, first, later, from, words, t);
-    let o = search_course::offer_of(m);
+    let Some(o) = m.offer else {
+        return m.course;
+    };
     let found = search_records::find(records, o.seek, o.p, o.s);
-    let put = search_course::puts(cap, m, found);
-    let made = search_course::record_of(m);
-    search_records::keep(records, put, o.seek, made);
-    search_course::settle(m, found)
+    if search_course::puts(cap, m.course, found) {
+        search_records::keep(records, o.seek, search_course::record_of(m.course, o));
+    }
+    search_course::settle(m.course, found)
 }
 
 // Level by level from level 0 on, turn by turn. Level 1 tries the letters of one array of masks, later levels those of another.

@@ -2,6 +2,7 @@
 -- words there; what an outcome means is read off its way, and a meaning that holds leaves one way only, since of the three statements no two
 -- hold and each has one answer (claims' `searched_exactly_by_words`).
 -- Assumes nothing.
+use Rattle.std.specs.Prelude.{Ok, Err}
 use Prim.Native.Nat.{ℕ, ◌≤◌, ◌<◌}
 use native.Mathlib.Omega.{arith}
 use mathlib.Core.Path.{◌≡◌, refl, sym, ◌∙◌, ap, ap₂, subst}
@@ -35,16 +36,14 @@ use Rattle.refusals.specs.Causes.{cause_of}
 use Rattle.refusals.specs.declared.Reason.{Reason}
 use Rattle.refusals.specs.declared.Reason.TheVariants.{BadAllowance, ShortMemory, SpentAllowance, ShortBuffer}
 use Rattle.refusals.proofs.Causes.{one_reason}
-use Rattle.search_outcomes.specs.declared.Outcome.{Outcome}
-use Rattle.search_outcomes.specs.declared.Outcome.TheVariants.{Proved, Refuted, Refused}
-use Rattle.search_outcomes.specs.Outcomes.{Says, Sized, given_by, SearchGives}
+use Rattle.search_outcomes.specs.declared.Verdict.TheVariants.{Proved, Refuted}
+use Rattle.search_outcomes.specs.Outcomes.{Outcome, refused_at, Says, Sized, given_by, SearchGives}
 use Rattle.search_outcomes.specs.ByWords.{Fits, ByWords, SearchedByWords}
 
 -- the outcome that says a refusal
-says_refused : (r : Outcome) (why : Reason) → Says (refuse (cause_of why) 0) r → r ≡ Refused why 0
-says_refused (Refused v p) why (e, f) = let h : v ≡ why = one_reason v why e in (λ i. Refused (h i) (f i))
-says_refused (Refuted _ _) why x4 = elim x4 [ ]
-says_refused (Proved _ _) why x3 = elim x3 [ ]
+says_refused : (r : Outcome) (why : Reason) → Says (refuse (cause_of why) 0) r → r ≡ refused_at why 0
+says_refused (Err x) why (e, f) = let h : x.why ≡ why = one_reason x.why why e in (λ i. Err (record { why = h i; place = f i }))
+says_refused (Ok v) why x = elim x [ ]
 
 -- the refuted sheet that an answer comes with is that of its word
 sheet_of_word_lem : (S : System) (contents : S.Standing → List ℕ) (v : Verdict S) (w : Word) (sheet : List ℕ)
@@ -91,7 +90,7 @@ module _ (D : Decision) (allowance : ℕ) (m : Lent) where
   not_out_and_in h k (inr o) = absurd (omega arith)
 
   -- what an outcome of a way means
-  if_out : (w : Way) → Says (told w) (Refused BadAllowance 0) → (allowance < 1) ⊎ (4096 < allowance)
+  if_out : (w : Way) → Says (told w) (refused_at BadAllowance 0) → (allowance < 1) ⊎ (4096 < allowance)
   unfolding cause_of
   if_out (out h) s = h
   if_out (short h k t) (e, f) = absurd (let z : ◌≡◌ {A = ℕ} 0 1 = cc in omega arith)
@@ -100,7 +99,7 @@ module _ (D : Decision) (allowance : ℕ) (m : Lent) where
   if_out (answered r (proved_with c) p h) s = absurd s
   if_out (answered r (refuted_by v) p h) s = absurd s
 
-  if_short : (w : Way) → Says (told w) (Refused ShortMemory 0) → (1 ≤ allowance) × (allowance ≤ 4096) × Short D allowance m
+  if_short : (w : Way) → Says (told w) (refused_at ShortMemory 0) → (1 ≤ allowance) × (allowance ≤ 4096) × Short D allowance m
   unfolding cause_of
   if_short (out h) (e, f) = absurd (let z : ◌≡◌ {A = ℕ} 0 1 = cc in omega arith)
   if_short (short h k t) s = (h, k, t)
@@ -109,7 +108,7 @@ module _ (D : Decision) (allowance : ℕ) (m : Lent) where
   if_short (answered r (proved_with c) p h) s = absurd s
   if_short (answered r (refuted_by v) p h) s = absurd s
 
-  if_spent : (w : Way) → Says (told w) (Refused SpentAllowance 0)
+  if_spent : (w : Way) → Says (told w) (refused_at SpentAllowance 0)
       → Ready D allowance m × ((n : ℕ) × MeansSpent D (claim_system D) allowance n)
   unfolding cause_of
   if_spent (out h) (e, f) = absurd (let z : ◌≡◌ {A = ℕ} 0 1 = cc in omega arith)
@@ -119,7 +118,7 @@ module _ (D : Decision) (allowance : ℕ) (m : Lent) where
   if_spent (answered r (proved_with c) p h) s = absurd s
   if_spent (answered r (refuted_by v) p h) s = absurd s
 
-  if_unwritten : (w : Way) → Says (told w) (Refused ShortBuffer 0)
+  if_unwritten : (w : Way) → Says (told w) (refused_at ShortBuffer 0)
       → Ready D allowance m
       × ((x : Answer) × AnswerMeans D (claim_system D) allowance x × (length m.buffer < sheet_length x D.ring))
   unfolding cause_of
@@ -130,7 +129,7 @@ module _ (D : Decision) (allowance : ℕ) (m : Lent) where
   if_unwritten (answered r (proved_with c) p h) s = absurd s
   if_unwritten (answered r (refuted_by v) p h) s = absurd s
 
-  if_proved : (w : Way) (n bytes : ℕ) → Says (told w) (Proved n bytes)
+  if_proved : (w : Way) (n bytes : ℕ) → Says (told w) (Ok (Proved n bytes))
       → Ready D allowance m × MeansProved D (claim_system D) allowance n × Fits D m (proved_with n)
   if_proved (out h) n bytes s = absurd s
   if_proved (short h k t) n bytes s = absurd s
@@ -140,7 +139,7 @@ module _ (D : Decision) (allowance : ℕ) (m : Lent) where
       (r, subst (λ k. MeansProved D (claim_system D) allowance k) (sym s) p, subst (λ k. Fits D m (proved_with k)) (sym s) h)
   if_proved (answered r (refuted_by v) p h) n bytes s = absurd s
 
-  if_refuted : (w : Way) (n bytes : ℕ) → Says (told w) (Refuted n bytes)
+  if_refuted : (w : Way) (n bytes : ℕ) → Says (told w) (Ok (Refuted n bytes))
       → Ready D allowance m
       × ((v : Word) × (size v ≡ n) × MeansRefuted D (claim_system D) allowance v × Fits D m (refuted_by v))
   if_refuted (out h) n bytes s = absurd s
@@ -268,34 +267,34 @@ module _ (text : List ℕ) (q : Query) (a : Accepted text q) (allowance : ℕ) (
       ∙ ap (λ y. sheet_length y (sought a).ring)
       (same_value g.answer x (sym (ap answer_alone e) ∙ is_answer (sought a) allowance m _ fixed x p))
 
-  proved_length : (n bytes : ℕ) → Sized (Proved n bytes) (searched (sought a) allowance) → MeansProved (sought a) (claim_system (sought a)) allowance n
+  proved_length : (n bytes : ℕ) → Sized (Ok (Proved n bytes)) (searched (sought a) allowance) → MeansProved (sought a) (claim_system (sought a)) allowance n
       → bytes ≡ sheet_length (proved_with n) (sought a).ring
   proved_length n bytes z p = go (searched (sought a) allowance) refl z
     where
-      go : (s : Result Given) → searched (sought a) allowance ≡ s → Sized (Proved n bytes) s → bytes ≡ sheet_length (proved_with n) (sought a).ring
+      go : (s : Result Given) → searched (sought a) allowance ≡ s → Sized (Ok (Proved n bytes)) s → bytes ≡ sheet_length (proved_with n) (sought a).ring
       go (ok g) e h = h ∙ answer_length (proved_with n) p g e
       go (refused s) e h = absurd h
 
-  refuted_length : (w : Word) (n bytes : ℕ) → Sized (Refuted n bytes) (searched (sought a) allowance)
+  refuted_length : (w : Word) (n bytes : ℕ) → Sized (Ok (Refuted n bytes)) (searched (sought a) allowance)
       → MeansRefuted (sought a) (claim_system (sought a)) allowance w → bytes ≡ sheet_length (refuted_by w) (sought a).ring
   refuted_length w n bytes z p = go (searched (sought a) allowance) refl z
     where
-      go : (s : Result Given) → searched (sought a) allowance ≡ s → Sized (Refuted n bytes) s → bytes ≡ sheet_length (refuted_by w) (sought a).ring
+      go : (s : Result Given) → searched (sought a) allowance ≡ s → Sized (Ok (Refuted n bytes)) s → bytes ≡ sheet_length (refuted_by w) (sought a).ring
       go (ok g) e h = h ∙ answer_length (refuted_by w) p g e
       go (refused s) e h = absurd h
 
   -- the outcome that says an answer, with that length
   says_proved_lem : (r : Outcome) (n : ℕ) → Says (ok (proved_with n)) r → Sized r (searched (sought a) allowance)
-      → MeansProved (sought a) (claim_system (sought a)) allowance n → r ≡ Proved n (sheet_length (proved_with n) (sought a).ring)
-  says_proved_lem (Proved k bytes) n e z p = ap₂ Proved e (proved_length k bytes z (subst (λ j. MeansProved (sought a) (claim_system (sought a)) allowance j) (sym e) p) ∙ ap (λ j. sheet_length (proved_with j) (sought a).ring) e)
-  says_proved_lem (Refuted _ _) n e z p = elim e [ ]
-  says_proved_lem (Refused _ _) n e z p = elim e [ ]
+      → MeansProved (sought a) (claim_system (sought a)) allowance n → r ≡ Ok (Proved n (sheet_length (proved_with n) (sought a).ring))
+  says_proved_lem (Ok (Proved k bytes)) n e z p = ap₂ (λ c b. Ok (Proved c b)) e (proved_length k bytes z (subst (λ j. MeansProved (sought a) (claim_system (sought a)) allowance j) (sym e) p) ∙ ap (λ j. sheet_length (proved_with j) (sought a).ring) e)
+  says_proved_lem (Ok (Refuted _ _)) n e z p = elim e [ ]
+  says_proved_lem (Err _) n e z p = elim e [ ]
 
   says_refuted_lem : (r : Outcome) (w : Word) → Says (ok (refuted_by w)) r → Sized r (searched (sought a) allowance)
-      → MeansRefuted (sought a) (claim_system (sought a)) allowance w → r ≡ Refuted (size w) (sheet_length (refuted_by w) (sought a).ring)
-  says_refuted_lem (Refuted k bytes) w e z p = ap₂ Refuted e (refuted_length w k bytes z p)
-  says_refuted_lem (Refused _ _) w e z p = elim e [ ]
-  says_refuted_lem (Proved _ _) w e z p = elim e [ ]
+      → MeansRefuted (sought a) (claim_system (sought a)) allowance w → r ≡ Ok (Refuted (size w) (sheet_length (refuted_by w) (sought a).ring))
+  says_refuted_lem (Ok (Refuted k bytes)) w e z p = ap₂ (λ c b. Ok (Refuted c b)) e (refuted_length w k bytes z p)
+  says_refuted_lem (Err _) w e z p = elim e [ ]
+  says_refuted_lem (Ok (Proved _ _)) w e z p = elim e [ ]
 
   -- the refuted sheet of an answer is left at the start of the buffer
   left : (v : Word) → (search_call text allowance m).result ≡ ok (refuted_by v)
@@ -335,7 +334,7 @@ module _ (text : List ℕ) (q : Query) (a : Accepted text q) (allowance : ℕ) (
                   (ready, p, f, proved_length n bytes (subst (λ o. Sized o (searched (sought a) allowance)) h sized) p)),
               (λ (ready, p, f, l).
                   says_proved_lem r n (subst (λ s. Says s r) (then_answered (sought a) allowance m _ fixed w ready (proved_with n) p f) said) sized p
-                  ∙ ap (Proved n) (sym l)),
+                  ∙ ap (λ b. Ok (Proved n b)) (sym l)),
             );
             refuted = λ n bytes. (
               (λ h.
@@ -343,7 +342,7 @@ module _ (text : List ℕ) (q : Query) (a : Accepted text q) (allowance : ℕ) (
                   (ready, (v, k, p, f, refuted_length v n bytes (subst (λ o. Sized o (searched (sought a) allowance)) h sized) p))),
               (λ (ready, (v, k, p, f, l)).
                   says_refuted_lem r v (subst (λ s. Says s r) (then_answered (sought a) allowance m _ fixed w ready (refuted_by v) p f) said) sized p
-                  ∙ ap₂ Refuted k (sym l)),
+                  ∙ ap₂ (λ c b. Ok (Refuted c b)) k (sym l)),
             );
             spent = (
               (λ h. if_spent (sought a) allowance m w (subst (λ o. Says (told (sought a) allowance m w) o) h said)),

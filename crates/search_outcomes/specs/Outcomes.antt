@@ -2,34 +2,42 @@
 -- An answer of the code has the count of standings, or the length of the refuting word, which stands in the sheet; and how many bytes of the
 -- buffer the sheet is, so that nobody has to know the kind of the claim to find its end.
 -- Assumes nothing.
-use Rattle.std.specs.Prelude.{ℕ, ◌≡◌, List, map, length}
+use Rattle.std.specs.Prelude.{ℕ, ◌≡◌, Ok, Err, List, map, length}
 use Rattle.kat.specs.Word.{size}
 use Rattle.claims.specs.Refusals.{Result, ok, refused, afterwards}
 use Rattle.claims.specs.Calls.{Answer, proved_with, refuted_by, Given, searched, asked, Slot, Lent, Done, search_call}
 use Rattle.refusals.specs.Causes.{cause_of}
+use Rattle.refusals.specs.declared.Reason.{Reason}
+use Rattle.refusals.specs.declared.Refusal.{Refusal}
 use Rattle.search_records.specs.declared.Record.{Record}
-use Rattle.search_outcomes.specs.declared.Outcome.{Outcome}
-use Rattle.search_outcomes.specs.declared.Outcome.TheVariants.{Proved, Refuted, Refused}
+use Rattle.search_outcomes.specs.declared.Verdict.{Verdict}
+use Rattle.search_outcomes.specs.declared.Verdict.TheVariants.{Proved, Refuted}
+
+-- a verdict with the bytes of its sheet, or a refusal
+abbrev pub Outcome : Type 0
+Outcome = Rattle.std.specs.Prelude.Result Verdict Refusal
+
+-- a refusal, by why and where
+abbrev pub refused_at : Reason → ℕ → Outcome
+refused_at why place = Err (record { why = why; place = place })
 
 -- the outcome says the result: the count, the length of the word, or the cause and the place ("Refusals with an example each")
 abbrev pub Says : Result Answer → Outcome → Type 0
-Says (ok (proved_with c)) (Proved n bytes) = n ≡ c
-Says (ok (proved_with c)) (Refuted n bytes) = ⊥
-Says (ok (proved_with c)) (Refused why p) = ⊥
-Says (ok (refuted_by w)) (Proved n bytes) = ⊥
-Says (ok (refuted_by w)) (Refuted n bytes) = n ≡ size w
-Says (ok (refuted_by w)) (Refused why p) = ⊥
-Says (refused r) (Proved n bytes) = ⊥
-Says (refused r) (Refuted n bytes) = ⊥
-Says (refused r) (Refused why p) = (cause_of why ≡ r.cause) × (p ≡ r.place)
+Says (ok (proved_with c)) (Ok (Proved n bytes)) = n ≡ c
+Says (ok (proved_with c)) (Ok (Refuted n bytes)) = ⊥
+Says (ok (proved_with c)) (Err e) = ⊥
+Says (ok (refuted_by w)) (Ok (Proved n bytes)) = ⊥
+Says (ok (refuted_by w)) (Ok (Refuted n bytes)) = n ≡ size w
+Says (ok (refuted_by w)) (Err e) = ⊥
+Says (refused r) (Ok v) = ⊥
+Says (refused r) (Err e) = (cause_of e.why ≡ r.cause) × (e.place ≡ r.place)
 
 -- the bytes of an answer are those of the sheet that the search gives; a refusal has no sheet ("Sheet and graph bytes")
 abbrev pub Sized : Outcome → Result Given → Type 0
-Sized (Proved n bytes) (ok g) = bytes ≡ length g.sheet
-Sized (Proved n bytes) (refused r) = ⊥
-Sized (Refuted n bytes) (ok g) = bytes ≡ length g.sheet
-Sized (Refuted n bytes) (refused r) = ⊥
-Sized (Refused why p) g = Unit {0}
+Sized (Ok (Proved n bytes)) (ok g) = bytes ≡ length g.sheet
+Sized (Ok (Refuted n bytes)) (ok g) = bytes ≡ length g.sheet
+Sized (Ok v) (refused r) = ⊥
+Sized (Err e) g = Unit {0}
 
 -- a lent record, as one of document 01's ("Standings")
 unfoldable pub slot_of : Record → Slot

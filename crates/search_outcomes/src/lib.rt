@@ -7,33 +7,38 @@ ghost use Rattle.search_records.specs.Rows.{rows, record_at};
 ghost use Rattle.search_outcomes.specs.inner.Found.{found_in, Reports, Reportable};
 ghost use Rattle.search_outcomes.specs.inner.Stands.{Stands, turns};
 
-use refusals::Reason;
+use refusals::{Reason, Refusal};
 use search_course::Finding;
 use search_records::Record;
 use search_sheet::LONGEST;
 use search_writing::Writing;
 
 // Proved with the count of standings, or refuted with the length of the word, and each with the bytes of its sheet, which is at the start of the
-// buffer; or the reason and the place of a refusal.
+// buffer. The outcome of a search is a verdict or a refusal.
 #[derive(Clone, Copy)]
-pub enum Outcome {
+pub enum Verdict {
     Proved(usize, usize),
     Refuted(usize, usize),
-    Refused(Reason, usize),
 }
 
 // The outcome of what was found, once the sheet is written or the buffer was too short for it.
-fn tell(found: Finding, x: Writing) -> Outcome
+fn tell(found: Finding, x: Writing) -> Result<Verdict, Refusal>
     ensures { (ring : Bool) (r : List (List ℕ)) (w b₀ word b : List ℕ) → x.going ≡ false → Stands ring r w b₀ found x word b
         → Reports (found_in ring r w found) b₀ result b }
 {
     if x.short {
-        return Outcome::Refused(Reason::ShortBuffer, 0);
+        return Err(Refusal {
+            why: Reason::ShortBuffer,
+            place: 0,
+        });
     }
     match found {
-        Finding::Proved(n) => Outcome::Proved(n, x.to),
-        Finding::Refuted(_, _) => Outcome::Refuted(x.count, x.to),
-        Finding::Spent => Outcome::Refused(Reason::SpentAllowance, 0),
+        Finding::Proved(n) => Ok(Verdict::Proved(n, x.to)),
+        Finding::Refuted(_, _) => Ok(Verdict::Refuted(x.count, x.to)),
+        Finding::Spent => Err(Refusal {
+            why: Reason::SpentAllowance,
+            place: 0,
+        }),
     }
 }
 
@@ -81,7 +86,7 @@ pub fn report(
     words: &[u64],
     found: Finding,
     buffer: &mut [u8],
-) -> Outcome
+) -> Result<Verdict, Refusal>
     requires { Reportable ring (rows records.now) words.now found }
     ensures { Reports (found_in ring (rows records.now) words.now found) buffer.old result buffer.new }
 {

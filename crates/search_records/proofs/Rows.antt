@@ -6,6 +6,7 @@ use mathlib.Core.Path.{◌≡◌, refl, sym, ◌∙◌, ap}
 use mathlib.Core.Bool.{Bool, true, false, cond}
 use mathlib.Core.List.{List, [], ◌∷◌, map}
 use lib.ListN.{length, get_or, set, length-map}
+use Rattle.std.specs.Prelude.{Option, Some, None}
 use Rattle.claims.specs.Calls.{cleared}
 use Rattle.search_records.specs.declared.Record.{Record}
 use Rattle.search_records.specs.Records.{blank, Found}
@@ -34,15 +35,11 @@ rows_kept rs true i r = rows_set rs i r
 rows_kept rs false i r = refl
 
 -- what a lookup has found
-pub rows_found : (rs : List Record) (n p s x : ℕ) → Found rs n p s x → FoundIn (rows rs) n p s x
-rows_found rs n p s x f =
-    record {
-      within = f.within;
-      found = λ l. (ap (λ (r : Record). r.p) (sym (rows_at rs x)) ∙ (f.found l).0, ap (λ (r : Record). r.s) (sym (rows_at rs x)) ∙ (f.found l).1);
-      none =
-          λ e i l a b.
-          f.none e i l (ap (λ (r : Record). r.p) (rows_at rs i) ∙ a, ap (λ (r : Record). r.s) (rows_at rs i) ∙ b);
-    }
+pub rows_found : (rs : List Record) (n p s : ℕ) (x : Option ℕ) → Found rs n p s x → FoundIn (rows rs) n p s x
+rows_found rs n p s (Some i) f =
+    (f.0, ap (λ (r : Record). r.p) (sym (rows_at rs i)) ∙ f.1.0, ap (λ (r : Record). r.s) (sym (rows_at rs i)) ∙ f.1.1)
+rows_found rs n p s None f =
+    λ i l a b. f i l (ap (λ (r : Record). r.p) (rows_at rs i) ∙ a, ap (λ (r : Record). r.s) (rows_at rs i) ∙ b)
 
 -- the first of them zero
 pub rows_cleared : (rs : List Record) (n : ℕ) → n ≤ length rs → rows (cleared blank n rs) ≡ cleared (0 ∷ 0 ∷ 0 ∷ 0 ∷ []) n (rows rs)

@@ -1,7 +1,7 @@
 -- Records as rows of four numbers: P, S, the place of the parent, the letter. (Document 01, "Standings".) The memory of a search is reasoned about in
 -- rows, beside the words of ring claims.
 -- Assumes nothing.
-use Rattle.std.specs.Prelude.{ℕ, ◌≤◌, ◌<◌, ◌≡◌, List, [], ◌∷◌, map, get_or}
+use Rattle.std.specs.Prelude.{ℕ, ◌<◌, ◌≡◌, Option, Some, None, List, [], ◌∷◌, map, get_or}
 use Rattle.search_records.specs.declared.Record.{Record}
 
 -- the four numbers of a record
@@ -22,8 +22,7 @@ record_at r i =
       letter = get_or (get_or r i []) 3 0;
     }
 
--- x is a place below n at which this P and this S are kept, or n where there is none
-pub record FoundIn (r : List (List ℕ)) (n p s x : ℕ) : Type 0 where
-  pub within : x ≤ n
-  pub found : x < n → ((record_at r x).p ≡ p) × ((record_at r x).s ≡ s)
-  pub none : x ≡ n → (i : ℕ) → i < n → (record_at r i).p ≡ p → (record_at r i).s ≡ s → ⊥
+-- the place that is found is below n and keeps this P and this S; none is found where no place below n does
+abbrev pub FoundIn : List (List ℕ) → ℕ → ℕ → ℕ → Option ℕ → Type 0
+FoundIn r n p s (Some i) = (i < n) × ((record_at r i).p ≡ p) × ((record_at r i).s ≡ s)
+FoundIn r n p s None = (i : ℕ) → i < n → (record_at r i).p ≡ p → (record_at r i).s ≡ s → ⊥

@@ -3,7 +3,7 @@
 // What is required is that as many records were lent as are looked at, which the search call has tested (refusal 9).
 #![tactic(auto)]
 
-ghost use Rattle.std.specs.Prelude.{◌≤◌, ◌≡◌, cond, length, get_or, set};
+ghost use Rattle.std.specs.Prelude.{◌≤◌, ◌≡◌, length, get_or, set};
 ghost use Rattle.claims.specs.Calls.{cleared};
 ghost use Rattle.search_records.specs.Records.{blank, Found};
 
@@ -14,6 +14,14 @@ pub struct Record {
     pub parent: u64,
     pub letter: u64,
 }
+
+// The record that is all zero.
+const BLANK: Record = Record {
+    p: 0,
+    s: 0,
+    parent: 0,
+    letter: 0,
+};
 
 // How many records were lent.
 pub fn count(records: &[Record]) -> usize
@@ -26,43 +34,23 @@ pub fn count(records: &[Record]) -> usize
 pub fn load(records: &[Record], i: usize) -> Record
     ensures { result ≡ get_or records.now i blank }
 {
-    if i < records.len() {
-        return records[i];
-    }
-    Record {
-        p: 0,
-        s: 0,
-        parent: 0,
-        letter: 0,
-    }
+    if i < records.len() { records[i] } else { BLANK }
 }
 
-// A place below n at which this P and S are kept, or n.
-pub fn find(records: &[Record], n: usize, p: u64, s: u64) -> usize
+// The first place below n at which this P and S are kept.
+pub fn find(records: &[Record], n: usize, p: u64, s: u64) -> Option<usize>
     requires { n ≤ length records.now }
     ensures { Found records.now n p s result }
 {
-    let mut i = 0;
-    while i < n {
-        let r = records[i];
-        if r.p == p {
-            if r.s == s {
-                return i;
-            }
-        }
-        i += 1;
-    }
-    n
+    records[..n].iter().position(|r| r.p == p && r.s == s)
 }
 
-// The record put at place i, where `put` says so; past the end nothing.
-pub fn keep(records: &mut [Record], put: bool, i: usize, r: Record)
-    ensures { records.new ≡ cond put (set records.old i r) records.old }
+// The record put at place i; past the end nothing.
+pub fn keep(records: &mut [Record], i: usize, r: Record)
+    ensures { records.new ≡ set records.old i r }
 {
-    if put {
-        if i < records.len() {
-            records[i] = r;
-        }
+    if i < records.len() {
+        records[i] = r;
     }
 }
 
@@ -71,15 +59,5 @@ pub fn clear(records: &mut [Record], n: usize)
     requires { n ≤ length records.old }
     ensures { records.new ≡ cleared blank n records.old }
 {
-    let z = Record {
-        p: 0,
-        s: 0,
-        parent: 0,
-        letter: 0,
-    };
-    let mut i = 0;
-    while i < n {
-        records[i] = z;
-        i += 1;
-    }
+    records[..n].fill(BLANK);
 }

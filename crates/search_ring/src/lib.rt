@@ -59,11 +59,8 @@ fn spread(right: &Table, from: &[u64], a: usize, r: usize, to: &mut [u64])
     ensures { to.new ≡ spread_over right.now (record { atom = a; relation = r })
         (λ o. get_or from.now o 0) (upto 1 WIDTH) to.old }
 {
-    let mut o = 1;
-    while o < WIDTH {
-        let w = word(from, o);
-        send(right, o, a, r, w, to);
-        o += 1;
+    for o in 1..WIDTH {
+        send(right, o, a, r, word(from, o), to);
     }
 }
 
@@ -73,10 +70,8 @@ fn spread_single(right: &Table, m: usize, a: usize, r: usize, to: &mut [u64])
     ensures { to.new ≡ spread_over right.now (record { atom = a; relation = r })
         (λ p. 2 ^ p) (upto 0 (suc m)) to.old }
 {
-    let mut p = 0;
-    while p <= m {
+    for p in 0..m + 1 {
         send(right, p, a, r, 1u64 << p, to);
-        p += 1;
     }
 }
 

@@ -27,8 +27,7 @@ use Rattle.search_grow.specs.Kept.{state, Inside, Ready, standings, prefixes}
 use Rattle.search_course.specs.declared.Finding.{Finding as Found}
 use Rattle.search_course.specs.declared.Finding.TheVariants.{Proved as FoundProof, Refuted as FoundWord, Spent}
 use Rattle.search_course.specs.Answers.{Answered}
-use Rattle.search_outcomes.specs.declared.Outcome.{Outcome}
-use Rattle.search_outcomes.specs.Outcomes.{Gives}
+use Rattle.search_outcomes.specs.Outcomes.{Outcome, Gives}
 use Rattle.search_shape.specs.inner.Memory.{row_slot, lent_rows}
 use Rattle.query.specs.Decided.{Decided}
 use Rattle.search_shape.specs.inner.Tried.{shape_of, first_letters, later_letters, words_verdict}

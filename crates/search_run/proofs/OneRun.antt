@@ -16,8 +16,7 @@ use Rattle.search_grow.specs.Masks.{letters_in}
 use Rattle.search_grow.specs.Kept.{state, Inside, Ready}
 use Rattle.search_course.specs.declared.Finding.{Finding as Found}
 use Rattle.search_course.specs.Answers.{Answered}
-use Rattle.search_outcomes.specs.declared.Outcome.{Outcome}
-use Rattle.search_outcomes.specs.Outcomes.{Gives}
+use Rattle.search_outcomes.specs.Outcomes.{Outcome, Gives}
 use Rattle.search_shape.specs.inner.Memory.{lent_rows}
 use Rattle.search_shape.specs.inner.Tried.{shape_of, first_masks, first_letters, later_letters}
 use Rattle.search_outcomes.specs.inner.Found.{Reportable, found_in, Reports}

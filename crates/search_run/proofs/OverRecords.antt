@@ -19,9 +19,7 @@ use Rattle.search_records.specs.Records.{blank}
 use Rattle.search_records.specs.Rows.{rows}
 use Rattle.search_records.proofs.Rows.{rows_length, rows_cleared}
 use Rattle.search_course.specs.declared.Finding.{Finding as Found}
-use Rattle.search_outcomes.specs.declared.Outcome.{Outcome}
-use Rattle.search_outcomes.specs.declared.Outcome.TheVariants.{Refused}
-use Rattle.search_outcomes.specs.Outcomes.{slot_of, lent_of, Gives}
+use Rattle.search_outcomes.specs.Outcomes.{Outcome, refused_at, slot_of, lent_of, Gives}
 use Rattle.search_shape.specs.inner.Memory.{row_slot, lent_rows, room_for}
 use Rattle.search_shape.specs.inner.Tried.{shape_of, first_masks}
 use Rattle.search_outcomes.specs.inner.Found.{found_in, Reports}
@@ -63,9 +61,9 @@ module _ (f : Facts) (left right : List ℕ) (cap : ℕ) (rs : List Record) (w b
   in_rows = tested (rows rs) (counted ∙ sym (rows_length rs))
 
   pub short_way : not room ≡ true → (a : Asked) → Decided f left right a.decided
-      → Gives (searched a.decided cap) (search_asked a cap (lent_of rs w b)) (Refused ShortMemory 0) (lent_of rs w b)
+      → Gives (searched a.decided cap) (search_asked a cap (lent_of rs w b)) (refused_at ShortMemory 0) (lent_of rs w b)
   short_way t a d =
-      subst (λ m. Gives (searched a.decided cap) (search_asked a cap m) (Refused ShortMemory 0) m) (lent_same rs w b)
+      subst (λ m. Gives (searched a.decided cap) (search_asked a cap m) (refused_at ShortMemory 0) m) (lent_same rs w b)
       (short_gives f left right cap (rows rs) w b some few room in_rows t a d)
 
   pub run_asks : not room ≡ false → Ready f.ring cap (state (rows rs) w 0)

@@ -16,9 +16,7 @@ use Rattle.refusals.specs.declared.Reason.TheVariants.{BadAllowance, ShortMemory
 use Rattle.query.specs.declared.Facts.{Facts}
 use Rattle.query.specs.Answer.{facts_of}
 use Rattle.search_grow.specs.Kept.{state, Ready}
-use Rattle.search_outcomes.specs.declared.Outcome.{Outcome}
-use Rattle.search_outcomes.specs.declared.Outcome.TheVariants.{Refused}
-use Rattle.search_outcomes.specs.Outcomes.{Gives}
+use Rattle.search_outcomes.specs.Outcomes.{Outcome, refused_at, Gives}
 use Rattle.query.specs.Decided.{Decided}
 use Rattle.search_shape.specs.inner.Memory.{room_for, lent_rows}
 use Rattle.search_shape.proofs.Rooms.{room_by_test, enough_is}
@@ -27,7 +25,7 @@ in_range : (cap : ℕ) → 1 ≤ cap → cap ≤ 4096 → (leb 1 cap && leb cap 
 in_range cap h k = and_both (le-leb 1 cap h) (le-leb cap 4096 k)
 
 module _ (a : Asked) (cap : ℕ) (m : Lent) where
-  out_of_range : (leb 1 cap && leb cap 4096) ≡ false → Gives (searched a.decided cap) (search_asked a cap m) (Refused BadAllowance 0) m
+  out_of_range : (leb 1 cap && leb cap 4096) ≡ false → Gives (searched a.decided cap) (search_asked a cap m) (refused_at BadAllowance 0) m
   unfolding search_asked cause_of
   out_of_range e =
       subst⁻¹
@@ -37,14 +35,14 @@ module _ (a : Asked) (cap : ℕ) (m : Lent) where
           | false ↦ record { result = refuse short_memory 0; lent = m }
           | true ↦ finish a.decided cap m (searched a.decided cap)
         ]
-      ]) (Refused BadAllowance 0) m)
+      ]) (refused_at BadAllowance 0) m)
       e (record { says = (refl, refl); leaves = refl; sized = tt })
 
   -- 9 for the allowance
-  pub none_gives : cap ≡ 0 → Gives (searched a.decided cap) (search_asked a cap m) (Refused BadAllowance 0) m
+  pub none_gives : cap ≡ 0 → Gives (searched a.decided cap) (search_asked a cap m) (refused_at BadAllowance 0) m
   none_gives e = out_of_range (ap (λ b. b && leb cap 4096) (lt-leb 1 cap (omega arith)))
 
-  pub far_gives : (cap ≡ 0 → ⊥) → 4096 < cap → Gives (searched a.decided cap) (search_asked a cap m) (Refused BadAllowance 0) m
+  pub far_gives : (cap ≡ 0 → ⊥) → 4096 < cap → Gives (searched a.decided cap) (search_asked a cap m) (refused_at BadAllowance 0) m
   far_gives n h = out_of_range (ap (λ b. leb 1 cap && b) (lt-leb cap 4096 h) ∙ ap (λ b. b && false) (le-leb 1 cap (omega (arith, n))))
 
   -- the test of the memory decides
@@ -84,10 +82,10 @@ module _ (f : Facts) (left right : List ℕ) (cap : ℕ) (r : List (List ℕ)) (
 
   -- 9 for the memory
   pub short_gives : not room ≡ true → (a : Asked) → Decided f left right a.decided
-      → Gives (searched a.decided cap) (search_asked a cap (lent_rows r w b)) (Refused ShortMemory 0) (lent_rows r w b)
+      → Gives (searched a.decided cap) (search_asked a cap (lent_rows r w b)) (refused_at ShortMemory 0) (lent_rows r w b)
   unfolding cause_of
   short_gives t a d =
-      subst⁻¹ (λ z. Gives (searched a.decided cap) z (Refused ShortMemory 0) (lent_rows r w b))
+      subst⁻¹ (λ z. Gives (searched a.decided cap) z (refused_at ShortMemory 0) (lent_rows r w b))
       (by_memory a cap (lent_rows r w b) (omega (arith, some)) few false (enough a d false (not-true room t)))
       (record { says = (refl, refl); leaves = refl; sized = tt })
 

@@ -15,8 +15,8 @@ ghost use Rattle.layout.specs.Layout.{MOST-STANDINGS};
 
 use layout::MOST_STANDINGS;
 use query::Facts;
-use refusals::Reason;
-use search_outcomes::Outcome;
+use refusals::{Reason, Refusal};
+use search_outcomes::Verdict;
 use search_records::Record;
 use side_tables::Table;
 
@@ -29,7 +29,7 @@ fn run(
     records: &mut [Record],
     words: &mut [u64],
     buffer: &mut [u8],
-) -> Outcome
+) -> Result<Verdict, Refusal>
     requires { Ready f.ring allowance (state (rows records.old) words.old 0) × (f.relations ≤ 16) }
     ensures { (D : Decision) → Decided f left.now right.now D
         → Gives (searched D allowance) (finish D allowance (lent_of records.old words.old buffer.old) (searched D allowance)) result
@@ -58,22 +58,31 @@ pub fn decide(
     records: &mut [Record],
     words: &mut [u64],
     buffer: &mut [u8],
-) -> Outcome
+) -> Result<Verdict, Refusal>
     requires { f.relations ≤ 16 }
     ensures { (a : Asked) → Decided f left.now right.now a.decided
         → Gives (searched a.decided allowance) (search_asked a allowance (lent_of records.old words.old buffer.old)) result
         (lent_of records.new words.new buffer.new) }
 {
     if allowance == 0 {
-        return Outcome::Refused(Reason::BadAllowance, 0);
+        return Err(Refusal {
+            why: Reason::BadAllowance,
+            place: 0,
+        });
     }
     if MOST_STANDINGS < allowance {
-        return Outcome::Refused(Reason::BadAllowance, 0);
+        return Err(Refusal {
+            why: Reason::BadAllowance,
+            place: 0,
+        });
     }
     let slots = search_records::count(records);
     let room = search_shape::enough(f.ring, allowance, slots, words);
     if !room {
-        return Outcome::Refused(Reason::ShortMemory, 0);
+        return Err(Refusal {
+            why: Reason::ShortMemory,
+            place: 0,
+        });
     }
     run(f, left, right, allowance, records, words, buffer)
 }
@@ -87,7 +96,7 @@ pub fn decide_alone(
     allowance: usize,
     words: &mut [u64],
     buffer: &mut [u8],
-) -> Outcome
+) -> Result<Verdict, Refusal>
     requires { f.relations ≤ 16 }
     ensures { (after : List Record) × ((a : Asked) → Decided f left.now right.now a.decided
         → Gives (searched a.decided allowance) (search_asked a allowance (lent_of (replicate MOST-STANDINGS blank) words.old buffer.old)) result

@@ -20,11 +20,7 @@ pub fn clear_words(words: &mut [u64], n: usize)
     requires { n ≤ length words.old }
     ensures { words.new ≡ cleared 0 n words.old }
 {
-    let mut i = 0;
-    while i < n {
-        words[i] = 0;
-        i += 1;
-    }
+    words[..n].fill(0);
 }
 
 // How many records a claim of this kind needs for the allowance.

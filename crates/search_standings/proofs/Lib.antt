@@ -16,3 +16,5 @@ pub mod RingEqual
 pub mod RingRows
 pub mod RingFinals
 pub mod RingVerdict
+-- Chains over ranges of numbers.
+pub mod Chains

@@ -5,14 +5,15 @@ use native.Mathlib.Omega.{arith}
 use mathlib.Core.Path.{◌≡◌, refl, sym, ◌∙◌, ap}
 use mathlib.Core.Logic.{⊎_elim}
 use mathlib.Core.Bool.{Bool, true, false}
-use mathlib.Core.List.{List, [], ◌∷◌}
-use lib.ListN.{length, get_or, set, drop, length-set, length-drop, get_or-eq_default}
-use lib.Seq.{ext_get_or, get_or-drop, get_or-set_same, get_or-set_other, drop-set-lt}
-use Rattle.kat.proofs.Bools.{lt_or_le}
+use mathlib.Core.List.{List, [], ◌∷◌, ◌++◌}
+use lib.ListN.{length, get_or, set, take, drop, length-append, length-set, length-drop, get_or-append, get_or-eq_default}
+use lib.Seq.{ext_get_or, length-take-le, get_or-take, get_or-drop, get_or-set_same, get_or-set_other, drop-set-lt}
+use Rattle.std.proofs.lemmas.List.{get_or-append_right}
+use Rattle.kat.proofs.Bools.{lt_or_le, le_or_lt}
 use Rattle.memory.specs.Memory.{words}
-use Rattle.memory.proofs.Words.{words_same, changed_out, below, above}
+use Rattle.memory.proofs.Words.{words_same, changed_in, changed_out, below, above}
 use Rattle.search_standings.specs.Systems.{width}
-use Rattle.search_store.specs.Store.{field_at, standing_at, parent_at, letter_at, standing_in, Room, copied, records_after, words_after}
+use Rattle.search_store.specs.Store.{field_at, standing_at, parent_at, letter_at, standing_in, Room, Agree, copied, records_after, words_after}
 use Rattle.search_store.proofs.Standing.{copy_at, copied_length}
 
 -- 34 words put at a place change nothing else
@@ -32,6 +33,61 @@ module _ (to : List ℕ) (at : ℕ) (from : List ℕ) (base : ℕ) where
       (λ l.
       get_or-eq_default (copied to at from base 0) 0 (omega (arith, copied_length to at from base 0)) ∙ sym (get_or-eq_default to 0 l))
       (lt_or_le k (length to))
+
+-- 34 words of one memory, from base on, in the place of 34 of another
+module _ (at base : ℕ) (from to : List ℕ) (fits : at + 34 ≤ length to) (enough : base + 34 ≤ length from) where
+  abbrev mid : List ℕ
+  mid = take 34 (drop base from)
+
+  abbrev tail : List ℕ
+  tail = drop (at + 34) to
+
+  front_length : length (take at to) ≡ at
+  front_length = length-take-le at to (omega arith)
+
+  mid_length : length mid ≡ 34
+  mid_length = length-take-le 34 (drop base from) (omega (arith, length-drop base from))
+
+  whole_length : length (take at to ++ (mid ++ tail)) ≡ length to
+  whole_length =
+      omega (arith, length-append (take at to) (mid ++ tail), length-append mid tail, length-drop (at + 34) to, front_length, mid_length)
+
+  in_mid : (k : ℕ) → at ≤ k → k < at + 34 → get_or (take at to ++ (mid ++ tail)) k 0 ≡ get_or from (base + (k - at)) 0
+  in_mid k a b =
+      get_or-append_right (take at to) (mid ++ tail) at k 0 front_length a ∙ get_or-append mid tail 0 (k - at) (omega (arith, mid_length))
+      ∙ get_or-take 34 (drop base from) (k - at) 0 (omega arith) ∙ get_or-drop base from (k - at) 0
+
+  in_tail : (k : ℕ) → at + 34 ≤ k → get_or (take at to ++ (mid ++ tail)) k 0 ≡ get_or to k 0
+  in_tail k h =
+      get_or-append_right (take at to) (mid ++ tail) at k 0 front_length (omega arith)
+      ∙ get_or-append_right mid tail 34 (k - at) 0 mid_length (omega arith) ∙ get_or-drop (at + 34) to (k - at - 34) 0
+      ∙ ap (λ i. get_or to i 0) (omega arith)
+
+  pub copied_whole : take at to ++ (mid ++ tail) ≡ copied to at from base 0
+  unfolding copied
+  copied_whole =
+      ext_get_or 0 (take at to ++ (mid ++ tail)) (copied to at from base 0) (whole_length ∙ sym (copied_length to at from base 0))
+      (λ k h. ⊎_elim
+      (λ b. ⊎_elim
+      (λ a. in_mid k a b ∙ sym (changed_in (λ i w. get_or from (base + (i - at)) 0) to (at + 34) (at + 0) k (omega (arith, whole_length)) (omega arith) b))
+      (λ a. get_or-append (take at to) (mid ++ tail) 0 k (omega (arith, front_length)) ∙ get_or-take at to k 0 a
+      ∙ sym (copy_below to at from base k a fits))
+      (le_or_lt at k))
+      (λ b. in_tail k b ∙ sym (copy_above to at from base k b))
+      (lt_or_le k (at + 34)))
+
+-- the words from base on are those of s exactly where the lists are one
+module _ (w s : List ℕ) (base : ℕ) (enough : base + 34 ≤ length w) (full : 34 ≤ length s) where
+  pub told_agree : take 34 (drop base w) ≡ take 34 s → Agree w base s
+  told_agree e j h =
+      sym (get_or-take 34 (drop base w) j 0 h ∙ get_or-drop base w j 0) ∙ ap (λ l. get_or l j 0) e ∙ get_or-take 34 s j 0 h
+
+  pub agree_told : Agree w base s → take 34 (drop base w) ≡ take 34 s
+  agree_told f =
+      let e : length (take 34 (drop base w)) ≡ 34 = length-take-le 34 (drop base w) (omega (arith, length-drop base w)) in
+      ext_get_or 0 (take 34 (drop base w)) (take 34 s) (e ∙ sym (length-take-le 34 s full))
+      (λ j i. let h : j < 34 = omega arith in
+      get_or-take 34 (drop base w) j 0 h ∙ get_or-drop base w j 0 ∙ f j h ∙ sym (get_or-take 34 s j 0 h))
 
 module _ (r : List (List ℕ)) (w : List ℕ) (n : ℕ) (s : List ℕ) (parent letter : ℕ) where
   -- the words of a ring standing, from its place on

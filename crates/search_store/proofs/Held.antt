@@ -5,6 +5,7 @@ use native.Mathlib.Omega.{arith}
 use mathlib.Core.Path.{◌≡◌, refl, sym, ◌∙◌, ap, subst}
 use mathlib.Core.Bool.{Bool, true, false, ◌||◌}
 use mathlib.Core.List.{List, [], ◌∷◌, ◌++◌}
+use Rattle.std.specs.Prelude.{Some, None}
 use lib.ListN.{length, get_or, length-append, get_or-append}
 use lib.Seq.{get_or_at}
 use borrow.Author.Count.{below_more}
@@ -109,19 +110,19 @@ module _ (p : List ℕ → Bool) where
   none_at (x ∷ xs) f = ap (λ b. b || some p xs) (f 0 (omega arith)) ∙ none_at xs (λ i h. f (suc i) (omega arith))
 
 module _ (ring : Bool) (r : List (List ℕ)) (w : List ℕ) (n : ℕ) (ss : List (List ℕ)) (ps : List Prefix) (h : Holds ring r w n ss ps)
-    (s : List ℕ) (p : ℕ) (place : Place (standing_at ring r w) n s p) where
+    (s : List ℕ) where
   -- a place was found: the standing is kept
-  pub found_kept : p < n → some (same s) ss ≡ true
-  found_kept l =
-      some_at (same s) ss p (omega (arith, h.standings_count))
-      (ap (λ t. same s t) (sym (h.standing p l) ∙ place.found l) ∙ same_self s)
+  pub found_kept : (p : ℕ) → Place (standing_at ring r w) n s (Some p) → some (same s) ss ≡ true
+  found_kept p place =
+      some_at (same s) ss p (omega (arith, place.0, h.standings_count))
+      (ap (λ t. same s t) (sym (h.standing p place.0) ∙ place.1) ∙ same_self s)
 
   -- none was found: it is not
-  pub none_kept : p ≡ n → some (same s) ss ≡ false
-  none_kept e =
+  pub none_kept : Place (standing_at ring r w) n s None → some (same s) ss ≡ false
+  none_kept place =
       none_at (same s) ss
       (λ i k.
       false_of_not (same s (get_or ss i []))
       (λ z.
-      place.none e i (omega (arith, h.standings_count))
+      place i (omega (arith, h.standings_count))
       (h.standing i (omega (arith, h.standings_count)) ∙ sym (same_is_equal s (get_or ss i []) z))))

@@ -3,10 +3,12 @@
 use Prim.Native.Nat.{ℕ, ◌+◌, ◌*◌, ◌-◌, ◌≤◌, ◌<◌}
 use native.Mathlib.Omega.{arith}
 use mathlib.Core.Path.{◌≡◌, refl, sym, ◌∙◌, ap}
-use mathlib.Core.Bool.{Bool, true, false}
+use mathlib.Core.Bool.{Bool, true, false, true≢false}
 use mathlib.Core.Logic.{⊎_elim}
 use mathlib.Core.List.{List, [], ◌∷◌}
 use lib.ListN.{length, get_or, set, take}
+use Rattle.std.specs.Prelude.{Option, Some, None}
+use Rattle.std.specs.Option.{is_some}
 use Rattle.memory.specs.Memory.{words, changed}
 use lib.Seq.{length-take-le, get_or-take}
 use Rattle.memory.proofs.Words.{words_same, words_at_lem, words_ext, fill_more, changed_length, changed_in, changed_end}
@@ -14,13 +16,16 @@ use Rattle.kat.proofs.Bools.{le_or_lt}
 use Rattle.search_standings.specs.Systems.{width}
 use Rattle.search_store.specs.Store.{field_at, standing_at, parent_at, letter_at, standing_in, Place, Agree, copied, records_after, words_after}
 
--- the place of an equal standing, and none
+-- the place of an equal standing, or none
 module _ (at : ℕ → List ℕ) (n : ℕ) (s : List ℕ) where
-  pub found_here : (i : ℕ) → i < n → at i ≡ s → Place at n s i
-  found_here i h e = record { within = omega arith; found = λ _. e; none = λ z. absurd (omega arith) }
+  -- what is told of a place by whether one was found
+  pub place_some : (p : Option ℕ) → is_some p ≡ true → Place at n s p → (i : ℕ) × Place at n s (Some i)
+  place_some (Some i) e h = (i, h)
+  place_some None e h = absurd (true≢false (sym e))
 
-  pub found_none : ((k : ℕ) → 0 ≤ k → k < n → at k ≡ s → ⊥) → Place at n s n
-  found_none f = record { within = omega arith; found = λ z. absurd (omega arith); none = λ _ k l. f k (omega arith) l }
+  pub place_none : (p : Option ℕ) → is_some p ≡ false → Place at n s p → Place at n s None
+  place_none (Some i) e h = absurd (true≢false e)
+  place_none None e h = h
 
   -- one place further down
   pub none_below : (i j : ℕ) → i ≡ j + 1 → ((k : ℕ) → i ≤ k → k < n → at k ≡ s → ⊥) → (at j ≡ s → ⊥)
@@ -54,25 +59,13 @@ pub copied_length : (to : List ℕ) (at : ℕ) (from : List ℕ) (base j : ℕ) 
 unfolding copied
 copied_length to at from base j = changed_length (λ k w. get_or from (base + (k - at)) 0) to (at + 34) (at + j)
 
--- 34 words copied from one memory to another, one a turn
+-- 34 words copied from one memory to another
 module _ (at : ℕ) (from : List ℕ) (base : ℕ) where
-  pub copy_more : (to : List ℕ) (j v : ℕ) → j < 34 → at + 34 ≤ length to → v ≡ get_or from (base + j) 0
-      → copied (set to (at + j) v) at from base (j + 1) ≡ copied to at from base j
-  unfolding copied
-  copy_more to j v h l e =
-      ap (λ k. changed (λ i w. get_or from (base + (i - at)) 0) (set to (at + j) v) k (at + 34)) (omega arith)
-      ∙ fill_more (λ k. get_or from (base + (k - at)) 0) to (at + 34) (at + j) v (omega arith) (omega arith)
-      (e ∙ ap (λ k. get_or from (base + k) 0) (omega arith))
-
   pub copy_at : (to : List ℕ) (j : ℕ) → j < 34 → at + 34 ≤ length to → get_or (copied to at from base 0) (at + j) 0 ≡ get_or from (base + j) 0
   unfolding copied
   copy_at to j h l =
       changed_in (λ k w. get_or from (base + (k - at)) 0) to (at + 34) (at + 0) (at + j) (omega arith) (omega arith) (omega arith)
       ∙ ap (λ k. get_or from (base + k) 0) (omega arith)
-
-  pub copy_end : (to : List ℕ) (j : ℕ) → 34 ≤ j → copied to at from base j ≡ to
-  unfolding copied
-  copy_end to j h = changed_end (λ k w. get_or from (base + (k - at)) 0) to (at + 34) (at + j) (omega arith)
 
 -- the words behind a standing
 module _ (ring : Bool) (r : List (List ℕ)) (w : List ℕ) (i : ℕ) where

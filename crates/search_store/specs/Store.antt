@@ -2,7 +2,7 @@
 -- records of four words for path claims, P, S, parent, letter; RING-WORDS words a standing for ring claims, those that
 -- tell the standing, parent, letter, and four that are unused. A parent is a place: 0 is the empty prefix, i + 1 is standing i. A letter is the number 16 * atom + relation.
 -- Assumes nothing.
-use Rattle.std.specs.Prelude.{ℕ, suc, ◌+◌, ◌*◌, ◌-◌, ◌/◌, ◌%◌, ◌≤◌, ◌<◌, ◌≡◌, Bool, true, false, List, [], ◌∷◌, length, get_or, set}
+use Rattle.std.specs.Prelude.{ℕ, suc, ◌+◌, ◌*◌, ◌-◌, ◌/◌, ◌%◌, ◌≤◌, ◌<◌, ◌≡◌, Bool, true, false, Option, Some, None, List, [], ◌∷◌, length, get_or, set}
 use Rattle.kat.specs.Ring.{Prefix, nothing, then}
 use Rattle.memory.specs.Memory.{words, changed}
 use Rattle.search_standings.specs.Systems.{width}
@@ -34,11 +34,10 @@ pub record Room (ring : Bool) (r : List (List ℕ)) (w : List ℕ) (n : ℕ) : T
   pub path : ring ≡ false → n ≤ length r
   pub turn : ring ≡ true → RING-WORDS * n ≤ length w
 
--- p is the place of a standing equal to s among the first n, or n where there is none
-pub record Place (at : ℕ → List ℕ) (n : ℕ) (s : List ℕ) (p : ℕ) : Type 0 where
-  pub within : p ≤ n
-  pub found : p < n → at p ≡ s
-  pub none : p ≡ n → (i : ℕ) → i < n → at i ≡ s → ⊥
+-- the place that is found is that of a standing equal to s among the first n; none is found where none of them is equal
+abbrev pub Place : (ℕ → List ℕ) → ℕ → List ℕ → Option ℕ → Type 0
+Place at n s (Some p) = (p < n) × (at p ≡ s)
+Place at n s None = (i : ℕ) → i < n → at i ≡ s → ⊥
 
 -- the words from base on are those of s
 abbrev pub Agree : List ℕ → ℕ → List ℕ → Type 0

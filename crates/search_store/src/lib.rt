@@ -20,11 +20,7 @@ fn copy(to: &mut [u64], at: usize, from: &[u64], base: usize)
     requires { (at + TOLD ≤ length to.old) × (base + TOLD ≤ length from.now) }
     ensures { to.new ≡ copied to.old at from.now base 0 }
 {
-    let mut j = 0;
-    while j < TOLD {
-        to[at + j] = from[base + j];
-        j += 1;
-    }
+    to[at..at + TOLD].copy_from_slice(&from[base..base + TOLD]);
 }
 
 // Two words, at the start.
@@ -76,18 +72,11 @@ fn equal_at(words: &[u64], base: usize, s: &Standing) -> bool
     ensures alike { result ≡ true → Agree words.now base s.now }
     ensures unlike { result ≡ false → Agree words.now base s.now → ⊥ }
 {
-    let mut j = 0;
-    while j < TOLD {
-        if words[base + j] != s[j] {
-            return false;
-        }
-        j += 1;
-    }
-    true
+    words[base..base + TOLD] == s[..TOLD]
 }
 
-// A place below n at which this ring standing is kept, or n. From the last one down: an equal standing is most often one of the last.
-pub fn find(words: &[u64], n: usize, s: &Standing) -> usize
+// A place below n at which this ring standing is kept. From the last one down: an equal standing is most often one of the last.
+pub fn find(words: &[u64], n: usize, s: &Standing) -> Option<usize>
     requires { RING-WORDS * n ≤ length words.now }
     ensures { Place (standing_at true [] words.now) n (standing_in true s.now) result }
 {
@@ -95,10 +84,10 @@ pub fn find(words: &[u64], n: usize, s: &Standing) -> usize
     while i > 0 {
         i -= 1;
         if equal_at(words, RING_WORDS * i, s) {
-            return i;
+            return Some(i);
         }
     }
-    n
+    None
 }
 
 // A ring standing put at place n, with its parent and its letter.

@@ -9,7 +9,6 @@ ghost use Rattle.sheet_checked.specs.Checks.{Says};
 ghost use Rattle.sheet.specs.Evidence.{HoldsInEveryGraph, DrawnGraphBreaks};
 ghost use Rattle.sheet_checked.specs.declared.Checked.TheVariants.{Proved, Refuted};
 
-use query::Answer;
 use sheet_checked::Checked;
 use side_tables::TABLE;
 
@@ -24,7 +23,7 @@ pub fn check(text: &[u8], sheet: &[u8]) -> Checked
     let mut right = [0u64; TABLE];
     let asked = query::read_sides(text, &mut left, &mut right);
     match asked {
-        Answer::Refused(why, place) => Checked::Refused(why, place),
-        Answer::Accepted(f) => sheet_checked::check_decided(f, &left, &right, sheet),
+        Err(e) => Checked::Refused(e.why, e.place),
+        Ok(f) => sheet_checked::check_decided(f, &left, &right, sheet),
     }
 }

@@ -10,7 +10,6 @@ ghost use Rattle.sheet_alike.specs.Masks.{alike_words, lowest_words, mask_of, ma
 
 use bits::{below, marked};
 use codes::MOST_RELATIONS;
-use memory::least;
 use query::Facts;
 use sheet_steps::{enders_at, null_at, step_from};
 use side_tables::Table;
@@ -29,14 +28,11 @@ fn row_alike(table: &Table, r: usize, a: usize, b: usize, p: usize) -> bool
 fn rows_alike(table: &Table, n: usize, r: usize, a: usize, b: usize) -> bool
     ensures { result ≡ rows_alike table.now n r a b }
 {
-    let end = least(n, 64) + 1;
-    let mut p = 0;
-    while p < end {
-        let same = row_alike(table, r, a, b, p);
-        if !same {
+    let end = n.min(64) + 1;
+    for p in 0..end {
+        if !row_alike(table, r, a, b, p) {
             return false;
         }
-        p += 1;
     }
     true
 }
@@ -118,10 +114,8 @@ fn mask_at(f: Facts, left: &Table, right: &Table, r: usize) -> u64
 fn fill(f: Facts, left: &Table, right: &Table, out: &mut [u64])
     ensures { out.new ≡ words (length out.old) (mask_at f left.now right.now) }
 {
-    let mut r = 0;
-    while r < out.len() {
-        out[r] = mask_at(f, left, right, r);
-        r += 1;
+    for (r, mask) in out.iter_mut().enumerate() {
+        *mask = mask_at(f, left, right, r);
     }
 }
 

@@ -9,6 +9,7 @@ use mathlib.Core.Bool.{Bool, true, false}
 use mathlib.Core.List.{List, [], ◌∷◌}
 use lib.ListN.{length, drop, length-drop}
 use borrow.Author.Tests.{lt-ltb, le-ltb}
+use Rattle.std.specs.Prelude.{Result as Found, Ok, Err}
 use Rattle.kat.specs.Lists.{is_empty}
 use Rattle.kat.proofs.Bools.{le_or_lt}
 use Rattle.claims.specs.Query.{Query}
@@ -17,31 +18,30 @@ use Rattle.claims.specs.Reading.{read}
 use Rattle.claims.specs.Refusals.{Result, ok, refused, refuse, afterwards, sheet_field}
 use Rattle.claims.specs.SheetReading.{Said, says_proved, says_refuted, Part, part_in, only_part, sheet_in}
 use Rattle.claims.specs.Passing.{passes}
-use Rattle.claims.specs.Calls.{Asked, Passed, passed_of, checked, check_call}
+use Rattle.claims.specs.Calls.{Passed, passed_of, checked, check_call}
 use Rattle.claims.proofs.CheckOrder.{check_reads_first}
 use Rattle.claims.proofs.Sheets.{check_is}
-use Rattle.refusals.specs.declared.Reason.{Reason}
+use Rattle.refusals.specs.declared.Refusal.{Refusal}
 use Rattle.refusals.specs.declared.Reason.TheVariants.{SheetField, DoesNotPass}
 use Rattle.refusals.specs.Causes.{cause_of}
 use Rattle.query.specs.declared.Facts.{Facts}
-use Rattle.query.specs.declared.Answer.{Answer}
-use Rattle.query.specs.declared.Answer.TheVariants.{Accepted, Refused as RefusedQuery}
-use Rattle.query.specs.Answer.{Says as SaysRead, left_after, right_after}
+use Rattle.std.specs.Prelude.{Ok, Err}
+use Rattle.query.specs.Answer.{Answer, Says as SaysRead, left_after, right_after}
 use Rattle.query.specs.Decided.{Decided}
 use Rattle.query.proofs.Asked.{AskedWith, asked_with}
 use Rattle.sheet_part.specs.declared.Tested.{Tested}
-use Rattle.sheet_part.specs.declared.Tested.TheVariants.{Proved as ProvedPart, Refuted as RefutedPart, Wrong}
-use Rattle.sheet_part.specs.Tests.{Tests, TestsPart, FewFields}
+use Rattle.sheet_part.specs.declared.Tested.TheVariants.{Proved as ProvedPart, Refuted as RefutedPart}
+use Rattle.sheet_part.specs.Tests.{Tests, TestsPart}
 use Rattle.sheet_checked.specs.declared.Checked.{Checked}
 use Rattle.sheet_checked.specs.declared.Checked.TheVariants.{Proved, Refuted, Refused}
 use Rattle.sheet_checked.specs.Checks.{Says}
 use Rattle.sheet_checked.specs.inner.Ended.{ended}
 
 -- the answer to a part that ends the sheet or not
-abbrev pub answer_to : Tested → ℕ → Checked
-answer_to (ProvedPart passed fields next) end = ended true passed (fields + 1) next end
-answer_to (RefutedPart passed fields next) end = ended false passed (fields + 1) next end
-answer_to (Wrong i) end = Refused SheetField (suc i)
+abbrev pub answer_to : Found Tested ℕ → ℕ → Checked
+answer_to (Ok (ProvedPart passed fields next)) end = ended true passed (fields + 1) next end
+answer_to (Ok (RefutedPart passed fields next)) end = ended false passed (fields + 1) next end
+answer_to (Err i) end = Refused SheetField (suc i)
 
 -- the four ways out
 module _ (proved passed : Bool) (field next end : ℕ) where
@@ -102,71 +102,61 @@ module _ (D : Decision) (bs : List ℕ) where
   last_refuted false w n field next rest g f h =
       rw (f, none_behind next bs h, le-ltb next (length bs) h, passed_of, sym g) (refl, refl)
 
-  part_said : (s : Said D) (n : ℕ) (rest : List ℕ) (t : Tested) → TestsPart D bs 1 s n rest t → Says (Made s n rest) (answer_to t (length bs))
-  part_said (says_proved ss) n rest (ProvedPart passed fields next) (g, e, l, f) =
+  part_said : (s : Said D) (n : ℕ) (rest : List ℕ) (t : Found Tested ℕ) → TestsPart D bs 1 s n rest t → Says (Made s n rest) (answer_to t (length bs))
+  part_said (says_proved ss) n rest (Ok (ProvedPart passed fields next)) (g, e, l, f) =
       ⊎_elim (λ h. last_proved passed ss n (fields + 1) next rest g f h) (λ h. followed true passed (says_proved ss) n (fields + 1) next rest (omega (arith, e)) f h)
       (le_or_lt (length bs) next)
-  part_said (says_refuted w) n rest (RefutedPart passed fields next) (g, e, l, f) =
+  part_said (says_refuted w) n rest (Ok (RefutedPart passed fields next)) (g, e, l, f) =
       ⊎_elim (λ h. last_refuted passed w n (fields + 1) next rest g f h) (λ h. followed false passed (says_refuted w) n (fields + 1) next rest (omega (arith, e)) f h)
       (le_or_lt (length bs) next)
-  part_said (says_refuted w) n rest (Wrong _) x5 = elim x5 [ ]
-  part_said (says_refuted w) n rest (ProvedPart passed fields next) x3 = elim x3 [ ]
-  part_said (says_proved ss) n rest (Wrong _) x4 = elim x4 [ ]
-  part_said (says_proved ss) n rest (RefutedPart passed fields next) x'' = elim x'' [ ]
+  part_said (says_refuted w) n rest (Err _) x5 = elim x5 [ ]
+  part_said (says_refuted w) n rest (Ok (ProvedPart passed fields next)) x3 = elim x3 [ ]
+  part_said (says_proved ss) n rest (Err _) x4 = elim x4 [ ]
+  part_said (says_proved ss) n rest (Ok (RefutedPart passed fields next)) x'' = elim x'' [ ]
 
-  part_ended : (r : Result (Part D)) (t : Tested) → Tests D bs 1 r t
+  part_ended : (r : Result (Part D)) (t : Found Tested ℕ) → Tests D bs 1 r t
       → Says (afterwards (afterwards r (only_part D)) (passed_of D)) (answer_to t (length bs))
   unfolding only_part cause_of
   part_ended (ok p) t h = part_said p.said p.next p.rest t h
-  part_ended (refused r) (Wrong i) (c, p) = (sym c, omega (arith, p))
-  part_ended (refused r) (RefutedPart _ _ _) h = elim h [ ]
-  part_ended (refused r) (ProvedPart _ _ _) h = elim h [ ]
+  part_ended (refused r) (Err i) (c, p) = (sym c, omega (arith, p))
+  part_ended (refused r) (Ok (RefutedPart _ _ _)) h = elim h [ ]
+  part_ended (refused r) (Ok (ProvedPart _ _ _)) h = elim h [ ]
 
   -- the answer to the part from field 1 is that to the sheet
-  pub sheet_ended : (t : Tested) → Tests D bs 1 (part_in D 1 (drop 0 bs)) t → Says (checked D bs) (answer_to t (length bs))
+  pub sheet_ended : (t : Found Tested ℕ) → Tests D bs 1 (part_in D 1 (drop 0 bs)) t → Says (checked D bs) (answer_to t (length bs))
   unfolding checked sheet_in
   sheet_ended t h = part_ended (part_in D 1 bs) t h
 
 -- a refusal of the reader
-pub refused_says : (bs sheet : List ℕ) (x : Answer) → SaysRead (read bs) x → (why : Reason) (p : ℕ) → x ≡ RefusedQuery why p
-    → Says (check_call bs sheet) (Refused why p)
-refused_says bs sheet x said why p e = go (read bs) refl (subst (SaysRead (read bs)) e said)
+pub refused_says : (bs sheet : List ℕ) (x : Answer) → SaysRead (read bs) x → (y : Refusal) → x ≡ Err y
+    → Says (check_call bs sheet) (Refused y.why y.place)
+refused_says bs sheet x said y e = go (read bs) refl (subst (SaysRead (read bs)) e said)
   where
-    go : (r : Result Query) → read bs ≡ r → SaysRead r (RefusedQuery why p) → Says (check_call bs sheet) (Refused why p)
+    go : (r : Result Query) → read bs ≡ r → SaysRead r (Err y) → Says (check_call bs sheet) (Refused y.why y.place)
     go (ok q) f s = absurd s
-    go (refused r) f s = subst⁻¹ (λ d. Says d (Refused why p)) (check_reads_first bs sheet r f) s
+    go (refused r) f s = subst⁻¹ (λ d. Says d (Refused y.why y.place)) (check_reads_first bs sheet r f) s
 
 -- an accepted query
-pub accepted_says : (bs sheet : List ℕ) (x : Answer) → SaysRead (read bs) x → (f : Facts) → x ≡ Accepted f → (left right : List ℕ)
+pub accepted_says : (bs sheet : List ℕ) (x : Answer) → SaysRead (read bs) x → (f : Facts) → x ≡ Ok f → (left right : List ℕ)
     → left ≡ left_after (read bs) → right ≡ right_after (read bs) → (c : Checked)
     → ((D : Decision) → Decided f left right D → Says (checked D sheet) c) → Says (check_call bs sheet) c
 accepted_says bs sheet x said f e left right l r c h =
     let a : AskedWith bs f left right = asked_with bs x said f e left right l r in
     subst⁻¹ (λ d. Says d c) (check_is bs a.asks a.accepted sheet) (h a.asks.decided a.decided)
 
--- a part has few fields, by the kind of what was found
-pub few_proved : (t : Tested) (passed : Bool) (fields next : ℕ) → FewFields t → t ≡ ProvedPart passed fields next → fields ≤ 4097
-few_proved t passed fields next h e = subst FewFields e h
-
-pub few_refuted : (t : Tested) (passed : Bool) (fields next : ℕ) → FewFields t → t ≡ RefutedPart passed fields next → fields ≤ 4097
-few_refuted t passed fields next h e = subst FewFields e h
-
-pub few_wrong : (t : Tested) (i : ℕ) → FewFields t → t ≡ Wrong i → i ≤ 4097
-few_wrong t i h e = subst FewFields e h
-
 -- the answer to the sheet, by the kind of what was found
-module _ (D : Decision) (bs : List ℕ) (t : Tested) (h : (k : ℕ) → Tests D bs k (part_in D k (drop 0 bs)) t) where
-  pub proved_says : (passed : Bool) (fields next : ℕ) → t ≡ ProvedPart passed fields next → (c : Checked)
+module _ (D : Decision) (bs : List ℕ) (t : Found Tested ℕ) (h : (k : ℕ) → Tests D bs k (part_in D k (drop 0 bs)) t) where
+  pub proved_says : (passed : Bool) (fields next : ℕ) → t ≡ Ok (ProvedPart passed fields next) → (c : Checked)
       → c ≡ ended true passed (fields + 1) next (length bs) → Says (checked D bs) c
   proved_says passed fields next e c f =
       subst⁻¹ (Says (checked D bs)) f (subst (λ u. Says (checked D bs) (answer_to u (length bs))) e (sheet_ended D bs t (h 1)))
 
-  pub refuted_says : (passed : Bool) (fields next : ℕ) → t ≡ RefutedPart passed fields next → (c : Checked)
+  pub refuted_says : (passed : Bool) (fields next : ℕ) → t ≡ Ok (RefutedPart passed fields next) → (c : Checked)
       → c ≡ ended false passed (fields + 1) next (length bs) → Says (checked D bs) c
   refuted_says passed fields next e c f =
       subst⁻¹ (Says (checked D bs)) f (subst (λ u. Says (checked D bs) (answer_to u (length bs))) e (sheet_ended D bs t (h 1)))
 
-  pub wrong_says : (i : ℕ) → t ≡ Wrong i → Says (checked D bs) (Refused SheetField (i + 1))
+  pub wrong_says : (i : ℕ) → t ≡ Err i → Says (checked D bs) (Refused SheetField (i + 1))
   wrong_says i e =
       let z : suc i ≡ i + 1 = omega arith in
       subst (λ n. Says (checked D bs) (Refused SheetField n)) z

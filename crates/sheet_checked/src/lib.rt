@@ -44,10 +44,9 @@ pub fn check_decided(f: Facts, left: &Table, right: &Table, sheet: &[u8]) -> Che
     ensures { (D : Decision) → Decided f left.now right.now D → Says (checked D sheet.now) result }
 {
     let end = sheet.len();
-    let t = sheet_part::part(f, left, right, sheet, 0);
-    match t {
-        Tested::Proved(passes, n, next) => answer(true, passes, n + 1, next, end),
-        Tested::Refuted(passes, n, next) => answer(false, passes, n + 1, next, end),
-        Tested::Wrong(before) => Checked::Refused(Reason::SheetField, before + 1),
+    match sheet_part::part(f, left, right, sheet, 0) {
+        Ok(Tested::Proved(passes, n, next)) => answer(true, passes, n + 1, next, end),
+        Ok(Tested::Refuted(passes, n, next)) => answer(false, passes, n + 1, next, end),
+        Err(before) => Checked::Refused(Reason::SheetField, before + 1),
     }
 }

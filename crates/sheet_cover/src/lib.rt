@@ -33,10 +33,8 @@ fn join_where(t: &mut [u64], c: u64, k: usize, hi: usize)
     requires { hi ≤ length t.old }
     ensures { t.new ≡ joined_where t.old c k hi }
 {
-    let mut y = 0;
-    while y < hi {
+    for y in 0..hi {
         t[y] = merged(t[y], c, k);
-        y += 1;
     }
 }
 
@@ -57,10 +55,8 @@ fn close(t: &mut [u64], hi: usize)
     requires { hi ≤ length t.old }
     ensures { t.new ≡ rounds t.old hi hi }
 {
-    let mut k = 0;
-    while k < hi {
+    for k in 0..hi {
         close_through(t, k, hi);
-        k += 1;
     }
 }
 
@@ -89,12 +85,10 @@ fn some_pair_turns(t: &[u64], s: &[u64], m: usize) -> bool
     requires { m ≤ MOST-RIGHT }
     ensures { result ≡ pairs_by t.now s.now m }
 {
-    let mut q = 1;
-    while q <= m {
+    for q in 1..m + 1 {
         if pair_turns(word(t, q), word(s, N_AT + q), q, m) {
             return true;
         }
-        q += 1;
     }
     false
 }

@@ -3,3 +3,4 @@ mod Whole
 mod SoFar
 mod Outcomes
 mod Going
+mod Turns

@@ -10,6 +10,7 @@ use mathlib.Core.List.{List, [], map}
 use mathlib.Core.Option.{Option, some, none}
 use lib.ListN.{length, take, drop}
 use borrow.Author.Tests.{eq-eqb, ne_eqb}
+use Rattle.std.specs.Prelude.{Result as Answer, Ok, Err}
 use Rattle.kat.specs.Tables.{occurrences}
 use Rattle.kat.specs.Word.{Word}
 use Rattle.kat.proofs.Bools.{lt_or_le}
@@ -31,7 +32,7 @@ use Rattle.sheet_index.proofs.Kept.{indexed_none}
 use Rattle.sheet_fits.specs.inner.Steps.{may_list}
 use Rattle.sheet_fits.proofs.Listable.{next_place}
 use Rattle.sheet_fields.specs.declared.PartRead.{PartRead}
-use Rattle.sheet_fields.specs.declared.PartRead.TheVariants.{Proved, Refuted, Wrong}
+use Rattle.sheet_fields.specs.declared.PartRead.TheVariants.{Proved, Refuted}
 use Rattle.sheet_fields.specs.Reads.{ListedAt, Inside, cells_listed, ProvedAt, Reads}
 use Rattle.sheet_fields.specs.inner.Between.{SoFar, AtVerdict, AtStanding, AtWord, Answered}
 use Rattle.sheet_fields.proofs.Whole.{WholeAt}
@@ -39,8 +40,8 @@ use Rattle.sheet_fields.proofs.SoFar.{so_far_none, so_far_end, so_far_full, so_f
 
 -- a field is wrong
 wrong_read : (ring : Bool) (D : Decision) (bs : List ℕ) (k place i : ℕ) (read : Result (Part D)) → read ≡ refuse sheet_field place
-    → place ≡ k + i → Reads ring D bs k read (Wrong i)
-wrong_read ring D bs k place i read e p = subst⁻¹ (λ r. Reads ring D bs k r (Wrong i)) e (refl, p)
+    → place ≡ k + i → Reads ring D bs k read (Err i)
+wrong_read ring D bs k place i read e p = subst⁻¹ (λ r. Reads ring D bs k r (Err i)) e (refl, p)
 
 -- the facts are those of the decision
 module _ {f : Facts} {left right : List ℕ} {D : Decision} (d : Decided f left right D) where
@@ -78,7 +79,7 @@ module _ (f : Facts) (bs : List ℕ) (all : AllBytes bs) (first : ℕ) (heads ch
 
   wrong_after_lem : ((left right : List ℕ) (D : Decision) → Decided f left right D → (k : ℕ)
       → standings_in D 4096 (suc k) [] (drop base bs) ≡ refuse sheet_field (suc k + n))
-      → Answered f bs first heads chain (Wrong (suc n))
+      → Answered f bs first heads chain (Err (suc n))
   wrong_after_lem h =
       record {
         inside = listed_first;
@@ -87,10 +88,10 @@ module _ (f : Facts) (bs : List ℕ) (all : AllBytes bs) (first : ℕ) (heads ch
       }
 
   module _ (t : tagged 3 (drop at bs) ≡ true) where
-    pub standing_full : n ≡ 4096 → Answered f bs first heads chain (Wrong (suc n))
+    pub standing_full : n ≡ 4096 → Answered f bs first heads chain (Err (suc n))
     standing_full h = wrong_after_lem (λ left right D d k. so_far_full d bs all (A.so_far left right D d) (suc k) h t)
 
-    pub standing_wrong : listable ≡ false → Answered f bs first heads chain (Wrong (suc n))
+    pub standing_wrong : listable ≡ false → Answered f bs first heads chain (Err (suc n))
     standing_wrong m =
         ⊎_elim
         (λ h. wrong_after_lem (λ left right D d k. so_far_wrong d bs all (A.so_far left right D d) h t (suc k) (sym (list_is d bs base n at) ∙ m)))
@@ -118,14 +119,14 @@ module _ (f : Facts) (bs : List ℕ) (all : AllBytes bs) (first : ℕ) (heads ch
         }
 
   -- no further standing
-  pub standing_end : tagged 3 (drop at bs) ≡ false → Answered f bs first heads chain (Proved base n at)
+  pub standing_end : tagged 3 (drop at bs) ≡ false → Answered f bs first heads chain (Ok (Proved base n at))
   standing_end t =
       record {
         inside = A.listed;
         read = λ left right D d k.
             let so = A.so_far left right D d in
             let z : suc k + n ≡ k + suc n = omega arith in
-            subst⁻¹ (λ r. Reads f.ring D bs k r (Proved base n at)) (A.part D k ∙ so_far_end d bs all so (suc k) t)
+            subst⁻¹ (λ r. Reads f.ring D bs k r (Ok (Proved base n at))) (A.part D k ∙ so_far_end d bs all so (suc k) t)
             (subst⁻¹
             (λ b. ProvedAt b D bs k (map (cells_show D.ring D) (cells_listed D.ring bs base n)) (suc k + n) (drop at bs) base n at)
             (ring_is d) (record { shown = refl; good = so.good; fields = z; behind = refl }));
@@ -140,17 +141,17 @@ module _ {f : Facts} {left right : List ℕ} {D : Decision} (d : Decided f left 
   word_read_from o =
       elim o [ none ↦ refuse sheet_field (suc k) | some w ↦ ok (record { said = says_refuted w; next = suc (suc k); rest = after_field here }) ]
 
-  no_word : word_in D here ≡ none → Reads f.ring D bs k (word_from D (suc k) here) (Wrong 1)
+  no_word : word_in D here ≡ none → Reads f.ring D bs k (word_from D (suc k) here) (Err 1)
   unfolding word_from
   no_word e =
       wrong_read f.ring D bs k (suc k) 1 (word_from D (suc k) here) (ap word_read_from e) (omega arith)
 
-  pub word_cut : here ≡ cut → Reads f.ring D bs k (word_from D (suc k) here) (Wrong 1)
+  pub word_cut : here ≡ cut → Reads f.ring D bs k (word_from D (suc k) here) (Err 1)
   unfolding word_in
   word_cut e = no_word (ap (word_in D) e)
 
   module _ {tag start end : ℕ} (w : WholeAt bs at here tag start end) where
-    pub word_tag : (tag ≡ 2 → ⊥) → Reads f.ring D bs k (word_from D (suc k) here) (Wrong 1)
+    pub word_tag : (tag ≡ 2 → ⊥) → Reads f.ring D bs k (word_from D (suc k) here) (Err 1)
     unfolding word_in
     word_tag n =
         no_word (ap (word_in D) w.is ∙ ap (λ b. elim b [ true ↦ word_of D w.contents | false ↦ none ]) (ne_eqb tag 2 n))
@@ -164,17 +165,17 @@ module _ {f : Facts} {left right : List ℕ} {D : Decision} (d : Decided f left 
           ∙ ap (word_of D) w.part ∙ word_is d (take (end - start) (drop start bs))
 
       pub word_wrong : word_fits f.atoms f.relations (take (end - start) (drop start bs)) ≡ false
-          → Reads f.ring D bs k (word_from D (suc k) here) (Wrong 1)
+          → Reads f.ring D bs k (word_from D (suc k) here) (Err 1)
       word_wrong e =
           no_word (word_of_here ∙ ap (λ b. provided b (word_read (take (end - start) (drop start bs)))) e)
 
       pub word_right : word_fits f.atoms f.relations (take (end - start) (drop start bs)) ≡ true
-          → Reads f.ring D bs k (word_from D (suc k) here) (Refuted start end)
+          → Reads f.ring D bs k (word_from D (suc k) here) (Ok (Refuted start end))
       unfolding word_from
       word_right e =
           let fits = ap (λ b. provided b (word_read (take (end - start) (drop start bs)))) e in
           let z : suc (suc k) ≡ k + 2 = omega arith in
-          subst⁻¹ (λ r. Reads f.ring D bs k r (Refuted start end)) (ap word_read_from (word_of_here ∙ fits))
+          subst⁻¹ (λ r. Reads f.ring D bs k r (Ok (Refuted start end))) (ap word_read_from (word_of_here ∙ fits))
           (record {
             word = word_is d (take (end - start) (drop start bs)) ∙ fits;
             fields = z;
@@ -196,21 +197,21 @@ module _ (f : Facts) (bs : List ℕ) (first : ℕ) (heads chain : List ℕ) (at 
             (indexed_none (listed_cells f.ring bs (first + 4))));
       }
 
-  abbrev WordReads : PartRead → Type 0
+  abbrev WordReads : Answer PartRead ℕ → Type 0
   WordReads r =
       (left right : List ℕ) (D : Decision) → Decided f left right D → (k : ℕ)
       → Reads f.ring D bs k (word_from D (suc k) (next_field (drop at bs))) r
 
-  word_answers : (r : PartRead) → Inside f.ring bs first heads chain r → WordReads r → Answered f bs first heads chain r
+  word_answers : (r : Answer PartRead ℕ) → Inside f.ring bs first heads chain r → WordReads r → Answered f bs first heads chain r
   word_answers r i h =
       record { inside = i; read = λ left right D d k. subst⁻¹ (λ x. Reads f.ring D bs k x r) (A.part D k) (h left right D d k) }
 
-  pub wrong_word : WordReads (Wrong 1) → Answered f bs first heads chain (Wrong 1)
-  wrong_word h = word_answers (Wrong 1) none_listed h
+  pub wrong_word : WordReads (Err 1) → Answered f bs first heads chain (Err 1)
+  wrong_word h = word_answers (Err 1) none_listed h
 
-  pub right_word : (start end : ℕ) → start ≤ end → end ≤ length bs → WordReads (Refuted start end)
-      → Answered f bs first heads chain (Refuted start end)
-  right_word start end o i h = word_answers (Refuted start end) (o, i, A.index) h
+  pub right_word : (start end : ℕ) → start ≤ end → end ≤ length bs → WordReads (Ok (Refuted start end))
+      → Answered f bs first heads chain (Ok (Refuted start end))
+  right_word start end o i h = word_answers (Ok (Refuted start end)) (o, i, A.index) h
 
 -- the part, by its verdict
 module _ (D : Decision) (k : ℕ) (first : FieldRead) where
@@ -233,7 +234,7 @@ module _ (f : Facts) (bs : List ℕ) (first : ℕ) (heads chain : List ℕ) (at 
   unfolding part_in
   part_is D k = ap (λ i. part_from D k (next_field (drop i bs))) (sym A.place)
 
-  pub no_verdict : verdict_is 1 field ≡ false → verdict_is 2 field ≡ false → Answered f bs first heads chain (Wrong 0)
+  pub no_verdict : verdict_is 1 field ≡ false → verdict_is 2 field ≡ false → Answered f bs first heads chain (Err 0)
   no_verdict p q =
       record {
         inside = A.index;

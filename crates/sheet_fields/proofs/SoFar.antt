@@ -13,6 +13,7 @@ use mathlib.Core.Option.{Option, some, none}
 use lib.Dec.{eqb}
 use lib.ListN.{length, drop}
 use borrow.Author.Tests.{eqb-true, eqb-false}
+use Rattle.std.proofs.Math.Bool.{not-not}
 use Rattle.kat.specs.Lists.{In, here, there, counted, some as some_of}
 use Rattle.kat.specs.Tables.{occurrences}
 use Rattle.kat.proofs.Bools.{and_left, and_right, true_not_false}
@@ -113,10 +114,6 @@ module _ {f : Facts} {left right : List ℕ} {D : Decision} (d : Decided f left 
     abbrev found : ℕ
     found = last_where (λ i. same (listed_cells D.ring bs base i) cells) n
 
-    not_not : (b : Bool) → not (not b) ≡ b
-    not_not true = refl
-    not_not false = refl
-
     -- it is none of those before it where the index does not have it
     repeated : GoodCells D.ring D cells → not (some_of ((claim_system D).equal shown_here) before) ≡ eqb found 0
     repeated g =
@@ -124,7 +121,7 @@ module _ {f : Facts} {left right : List ℕ} {D : Decision} (d : Decided f left 
         (some_shown (cells_show D.ring D) ((claim_system D).equal shown_here) (same cells) (cells_listed D.ring bs base n)
         (λ c i. equal_cells cells c g (goods c i))
         ∙ sym (listed_found (listed_cells D.ring bs base) cells n))
-        ∙ not_not (eqb found 0)
+        ∙ not-not (eqb found 0)
 
     abbrev standing_from : Option (claim_system D).Standing → Option (claim_system D).Standing
     standing_from o = elim o [ none ↦ none | some s ↦ provided (not (some_of ((claim_system D).equal s) before)) s ]

@@ -8,11 +8,11 @@ use mathlib.Core.List.{List}
 use lib.Dec.{eqb}
 use lib.ListN.{length, take, drop, length-drop}
 use lib.Seq.{length-take-le}
+use Rattle.std.specs.Prelude.{Option, Some, None}
 use Rattle.claims.specs.Fields.{Field as FieldRead, whole, cut, next_field}
 use Rattle.claims.specs.SheetBytes.{contents_length}
 use Rattle.fields.specs.Places.{Stands}
 use Rattle.fields.specs.declared.Field.{Field}
-use Rattle.fields.specs.declared.Field.TheVariants.{Whole, Cut}
 use Rattle.sheet_fits.specs.inner.Steps.{sized}
 
 -- a whole field at a place, as the reader answers it
@@ -26,13 +26,13 @@ pub record WholeAt (bs : List ℕ) (at : ℕ) (field : FieldRead) (tag start end
   pub part : contents ≡ take (end - start) (drop start bs)
   pub behind : rest ≡ drop end bs
 
-pub whole_here : (bs : List ℕ) (at : ℕ) {answer : Field} {tag start end : ℕ} → answer ≡ Whole tag start end
-    → Stands bs at (next_field (drop at bs)) answer → WholeAt bs at (next_field (drop at bs)) tag start end
-whole_here bs at {answer} {tag} {start} {end} e s = go (next_field (drop at bs)) (subst (Stands bs at (next_field (drop at bs))) e s)
+pub whole_here : (bs : List ℕ) (at : ℕ) {answer : Option Field} {f : Field} → answer ≡ Some f
+    → Stands bs at (next_field (drop at bs)) answer → WholeAt bs at (next_field (drop at bs)) f.tag f.from f.to
+whole_here bs at {answer} {f} e s = go (next_field (drop at bs)) (subst (Stands bs at (next_field (drop at bs))) e s)
   where
-    go : (field : FieldRead) → Stands bs at field (Whole tag start end) → WholeAt bs at field tag start end
+    go : (field : FieldRead) → Stands bs at field (Some f) → WholeAt bs at field f.tag f.from f.to
     go cut s = absurd s
-    go (whole t contents rest) (a, b, c, d, f, g) =
+    go (whole t contents rest) (a, b, c, d, g, h) =
         record {
           contents = contents;
           rest = rest;
@@ -40,15 +40,15 @@ whole_here bs at {answer} {tag} {start} {end} e s = go (next_field (drop at bs))
           begins = b;
           order = c;
           inside = d;
-          part = f;
-          behind = g;
+          part = g;
+          behind = h;
         }
 
-pub cut_here : (bs : List ℕ) (at : ℕ) {answer : Field} → answer ≡ Cut → Stands bs at (next_field (drop at bs)) answer
+pub cut_here : (bs : List ℕ) (at : ℕ) {answer : Option Field} → answer ≡ None → Stands bs at (next_field (drop at bs)) answer
     → next_field (drop at bs) ≡ cut
 cut_here bs at e s = go (next_field (drop at bs)) (subst (Stands bs at (next_field (drop at bs))) e s)
   where
-    go : (field : FieldRead) → Stands bs at field Cut → field ≡ cut
+    go : (field : FieldRead) → Stands bs at field None → field ≡ cut
     go cut s = refl
     go (whole t contents rest) s = absurd s
 

@@ -4,227 +4,177 @@
 // which is left behind for the check.
 #![tactic(auto)]
 
-ghost use Rattle.std.specs.Prelude.{ℕ, ◌+◌, ◌-◌, ◌<◌, ◌≡◌, true, List, drop};
+ghost use Rattle.std.specs.Prelude.{ℕ, ◌+◌, ◌-◌, ◌≡◌, List, drop};
 ghost use Rattle.claims.specs.Sides.{Decision};
-ghost use Rattle.claims.specs.Fields.{next_field};
 ghost use Rattle.claims.specs.SheetReading.{part_in};
+ghost use Rattle.claims.specs.SheetWriting.{AllBytes};
 ghost use Rattle.memory.specs.Memory.{zeros};
-ghost use Rattle.fields.specs.Places.{Stands};
 ghost use Rattle.query.specs.Decided.{Decided};
 ghost use Rattle.sheet_index.specs.Index.{SLOTS};
 ghost use Rattle.layout.specs.Layout.{MOST-STANDINGS};
 ghost use Rattle.sheet_fields.specs.Reads.{ListedAt, Inside, Reads};
-ghost use Rattle.sheet_fields.specs.inner.Between.{wrong_after, answer_of, fields_left, AtVerdict, AtStanding, AtWord, Answered, Between};
+ghost use Rattle.sheet_fields.specs.inner.Between.{fields_left, AtVerdict, AtStanding, AtWord, Answered, Between, Goes};
 
 use fields::Field;
 use layout::MOST_STANDINGS;
 use query::Facts;
+use sheet_fits::Verdict;
 use sheet_index::{Chain, Heads};
+use sheet_reader::Reader;
 
-// Proved, with the place where the fields of the standings begin, their number, and the place where the next field would start; refuted, with
-// the places where the word's bytes begin and end; or the number of good fields before the wrong one.
+// Proved, with the place where the fields of the standings begin, their number, and the place where the next field would start; or refuted,
+// with the places where the word's bytes begin and end.
 #[derive(Clone, Copy)]
 pub enum PartRead {
     Proved(usize, usize, usize),
     Refuted(usize, usize),
-    Wrong(usize),
 }
 
-// The field that is awaited next. Behind the verdict its number says which: 1, proved, a standing; 2, refuted, the word.
-const VERDICT: u64 = 0;
-
-const STANDING: u64 = 1;
-
-const WORD: u64 = 2;
-
-// The good fields that may stand before one standing too many: the verdict and the standings.
-const MOST_GOOD: usize = MOST_STANDINGS + 1;
-
-// How far the reading of a part is. While it goes on: which field is awaited; the place where the fields of the standings begin, and how many were
-// read; the place where the last field ended. When it is over: as `awaited` a standing for proved, the word for refuted, with its bytes from
-// `base` on, and the verdict where a field was wrong, after `count` good ones.
+// The standings read so far: the place where their fields begin, and their number.
 #[derive(Clone, Copy)]
-struct Reading {
-    going: bool,
-    awaited: u64,
+struct Standings {
     base: usize,
     count: usize,
-    at: usize,
 }
 
-// A field is wrong, after so many good ones.
-fn wrong(s: Reading, good: usize) -> Reading
-    ensures { result ≡ wrong_after s good }
-{
-    Reading {
-        going: false,
-        awaited: VERDICT,
-        base: s.base,
-        count: good,
-        at: s.at,
-    }
+// The field that is awaited next.
+#[derive(Clone, Copy)]
+enum Awaited {
+    Verdict,
+    Standing(Standings),
+    Word,
 }
 
-// The verdict's field was read: the standings or the word are awaited, from its end on.
-fn verdict_read(sheet: &[u8], field: Field, s: Reading) -> Reading
-    requires { Stands sheet.now s.at (next_field (drop s.at sheet.now)) field }
-    ensures { (f : Facts) (first : ℕ) (heads chain : List ℕ) → AtVerdict first heads chain s.at
-        → Between f sheet.now first heads chain result × (fields_left result < MOST-STANDINGS + 3) }
+// After a good field: what is awaited, from the place where the field ended; or what the part says.
+#[derive(Clone, Copy)]
+enum Turn {
+    On(Awaited, usize),
+    Over(PartRead),
+}
+
+// The verdict's field: the standings or the word are awaited, from its end on.
+fn verdict_read<'a>(r: Reader<'a>) -> Result<Turn, usize>
+    ensures { (f : Facts) (first : ℕ) (heads chain : List ℕ) → AtVerdict first heads chain r.entry.at
+        → Goes f r.entry.sheet.now first heads chain (MOST-STANDINGS + 3) result }
 {
-    let Field::Whole(tag, from, to) = field else {
-        return wrong(s, 0);
+    let Some(field) = sheet_reader::field(r) else {
+        return Err(0);
     };
-    if tag != 1 {
-        return wrong(s, 0);
+    if field.tag != 1 {
+        return Err(0);
     }
-    let v = sheet_fits::verdict(&sheet[from..to]);
-    if v == 0 {
-        return wrong(s, 0);
-    }
-    Reading {
-        going: true,
-        awaited: v,
-        base: to,
-        count: 0,
-        at: to,
+    match sheet_fits::read_verdict(&r.sheet[field.from..field.to]) {
+        Some(Verdict::Proved) => {
+            let none = Standings {
+                base: field.to,
+                count: 0,
+            };
+            Ok(Turn::On(Awaited::Standing(none), field.to))
+        }
+        Some(Verdict::Refuted) => Ok(Turn::On(Awaited::Word, field.to)),
+        None => Err(0),
     }
 }
 
-// A field was read where a standing may stand: it is the next standing and goes into the index, or it is wrong; one more than MOST_STANDINGS is. Where the field's
-// tag is another there is no further standing.
-fn standing_read(
+// A field where a standing may stand: it is the next standing and goes into the index, or it is wrong; one more than MOST_STANDINGS is. Where
+// the field's tag is another there is no further standing.
+fn standing_read<'a>(
     f: Facts,
-    sheet: &[u8],
-    field: Field,
-    s: Reading,
+    r: Reader<'a>,
+    s: Standings,
     heads: &mut Heads,
     chain: &mut Chain,
-) -> Reading
-    requires { Stands sheet.now s.at (next_field (drop s.at sheet.now)) field
-        × ListedAt f.ring sheet.now heads.old chain.old s.base s.count s.at }
-    ensures { (first : ℕ) → AtStanding f sheet.now first heads.old chain.old s.base s.count s.at
-        → Between f sheet.now first heads.new chain.new result × (fields_left result < MOST-STANDINGS + 2 - s.count) }
+) -> Result<Turn, usize>
+    requires { ListedAt f.ring r.sheet.now heads.old chain.old s.base s.count r.at }
+    ensures { (first : ℕ) → AllBytes r.entry.sheet.now
+        → AtStanding f r.entry.sheet.now first heads.old chain.old s.base s.count r.entry.at
+        → Goes f r.entry.sheet.now first heads.new chain.new (MOST-STANDINGS + 2 - s.count) result }
 {
-    if !fields::tagged(sheet, s.at, 3) {
-        return Reading {
-            going: false,
-            awaited: STANDING,
-            base: s.base,
-            count: s.count,
-            at: s.at,
-        };
+    if !fields::tagged(r.sheet, r.at, 3) {
+        return Ok(Turn::Over(PartRead::Proved(s.base, s.count, r.at)));
     }
-    let Field::Whole(_, from, end) = field else {
-        return wrong(s, s.count + 1);
+    let count = s.count + 1;
+    let Some(field) = sheet_reader::field(r) else {
+        return Err(count);
     };
     if s.count == MOST_STANDINGS {
-        return wrong(s, MOST_GOOD);
+        return Err(count);
     }
-    if !sheet_fits::is_sized(end - from, f.ring) {
-        return wrong(s, s.count + 1);
+    if !sheet_fits::is_sized(field.to - field.from, f.ring) {
+        return Err(count);
     }
-    if !sheet_fits::may_list(f, sheet, s.base, heads, chain, s.count, s.at) {
-        return wrong(s, s.count + 1);
+    if !sheet_fits::may_list(f, r.sheet, s.base, heads, chain, s.count, r.at) {
+        return Err(count);
     }
-    sheet_index::add(sheet, s.base, f.ring, heads, chain, s.count);
-    Reading {
-        going: true,
-        awaited: STANDING,
+    sheet_index::add(r.sheet, s.base, f.ring, heads, chain, s.count);
+    let more = Standings {
         base: s.base,
-        count: s.count + 1,
-        at: end,
-    }
-}
-
-// The word's field was read.
-fn word_read(f: Facts, sheet: &[u8], field: Field, s: Reading) -> Reading
-    requires { Stands sheet.now s.at (next_field (drop s.at sheet.now)) field }
-    ensures { (first : ℕ) (heads chain : List ℕ) → AtWord f sheet.now first heads chain s.at
-        → Between f sheet.now first heads chain result × (fields_left result < 1) }
-{
-    let Field::Whole(tag, from, to) = field else {
-        return wrong(s, 1);
+        count,
     };
-    if tag != 2 {
-        return wrong(s, 1);
-    }
-    if !sheet_word::fits(&sheet[from..to], f.atoms, f.relations) {
-        return wrong(s, 1);
-    }
-    Reading {
-        going: false,
-        awaited: WORD,
-        base: from,
-        count: 1,
-        at: to,
-    }
+    Ok(Turn::On(Awaited::Standing(more), field.to))
 }
 
-// A field was read, by what was awaited: all that is decided of it.
-fn step(
+// The word's field.
+fn word_read<'a>(f: Facts, r: Reader<'a>) -> Result<Turn, usize>
+    ensures { (first : ℕ) (heads chain : List ℕ) → AtWord f r.entry.sheet.now first heads chain r.entry.at
+        → Goes f r.entry.sheet.now first heads chain 1 result }
+{
+    let Some(field) = sheet_reader::field(r) else {
+        return Err(1);
+    };
+    if field.tag != 2 {
+        return Err(1);
+    }
+    if !sheet_word::fits(&r.sheet[field.from..field.to], f.atoms, f.relations) {
+        return Err(1);
+    }
+    Ok(Turn::Over(PartRead::Refuted(field.from, field.to)))
+}
+
+// The field at the reader's place, by what is awaited: all that is decided of it. Or so many good ones stand before it, and it is wrong.
+fn step<'a>(
     f: Facts,
-    sheet: &[u8],
-    field: Field,
-    s: Reading,
+    r: Reader<'a>,
+    awaited: Awaited,
     heads: &mut Heads,
     chain: &mut Chain,
-) -> Reading
-    requires { (s.going ≡ true) × Stands sheet.now s.at (next_field (drop s.at sheet.now)) field
-        × ((first : ℕ) × Between f sheet.now first heads.old chain.old s) }
-    ensures { (first : ℕ) → Between f sheet.now first heads.old chain.old s
-        → Between f sheet.now first heads.new chain.new result × (fields_left result < fields_left s) }
+) -> Result<Turn, usize>
+    requires { (first : ℕ) × Between f r.sheet.now first heads.old chain.old awaited r.at }
+    ensures { (first : ℕ) → AllBytes r.entry.sheet.now
+        → Between f r.entry.sheet.now first heads.old chain.old awaited r.entry.at
+        → Goes f r.entry.sheet.now first heads.new chain.new (fields_left awaited) result }
 {
-    if s.awaited == VERDICT {
-        return verdict_read(sheet, field, s);
+    match awaited {
+        Awaited::Verdict => verdict_read(r),
+        Awaited::Standing(s) => standing_read(f, r, s, heads, chain),
+        Awaited::Word => word_read(f, r),
     }
-    if s.awaited == STANDING {
-        return standing_read(f, sheet, field, s, heads, chain);
-    }
-    word_read(f, sheet, field, s)
 }
 
-// The part from place `at` on, field by field: each is read from where the last one ended.
-fn read(f: Facts, sheet: &[u8], at: usize, heads: &mut Heads, chain: &mut Chain) -> Reading
-    requires { (heads.old ≡ zeros SLOTS) × (chain.old ≡ zeros MOST-STANDINGS) }
-    ensures { Answered f sheet.now at heads.new chain.new (answer_of result) }
-{
-    let mut r = sheet_reader::from(sheet, at);
-    let mut s = Reading {
-        going: true,
-        awaited: VERDICT,
-        base: at,
-        count: 0,
-        at,
-    };
-    while s.going {
-        let field = sheet_reader::field(r);
-        s = step(f, sheet, field, s, heads, chain);
-        r = sheet_reader::moved(r, s.at);
-    }
-    s
-}
-
-// The answer of a reading that is over.
-fn answer(s: Reading) -> PartRead
-    ensures { result ≡ answer_of s }
-{
-    if s.awaited == VERDICT {
-        return PartRead::Wrong(s.count);
-    }
-    if s.awaited == STANDING {
-        return PartRead::Proved(s.base, s.count, s.at);
-    }
-    PartRead::Refuted(s.base, s.at)
-}
-
-// What the part from place `at` on says. The index, which is lent, has nothing in it at first, as its caller made it; behind the call it has
-// the standings, or those before a wrong one.
-pub fn part_at(f: Facts, sheet: &[u8], at: usize, heads: &mut Heads, chain: &mut Chain) -> PartRead
+// What the part from place `at` on says, read field by field, each from where the last one ended; or the number of good fields before the first
+// wrong one. The index, which is lent, has nothing in it at first, as its caller made it; behind the call it has the standings, or those before a
+// wrong one.
+pub fn part_at(
+    f: Facts,
+    sheet: &[u8],
+    at: usize,
+    heads: &mut Heads,
+    chain: &mut Chain,
+) -> Result<PartRead, usize>
     requires { (heads.old ≡ zeros SLOTS) × (chain.old ≡ zeros MOST-STANDINGS) }
     ensures inside { Inside f.ring sheet.now at heads.new chain.new result }
     ensures read { (left right : List ℕ) (D : Decision) → Decided f left right D → (k : ℕ)
         → Reads f.ring D sheet.now k (part_in D k (drop at sheet.now)) result }
 {
-    let s = read(f, sheet, at, heads, chain);
-    answer(s)
+    let mut r = sheet_reader::from(sheet, at);
+    let mut awaited = Awaited::Verdict;
+    loop {
+        match step(f, r, awaited, heads, chain)? {
+            Turn::On(next, end) => {
+                awaited = next;
+                r = sheet_reader::moved(r, end);
+            }
+            Turn::Over(part) => return Ok(part),
+        }
+    }
 }

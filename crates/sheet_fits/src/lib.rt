@@ -24,6 +24,13 @@ use query::Facts;
 use sheet_index::{Chain, Heads};
 use sheet_standings::{CELL, CELLS, Cells, M_AT, N_AT};
 
+// What a sheet may say.
+#[derive(Clone, Copy, PartialEq, Eq)]
+pub enum Verdict {
+    Proved,
+    Refuted,
+}
+
 // Whether the set has no bit from n on.
 fn below(s: u64, n: usize) -> bool
     ensures { result ≡ ltb s (2 ^ n) }
@@ -79,12 +86,10 @@ fn rows_fit(upper: bool, r: usize, s: &Cells, from: usize) -> bool
     requires { SmallCells CELLS s.now × (from ≤ N-AT) }
     ensures { result ≡ rows_pass (row_of upper r) 0 (take WIDTH (drop from (take CELLS s.now))) }
 {
-    let mut p = 0;
-    while p < WIDTH {
+    for p in 0..WIDTH {
         if !row_fits(upper, r, p, s[from + p]) {
             return false;
         }
-        p += 1;
     }
     true
 }
@@ -143,21 +148,15 @@ fn fits(ring: bool, atoms: usize, l: usize, r: usize, s: &Cells) -> bool
     path_fits(l, r, s)
 }
 
-// The verdict that the contents of its field are: 1 proved, 2 refuted, 0 for none.
-pub fn verdict(contents: &[u8]) -> u64
+// The verdict that the contents of its field are, 1 for proved and 2 for refuted.
+pub fn read_verdict(contents: &[u8]) -> Option<Verdict>
     ensures { result ≡ verdict_of contents.now }
 {
-    if contents.len() != 1 {
-        return 0;
+    match contents {
+        [1] => Some(Verdict::Proved),
+        [2] => Some(Verdict::Refuted),
+        _ => None,
     }
-    let v = wide(contents[0]);
-    if v == 1 {
-        return 1;
-    }
-    if v == 2 {
-        return 2;
-    }
-    0
 }
 
 // Whether contents of so many bytes are as long as a standing's.
@@ -190,5 +189,5 @@ pub fn may_list(
     if !fits(f.ring, f.atoms, f.left, f.right, &cells) {
         return false;
     }
-    sheet_index::find(sheet, base, f.ring, heads, chain, n, &cells) == 0
+    sheet_index::find(sheet, base, f.ring, heads, chain, n, &cells).is_none()
 }

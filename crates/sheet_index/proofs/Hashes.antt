@@ -1,16 +1,13 @@
 -- The slot of a list of cells as a loop computes it; and lists of cells compared one by one.
 -- Assumes nothing.
 use Prim.Native.Nat.{ℕ, suc, ◌+◌, ◌%◌, ◌≤◌, ◌<◌}
-use native.Mathlib.Omega.{arith}
 use native.Mathlib.Numerals.{add-one}
-use mathlib.Core.Path.{◌≡◌, sym, ◌∙◌, ap, subst}
-use mathlib.Core.Logic.{⊎_elim}
+use mathlib.Core.Path.{◌≡◌, sym, ◌∙◌, ap}
 use mathlib.Core.Bool.{true, false}
 use mathlib.Core.List.{List}
 use lib.ListN.{length, get_or, drop, drop_of_length-le}
 use lib.Seq.{drop-cons, ext_get_or}
-use borrow.Author.Count.{below_more}
-use Rattle.kat.proofs.Bools.{lt_or_le, false_of_not}
+use Rattle.kat.proofs.Bools.{false_of_not}
 use Rattle.claims.specs.Bytes.{same}
 use Rattle.claims.proofs.Results.{same_is_equal, same_self}
 use Rattle.sheet_index.specs.Index.{mixed, hash_from, slot_of}
@@ -36,8 +33,3 @@ module _ (l m : List ℕ) where
   -- a cell that is not
   pub same_not : (i : ℕ) → (get_or l i 0 ≡ get_or m i 0 → ⊥) → same l m ≡ false
   same_not i d = false_of_not (same l m) (λ e. d (ap (λ k. get_or k i 0) (same_is_equal l m e)))
-
--- what holds below j, at j and at the next holds below the one after
-pub two_more : (A : ℕ → Type 0) (j : ℕ) → ((i : ℕ) → i < j → A i) → A j → A (j + 1) → (i : ℕ) → i < j + 2 → A i
-two_more A j h a b i l =
-    ⊎_elim (below_more A j h a i) (λ k. let e : j + 1 ≡ i = omega arith in subst A e b) (lt_or_le i (j + 1))

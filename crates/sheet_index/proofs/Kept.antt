@@ -8,9 +8,12 @@ use mathlib.Core.Logic.{⊎_elim}
 use mathlib.Core.Bool.{Bool, true, false, not}
 use mathlib.Core.List.{List, map}
 use lib.Dec.{eqb}
-use lib.ListN.{length, get_or, set, length-set, length-replicate, get_or-replicate}
+use lib.ListN.{get_or, set, length-set, length-replicate, get_or-replicate}
 use lib.Seq.{get_or-set_same, get_or-set_other}
 use borrow.Author.Tests.{eq-eqb, ne_eqb, eqb-true}
+use Rattle.std.specs.Prelude.{Option, Some, None}
+use Rattle.std.specs.Option.{is_some}
+use Rattle.std.proofs.Math.Bool.{not-not}
 use Rattle.kat.specs.Lists.{upto, some}
 use Rattle.kat.proofs.Bools.{lt_or_le, bool_ext}
 use Rattle.bits.proofs.Lists.{some_map}
@@ -18,7 +21,7 @@ use Rattle.claims.specs.Bytes.{same}
 use Rattle.claims.proofs.Results.{same_is_equal, same_self}
 use Rattle.memory.specs.Memory.{zeros}
 use Rattle.memory.proofs.Words.{same_or_not}
-use Rattle.sheet_index.specs.Index.{last_where, slot_of, falls_into, Indexed}
+use Rattle.sheet_index.specs.Index.{last_where, numbered, slot_of, falls_into, Indexed}
 use Rattle.sheet_index.proofs.Last.{last_hit, last_miss, last_below, last_passes, last_some, last_same, last_among}
 
 -- of no standings
@@ -118,19 +121,27 @@ module _ (heads chain : List ℕ) (listed : ℕ → List ℕ) (n : ℕ) (I : Ind
           (sym (last_miss has i miss) ∙ ap (last_where has) (sym e) ∙ F.left)
 
       -- it is
-      pub follow_found : has i ≡ true → place ≡ last_where has n
-      follow_found hit = e ∙ sym (last_hit has i hit) ∙ ap (last_where has) (sym e) ∙ F.left
+      pub follow_found : has i ≡ true → Some i ≡ numbered (last_where has n)
+      follow_found hit = ap numbered (sym (last_hit has i hit) ∙ ap (last_where has) (sym e) ∙ F.left)
 
     -- no standing of the slot is left
-    pub follow_none : (place : ℕ) → Followed listed n c place → place ≡ 0 → 0 ≡ last_where has n
+    pub follow_none : (place : ℕ) → Followed listed n c place → place ≡ 0 → None ≡ numbered (last_where has n)
     unfolding last_where
-    follow_none place F e = ap (last_where has) (sym e) ∙ F.left
+    follow_none place F e = ap numbered (ap (last_where has) (sym e) ∙ F.left)
 
 -- the order of the two does not matter
 pub same_turned : (m n : List ℕ) → same m n ≡ same n m
 same_turned m n =
     bool_ext (same m n) (same n m) (λ e. ap (same n) (same_is_equal m n e) ∙ same_self n)
     (λ e. ap (same m) (same_is_equal n m e) ∙ same_self m)
+
+-- a place has a number, and none exactly where it is 0
+pub some_numbered : (k : ℕ) → is_some (numbered k) ≡ not (eqb k 0)
+some_numbered zero = refl
+some_numbered (suc k) = ap not (sym (ne_eqb (suc k) 0 (λ e. omega arith)))
+
+pub none_numbered : (b : Bool) (k : ℕ) (found : Option ℕ) → not b ≡ is_some found → found ≡ numbered k → b ≡ eqb k 0
+none_numbered b k found e f = sym (not-not b) ∙ ap not (e ∙ ap is_some f ∙ some_numbered k) ∙ not-not (eqb k 0)
 
 -- a place is found where the cells are among those listed
 pub listed_found : (listed : ℕ → List ℕ) (c : List ℕ) (n : ℕ)

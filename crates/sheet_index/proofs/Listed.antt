@@ -7,7 +7,6 @@ use mathlib.Core.Path.{◌≡◌, refl, sym, ◌∙◌, ap, ap₂}
 use mathlib.Core.Bool.{Bool, true, false}
 use mathlib.Core.List.{List}
 use lib.ListN.{length, get_or, take, drop}
-use lib.Seq.{length-take-le, get_or-take}
 use Rattle.kat.proofs.Bools.{true_not_false}
 use Rattle.claims.specs.Bytes.{same}
 use Rattle.fields.specs.Places.{cell_at, cells_at}
@@ -30,20 +29,15 @@ module _ (bs : List ℕ) (from n : ℕ) where
   module _ (cells : List ℕ) where
     -- a cell that is not the candidate's
     pub cells_differ : (j v : ℕ) → j < n → v ≡ cell_at bs (from + 4 * j) → (v ≡ get_or cells j 0 → ⊥)
-        → same (cells_at bs from n) (take n cells) ≡ false
-    cells_differ j v l z d =
-        same_not (cells_at bs from n) (take n cells) j
-        (λ s. d (cell_here j v l z ∙ s ∙ get_or-take n cells j 0 l))
+        → same (cells_at bs from n) cells ≡ false
+    cells_differ j v l z d = same_not (cells_at bs from n) cells j (λ s. d (cell_here j v l z ∙ s))
 
     -- all are
-    pub cells_agree : n ≤ length cells → ((i : ℕ) → i < n → cell_at bs (from + 4 * i) ≡ get_or cells i 0)
-        → same (cells_at bs from n) (take n cells) ≡ true
+    pub cells_agree : length cells ≡ n → ((i : ℕ) → i < n → cell_at bs (from + 4 * i) ≡ get_or cells i 0)
+        → same (cells_at bs from n) cells ≡ true
     cells_agree l h =
-        same_all (cells_at bs from n) (take n cells) (cells_length bs from n ∙ sym (length-take-le n cells l))
-        (λ i k. agree i (omega (arith, cells_length bs from n)))
-      where
-        agree : (i : ℕ) → i < n → get_or (cells_at bs from n) i 0 ≡ get_or (take n cells) i 0
-        agree i k = cells_at_lem bs from n i k ∙ h i k ∙ sym (get_or-take n cells i 0 k)
+        same_all (cells_at bs from n) cells (cells_length bs from n ∙ sym l)
+        (λ i k. let b : i < n = omega (arith, cells_length bs from n) in cells_at_lem bs from n i b ∙ h i b)
 
 -- a standing of a ring claim
 module _ (ring : Bool) (e : ring ≡ true) where

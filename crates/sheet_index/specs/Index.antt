@@ -3,7 +3,7 @@
 -- standing the one before it in its slot. The place of a standing is 1 and its number, counted from 0, and 0 is none. The slots have the same name
 -- in the code.
 -- Assumes nothing.
-use Rattle.std.specs.Prelude.{ℕ, zero, suc, ◌+◌, ◌*◌, ◌/◌, ◌%◌, ◌≤◌, ◌<◌, ◌≡◌, Bool, cond, List, [], ◌∷◌, eqb, length, get_or}
+use Rattle.std.specs.Prelude.{ℕ, zero, suc, ◌+◌, ◌*◌, ◌/◌, ◌%◌, ◌≤◌, ◌<◌, ◌≡◌, Bool, cond, Option, Some, None, List, [], ◌∷◌, eqb, length, get_or}
 use Rattle.layout.specs.Layout.{MOST-STANDINGS}
 
 -- the slots of the index
@@ -14,6 +14,11 @@ SLOTS = 8192
 unfoldable pub last_where : (ℕ → Bool) → ℕ → ℕ
 last_where p zero = 0
 last_where p (suc n) = cond (p n) (suc n) (last_where p n)
+
+-- the number that a place has, and none of the place 0 ("Sheet and graph bytes")
+abbrev pub numbered : ℕ → Option ℕ
+numbered zero = None
+numbered (suc i) = Some i
 
 -- a hash with one cell more; it is below 2 to the 32 ("Sheet and graph bytes")
 unfoldable pub mixed : ℕ → ℕ → ℕ

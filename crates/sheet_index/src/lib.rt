@@ -11,7 +11,7 @@ ghost use Rattle.fields.specs.Places.{cells_at};
 ghost use Rattle.sheet_standings.specs.Layout.{cell_count, field_length, cell_start, listed_cells, CELLS};
 ghost use Rattle.claims.specs.Bytes.{same};
 ghost use Rattle.layout.specs.Layout.{MOST-STANDINGS};
-ghost use Rattle.sheet_index.specs.Index.{mixed, slot_of, last_where, Indexed, SLOTS};
+ghost use Rattle.sheet_index.specs.Index.{mixed, slot_of, last_where, numbered, Indexed, SLOTS};
 
 use layout::{HEADER, MOST_STANDINGS, PATH_FIELD, RING_FIELD};
 use sheet_standings::{CELLS, Cells, PATH_CELLS};
@@ -60,11 +60,8 @@ fn slot_at(sheet: &[u8], from: usize, n: usize) -> usize
     ensures { (result ≡ slot_of (cells_at sheet.now from n)) × (result < SLOTS) }
 {
     let mut h: u64 = 0;
-    let mut j: usize = 0;
-    while j < n {
-        let c = fields::cell_within(sheet, from + 4 * j);
-        h = mixed(h, c);
-        j += 1;
+    for j in 0..n {
+        h = mixed(h, fields::cell_within(sheet, from + 4 * j));
     }
     (h as usize) % SLOTS
 }
@@ -75,39 +72,26 @@ fn slot_of(cells: &[u64], n: usize) -> usize
     ensures { (result ≡ slot_of (take n cells.now)) × (result < SLOTS) }
 {
     let mut h: u64 = 0;
-    let mut j: usize = 0;
-    while j < n {
-        h = mixed(h, cells[j]);
-        j += 1;
+    for c in &cells[..n] {
+        h = mixed(h, *c);
     }
     (h as usize) % SLOTS
 }
 
-// Whether n cells in the sheet are the first n of a candidate; two a turn.
+// Whether n cells in the sheet are the first n of a candidate.
 fn equal_at(sheet: &[u8], from: usize, n: usize, cells: &[u64]) -> bool
     requires { (from + 4 * n ≤ length sheet.now) × (n ≤ length cells.now) }
     ensures { result ≡ same (cells_at sheet.now from n) (take n cells.now) }
 {
-    let mut j: usize = 0;
-    while j + 1 < n {
-        if fields::cell_within(sheet, from + 4 * j) != cells[j] {
+    for (j, c) in cells[..n].iter().enumerate() {
+        if fields::cell_within(sheet, from + 4 * j) != *c {
             return false;
         }
-        if fields::cell_within(sheet, from + 4 * (j + 1)) != cells[j + 1] {
-            return false;
-        }
-        j += 2;
-    }
-    if j < n {
-        if fields::cell_within(sheet, from + 4 * j) != cells[j] {
-            return false;
-        }
-        return true;
     }
     true
 }
 
-// The place of the last standing listed that has these cells, or 0: only those in the slot of the candidate are looked at.
+// The number of the last standing listed that has these cells: only those in the slot of the candidate are looked at.
 pub fn find(
     sheet: &[u8],
     base: usize,
@@ -116,22 +100,23 @@ pub fn find(
     chain: &Chain,
     n: usize,
     cells: &Cells,
-) -> usize
+) -> Option<usize>
     requires { Indexed heads.now chain.now (listed_cells ring sheet.now base) n × (n ≤ MOST-STANDINGS)
         × (base + field_length ring * n ≤ length sheet.now) }
-    ensures { result ≡ last_where (λ i. same (listed_cells ring sheet.now base i) (take (cell_count ring) cells.now)) n }
+    ensures { result
+        ≡ numbered (last_where (λ i. same (listed_cells ring sheet.now base i) (take (cell_count ring) cells.now)) n) }
 {
     let k = count(ring);
-    let slot = slot_of(cells, k);
-    let mut place = heads[slot] as usize;
+    let mut place = heads[slot_of(cells, k)] as usize;
     while 0 < place {
-        let from = begin(sheet, base, ring, place - 1);
+        let i = place - 1;
+        let from = begin(sheet, base, ring, i);
         if equal_at(sheet, from, k, cells) {
-            return place;
+            return Some(i);
         }
-        place = chain[place - 1] as usize;
+        place = chain[i] as usize;
     }
-    0
+    None
 }
 
 // Standing n taken into the index of those before it.

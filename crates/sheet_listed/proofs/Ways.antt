@@ -7,14 +7,16 @@ use mathlib.Core.Bool.{Bool, true, false, cond, not, ◌&&◌, ◌||◌}
 use mathlib.Core.List.{List}
 use lib.Dec.{eqb}
 use lib.ListN.{get_or, take}
+use Rattle.std.specs.Prelude.{Option}
+use Rattle.std.specs.Option.{is_some}
 use Rattle.kat.specs.Lists.{some}
 use Rattle.claims.specs.Bytes.{same}
 use Rattle.claims.specs.Standings.{Letter}
 use Rattle.query.specs.declared.Facts.{Facts}
 use Rattle.sheet_standings.specs.Layout.{cell_count, listed_cells}
 use Rattle.sheet_standings.specs.CellSystem.{left_set, begin_cells, onward_cells}
-use Rattle.sheet_index.specs.Index.{last_where}
-use Rattle.sheet_index.proofs.Kept.{listed_found}
+use Rattle.sheet_index.specs.Index.{last_where, numbered}
+use Rattle.sheet_index.proofs.Kept.{listed_found, some_numbered}
 use Rattle.sheet_listed.specs.declared.Trial.{Trial}
 use Rattle.sheet_listed.specs.declared.Letters.{Letters}
 use Rattle.sheet_listed.specs.Listed.{Ready, Small, part_cells, listed_among, atoms_tried, stepped, letter_listed, atoms_listed, relation_listed}
@@ -27,11 +29,13 @@ module _ (ring : Bool) (bs : List ℕ) (base n : ℕ) (s : List ℕ) (x : Bool) 
   none_to_list h = sym (ap (λ b. b || some (same s) (part_cells ring bs base n)) (ap not (sym e) ∙ h))
 
   -- the index says whether it is listed
-  pub found_or_not : not x ≡ false → (place : ℕ)
-      → place ≡ last_where (λ i. same (listed_cells ring bs base i) s) n → not (eqb place 0) ≡ listed_among ring (part_cells ring bs base n) s
+  pub found_or_not : not x ≡ false → (found : Option ℕ) (b : Bool) → b ≡ is_some found
+      → found ≡ numbered (last_where (λ i. same (listed_cells ring bs base i) s) n)
+      → b ≡ listed_among ring (part_cells ring bs base n) s
   unfolding listed_among part_cells
-  found_or_not h place f =
-      ap (λ p. not (eqb p 0)) f ∙ listed_found (listed_cells ring bs base) s n
+  found_or_not h found b z f =
+      z ∙ ap is_some f ∙ some_numbered (last_where (λ i. same (listed_cells ring bs base i) s) n)
+      ∙ listed_found (listed_cells ring bs base) s n
       ∙ sym (ap (λ b. b || some (same s) (part_cells ring bs base n)) (ap not (sym e) ∙ h))
 
 module _ (ring : Bool) (left right : List ℕ) (first : Bool) (s : List ℕ) (l : Letter) (t : List ℕ) where

@@ -46,12 +46,10 @@ fn listed(l: Listing, sheet: &[u8], heads: &Heads, chain: &Chain, cells: &Cells)
     ensures { result ≡ listed_among l.facts.ring (part_cells l.facts.ring sheet.now l.base l.count)
         (take (cell_count l.facts.ring) cells.now) }
 {
-    let some = possible(l.facts.ring, cells);
-    if !some {
+    if !possible(l.facts.ring, cells) {
         return true;
     }
-    let place = find(sheet, l.base, l.facts.ring, heads, chain, l.count, cells);
-    place != 0
+    find(sheet, l.base, l.facts.ring, heads, chain, l.count, cells).is_some()
 }
 
 // The standing of a prefix of one relation, or the one behind a standing. A cell of that standing has four bytes, and an atom has one.
@@ -89,8 +87,7 @@ fn atoms_listed(
     while rest != 0 {
         let a = u64::trailing_zeros(rest) as usize;
         step(l, left, right, from, a, &mut to);
-        let there = listed(l.of, sheet, heads, chain, &to);
-        if !there {
+        if !listed(l.of, sheet, heads, chain, &to) {
             return false;
         }
         rest = rest & (rest - 1);
@@ -141,13 +138,10 @@ pub fn letters_listed(
         (part_cells t.of.facts.ring sheet.now t.of.base t.of.count) t.first
         (take (cell_count t.of.facts.ring) from.now) t.masks }
 {
-    let mut r = 0;
-    while r < t.of.facts.relations {
-        let there = atoms_listed(letters_of(t, r), left, right, sheet, heads, chain, from);
-        if !there {
+    for r in 0..t.of.facts.relations {
+        if !atoms_listed(letters_of(t, r), left, right, sheet, heads, chain, from) {
             return false;
         }
-        r += 1;
     }
     true
 }

@@ -17,10 +17,8 @@ fn fill(sheet: &[u8], at: usize, to: &mut [u64])
     requires { (at ≤ length sheet.now + HEADER) × (length to.old ≤ CELLS) }
     ensures { to.new ≡ cells_at sheet.now at (length to.old) }
 {
-    let mut j = 0;
-    while j < to.len() {
-        to[j] = fields::cell(sheet, at + 4 * j);
-        j += 1;
+    for (j, cell) in to.iter_mut().enumerate() {
+        *cell = fields::cell(sheet, at + 4 * j);
     }
 }
 

@@ -57,11 +57,8 @@ fn spread(right: &Table, from: &[u64], a: usize, r: usize, to: &mut [u64])
     ensures { to.new
         ≡ spread_over right.now (record { atom = a; relation = r }) (row_n from.now) (upto 1 WIDTH) to.old }
 {
-    let mut o = 1;
-    while o < WIDTH {
-        let w = word(from, N_AT + o);
-        send(right, o, a, r, w, to);
-        o += 1;
+    for o in 1..WIDTH {
+        send(right, o, a, r, word(from, N_AT + o), to);
     }
 }
 
@@ -79,10 +76,8 @@ fn opened_at(right: &Table, from: &[u64], a: usize) -> u64
 {
     let e = enders_at(right, a);
     let mut set = 0;
-    let mut p = 0;
-    while p < WIDTH {
-        set = set + opens(word(from, M_AT + p), e, p);
-        p += 1;
+    for p in 0..WIDTH {
+        set += opens(word(from, M_AT + p), e, p);
     }
     set
 }

@@ -8,6 +8,7 @@ use mathlib.Core.Path.{◌≡◌, sym, ◌∙◌, ap, subst}
 use mathlib.Core.Bool.{Bool}
 use mathlib.Core.List.{List}
 use lib.ListN.{length, take, drop}
+use Rattle.std.specs.Prelude.{Result as Answer, Ok, Err}
 use Rattle.claims.specs.Sides.{Decision}
 use Rattle.claims.specs.Refusals.{Result, ok, refused}
 use Rattle.claims.specs.SheetReading.{Said, says_proved, says_refuted, Part}
@@ -19,20 +20,20 @@ use Rattle.sheet_standings.specs.CellSystem.{cell_system}
 use Rattle.sheet_word.specs.ByteWords.{word_read}
 use Rattle.sheet_word.proofs.Refuted.{refutes_passes}
 use Rattle.sheet_fields.specs.declared.PartRead.{PartRead}
-use Rattle.sheet_fields.specs.declared.PartRead.TheVariants.{Proved as ProvedAt, Refuted as RefutedAt, Wrong as WrongAt}
+use Rattle.sheet_fields.specs.declared.PartRead.TheVariants.{Proved as ProvedAt, Refuted as RefutedAt}
 use Rattle.sheet_fields.specs.Reads.{ListedAt, Empty, Inside, Says, Reads}
 use Rattle.sheet_listed.specs.Listed.{Ready, part_cells}
 use Rattle.sheet_proves.specs.Proves.{proves_cells}
 use Rattle.sheet_proves.proofs.Passes.{proves_passes}
-use Rattle.sheet_part.specs.declared.Tested.TheVariants.{Proved, Refuted, Wrong}
+use Rattle.sheet_part.specs.declared.Tested.TheVariants.{Proved, Refuted}
 use Rattle.sheet_part.specs.Tests.{Tests, TestsPart}
 
 -- what stands where, by the answer
-module _ (ring : Bool) (bs : List ℕ) (at : ℕ) (heads chain : List ℕ) (p : PartRead) (h : Inside ring bs at heads chain p) where
-  inside_of : {q : PartRead} → p ≡ q → Inside ring bs at heads chain q
+module _ (ring : Bool) (bs : List ℕ) (at : ℕ) (heads chain : List ℕ) (p : Answer PartRead ℕ) (h : Inside ring bs at heads chain p) where
+  inside_of : {q : Answer PartRead ℕ} → p ≡ q → Inside ring bs at heads chain q
   inside_of e = subst (Inside ring bs at heads chain) e h
 
-  module _ (base n next : ℕ) (e : p ≡ ProvedAt base n next) where
+  module _ (base n next : ℕ) (e : p ≡ Ok (ProvedAt base n next)) where
     -- the standings that were read are those that the check is given
     pub listed_ready : Ready ring bs base n heads chain
     listed_ready =
@@ -42,10 +43,10 @@ module _ (ring : Bool) (bs : List ℕ) (at : ℕ) (heads chain : List ℕ) (p : 
     pub listed_few : n ≤ 4096
     listed_few = let l : ListedAt ring bs heads chain base n next = inside_of e in l.few
 
-  pub word_inside : (from to : ℕ) → p ≡ RefutedAt from to → (from ≤ to) × (to ≤ length bs)
+  pub word_inside : (from to : ℕ) → p ≡ Ok (RefutedAt from to) → (from ≤ to) × (to ≤ length bs)
   word_inside from to e = let l : (from ≤ to) × (to ≤ length bs) × Empty heads chain = inside_of e in (l.0, l.1)
 
-  pub wrong_few : (i : ℕ) → p ≡ WrongAt i → i ≤ 4097
+  pub wrong_few : (i : ℕ) → p ≡ Err i → i ≤ 4097
   wrong_few zero e = omega arith
   wrong_few (suc i) e =
       let l : ListedAt ring bs heads chain (at + 4) i (at + 4 + field_length ring * i) = inside_of e in
@@ -53,9 +54,9 @@ module _ (ring : Bool) (bs : List ℕ) (at : ℕ) (heads chain : List ℕ) (p : 
 
 module _ {f : Facts} {left right : List ℕ} {D : Decision} (d : Decided f left right D) (bs : List ℕ) (at : ℕ) (heads chain : List ℕ) (k : ℕ) where
   -- a part that says proved
-  pub proved_tests : (p : PartRead) → Inside f.ring bs at heads chain p → (r : Result (Part D)) → Reads f.ring D bs k r p
-      → (base n next : ℕ) → p ≡ ProvedAt base n next → (b : Bool) → b ≡ proves_cells f left right (part_cells f.ring bs base n)
-      → Tests D bs k r (Proved b (n + 1) next)
+  pub proved_tests : (p : Answer PartRead ℕ) → Inside f.ring bs at heads chain p → (r : Result (Part D)) → Reads f.ring D bs k r p
+      → (base n next : ℕ) → p ≡ Ok (ProvedAt base n next) → (b : Bool) → b ≡ proves_cells f left right (part_cells f.ring bs base n)
+      → Tests D bs k r (Ok (Proved b (n + 1) next))
   unfolding part_cells
   proved_tests p h r s base n next e b g =
       go r (subst (Reads f.ring D bs k r) e s)
@@ -63,8 +64,8 @@ module _ {f : Facts} {left right : List ℕ} {D : Decision} (d : Decided f left 
       l : ListedAt f.ring bs heads chain base n next
       l = subst (Inside f.ring bs at heads chain) e h
 
-      said : (t : Said D) (after : ℕ) (rest : List ℕ) → Says f.ring D bs k t after rest (ProvedAt base n next)
-          → TestsPart D bs k t after rest (Proved b (n + 1) next)
+      said : (t : Said D) (after : ℕ) (rest : List ℕ) → Says f.ring D bs k t after rest (Ok (ProvedAt base n next))
+          → TestsPart D bs k t after rest (Ok (Proved b (n + 1) next))
       said (says_proved ss) after rest q = (
         g ∙ proves_passes d _ q.good ∙ ap (λ xs. passes D (says_proved xs)) (sym q.shown),
         omega (arith, q.fields),
@@ -73,22 +74,22 @@ module _ {f : Facts} {left right : List ℕ} {D : Decision} (d : Decided f left 
       )
       said (says_refuted _) after rest q = elim q [ ]
 
-      go : (r : Result (Part D)) → Reads f.ring D bs k r (ProvedAt base n next) → Tests D bs k r (Proved b (n + 1) next)
+      go : (r : Result (Part D)) → Reads f.ring D bs k r (Ok (ProvedAt base n next)) → Tests D bs k r (Ok (Proved b (n + 1) next))
       go (ok x) q = said x.said x.next x.rest q
       go (refused _) q = elim q [ ]
 
   -- a part that says refuted
-  pub refuted_tests : (p : PartRead) → Inside f.ring bs at heads chain p → (r : Result (Part D)) → Reads f.ring D bs k r p
-      → (from to : ℕ) → p ≡ RefutedAt from to → (b : Bool)
+  pub refuted_tests : (p : Answer PartRead ℕ) → Inside f.ring bs at heads chain p → (r : Result (Part D)) → Reads f.ring D bs k r p
+      → (from to : ℕ) → p ≡ Ok (RefutedAt from to) → (b : Bool)
       → b ≡ refuting (cell_system f.ring f.right f.live f.relations left right) (word_read (take (to - from) (drop from bs)))
-      → Tests D bs k r (Refuted b 2 to)
+      → Tests D bs k r (Ok (Refuted b 2 to))
   refuted_tests p h r s from to e b g = go r (subst (Reads f.ring D bs k r) e s)
     where
       l : (from ≤ to) × (to ≤ length bs) × Empty heads chain
       l = subst (Inside f.ring bs at heads chain) e h
 
-      said : (t : Said D) (after : ℕ) (rest : List ℕ) → Says f.ring D bs k t after rest (RefutedAt from to)
-          → TestsPart D bs k t after rest (Refuted b 2 to)
+      said : (t : Said D) (after : ℕ) (rest : List ℕ) → Says f.ring D bs k t after rest (Ok (RefutedAt from to))
+          → TestsPart D bs k t after rest (Ok (Refuted b 2 to))
       said (says_refuted w) after rest q = (
         g ∙ refutes_passes d (take (to - from) (drop from bs)) w q.word,
         q.fields,
@@ -97,18 +98,18 @@ module _ {f : Facts} {left right : List ℕ} {D : Decision} (d : Decided f left 
       )
       said (says_proved _) after rest q = elim q [ ]
 
-      go : (r : Result (Part D)) → Reads f.ring D bs k r (RefutedAt from to) → Tests D bs k r (Refuted b 2 to)
+      go : (r : Result (Part D)) → Reads f.ring D bs k r (Ok (RefutedAt from to)) → Tests D bs k r (Ok (Refuted b 2 to))
       go (ok x) q = said x.said x.next x.rest q
       go (refused _) q = elim q [ ]
 
   -- a part with a wrong field
-  pub wrong_tests : (p : PartRead) (r : Result (Part D)) → Reads f.ring D bs k r p → (i : ℕ) → p ≡ WrongAt i → Tests D bs k r (Wrong i)
+  pub wrong_tests : (p : Answer PartRead ℕ) (r : Result (Part D)) → Reads f.ring D bs k r p → (i : ℕ) → p ≡ Err i → Tests D bs k r (Err i)
   wrong_tests p r s i e = go r (subst (Reads f.ring D bs k r) e s)
     where
-      said : (t : Said D) (after : ℕ) (rest : List ℕ) → Says f.ring D bs k t after rest (WrongAt i) → TestsPart D bs k t after rest (Wrong i)
+      said : (t : Said D) (after : ℕ) (rest : List ℕ) → Says f.ring D bs k t after rest (Err i) → TestsPart D bs k t after rest (Err i)
       said (says_proved ss) after rest q = absurd q
       said (says_refuted w) after rest q = absurd q
 
-      go : (r : Result (Part D)) → Reads f.ring D bs k r (WrongAt i) → Tests D bs k r (Wrong i)
+      go : (r : Result (Part D)) → Reads f.ring D bs k r (Err i) → Tests D bs k r (Err i)
       go (ok x) q = said x.said x.next x.rest q
       go (refused x) q = q

@@ -18,13 +18,11 @@ use sheet_index::SLOTS;
 use sheet_listed::Listing;
 use side_tables::Table;
 
-// Says proved or refuted; whether it passes, how many fields it has, and where the next one would start. Or how many good fields stand before
-// the first wrong one.
+// Says proved or refuted; whether it passes, how many fields it has, and where the next one would start.
 #[derive(Clone, Copy)]
 pub enum Tested {
     Proved(bool, usize, usize),
     Refuted(bool, usize, usize),
-    Wrong(usize),
 }
 
 // Whether the word in the sheet refutes; its bytes lie in the sheet.
@@ -36,16 +34,17 @@ fn word_refutes(f: Facts, left: &Table, right: &Table, sheet: &[u8], from: usize
     sheet_word::refutes(f, left, right, &sheet[from..to])
 }
 
-// The part that begins at place at of the sheet, for a decision by its facts and the tables of its two sides.
-pub fn part(f: Facts, left: &Table, right: &Table, sheet: &[u8], at: usize) -> Tested
+// The part that begins at place at of the sheet, for a decision by its facts and the tables of its two sides; or how many good fields stand
+// before the first wrong one.
+pub fn part(f: Facts, left: &Table, right: &Table, sheet: &[u8], at: usize) -> Result<Tested, usize>
     ensures few { FewFields result }
     ensures tested { (D : Decision) → Decided f left.now right.now D
         → (k : ℕ) → Tests D sheet.now k (part_in D k (drop at sheet.now)) result }
 {
     let mut heads = [0u64; SLOTS];
     let mut chain = [0u64; MOST_STANDINGS];
-    let p = sheet_fields::part_at(f, sheet, at, &mut heads, &mut chain);
-    match p {
+    let said = sheet_fields::part_at(f, sheet, at, &mut heads, &mut chain)?;
+    match said {
         PartRead::Proved(base, n, next) => {
             let listed = Listing {
                 facts: f,
@@ -53,13 +52,11 @@ pub fn part(f: Facts, left: &Table, right: &Table, sheet: &[u8], at: usize) -> T
                 count: n,
             };
             let passes = sheet_proves::proves(listed, left, right, sheet, &heads, &chain);
-            let fields = n + 1;
-            Tested::Proved(passes, fields, next)
+            Ok(Tested::Proved(passes, n + 1, next))
         }
         PartRead::Refuted(from, to) => {
             let passes = word_refutes(f, left, right, sheet, from, to);
-            Tested::Refuted(passes, 2, to)
+            Ok(Tested::Refuted(passes, 2, to))
         }
-        PartRead::Wrong(i) => Tested::Wrong(i),
     }
 }

@@ -94,13 +94,10 @@ fn places_pass(
     requires { Ready t.of.facts.ring sheet.now t.of.base t.of.count heads.now chain.now × (t.first ≡ false) }
     ensures { result ≡ places_pass t.of.facts left.now right.now sheet.now t.of.base t.of.count t.masks }
 {
-    let mut i = 0;
-    while i < t.of.count {
-        let passes = place_passes(t, left, right, sheet, heads, chain, i);
-        if !passes {
+    for i in 0..t.of.count {
+        if !place_passes(t, left, right, sheet, heads, chain, i) {
             return false;
         }
-        i += 1;
     }
     true
 }

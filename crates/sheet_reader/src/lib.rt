@@ -30,7 +30,7 @@ pub fn moved<'a>(r: Reader<'a>, at: usize) -> Reader<'a>
 }
 
 // The field at the reader's place.
-pub fn field<'a>(r: Reader<'a>) -> Field
+pub fn field<'a>(r: Reader<'a>) -> Option<Field>
     ensures { Stands r.entry.sheet.now r.entry.at (next_field (drop r.entry.at r.entry.sheet.now)) result }
 {
     fields::next(r.sheet, r.at)

@@ -41,10 +41,8 @@ fn rows_on(right: &Table, from: &[u64], a: usize, r: usize, to: &mut [u64])
     requires { length to.old ≡ WIDTH }
     ensures { to.new ≡ words WIDTH (λ p. raised (step_set right.now (row_m from.now p / 2) a r)) }
 {
-    let mut p = 0;
-    while p < WIDTH {
-        to[p] = row_on(right, word(from, M_AT + p), a, r);
-        p += 1;
+    for (p, row) in to.iter_mut().enumerate() {
+        *row = row_on(right, word(from, M_AT + p), a, r);
     }
 }
 
@@ -53,10 +51,8 @@ fn first_rows(right: &Table, a: usize, r: usize, to: &mut [u64])
     requires { length to.old ≡ WIDTH }
     ensures { to.new ≡ words WIDTH (λ p. raised (step_from right.now p a r)) }
 {
-    let mut p = 0;
-    while p < WIDTH {
-        to[p] = step_from(right, p, a, r) % SETS * 2;
-        p += 1;
+    for (p, row) in to.iter_mut().enumerate() {
+        *row = step_from(right, p, a, r) % SETS * 2;
     }
 }
 

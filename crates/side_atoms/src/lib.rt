@@ -49,13 +49,13 @@ fn test_step(stack: &mut [u64], n: usize, code: u64) -> usize
     ensures { (result ≤ length stack.new) × (stacked stack.new result ≡ test_step (length stack.old) code (stacked stack.old n)) }
 {
     let a = peek(stack, n);
-    let m = memory::less(n);
+    let m = n.saturating_sub(1);
     let b = peek(stack, m);
     match code {
         codes::TRUE => put(stack, n, bits::ALL),
         codes::FALSE => put(stack, n, 0),
-        codes::OR => put(stack, memory::less(m), b | a),
-        codes::AND => put(stack, memory::less(m), b & a),
+        codes::OR => put(stack, m.saturating_sub(1), b | a),
+        codes::AND => put(stack, m.saturating_sub(1), b & a),
         codes::NOT => put(stack, m, bits::ALL - a),
         codes::A_TEST..=codes::LAST_TEST => put(stack, n, holding_atoms(code - codes::A_TEST)),
         _ => n,
@@ -66,12 +66,10 @@ fn test_step(stack: &mut [u64], n: usize, code: u64) -> usize
 fn run(codes: &[u64], from: usize, to: usize, stack: &mut [u64]) -> u64
     ensures { result ≡ top (run_test (length stack.old) (slice from to codes.now) []) }
 {
-    let end = memory::least(to, codes.len());
+    let end = to.min(codes.len());
     let mut n: usize = 0;
-    let mut i = from;
-    while i < end {
+    for i in from..end {
         n = test_step(stack, n, codes[i]);
-        i += 1;
     }
     peek(stack, n)
 }

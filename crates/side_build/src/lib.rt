@@ -123,25 +123,19 @@ fn build_in(
     }
 }
 
-// No more than 464 codes, with little memory.
-fn build_short(codes: &[u64], tests: u64, left: &mut Table, right: &mut Table) -> Built
-    requires { (length codes.now ≤ 464) × (left.old ≡ zeros TABLE) × (right.old ≡ zeros TABLE) }
+// The same with memory for N words, which are enough for what the codes need and the sets of their relations.
+fn build_with<const N: usize>(
+    codes: &[u64],
+    tests: u64,
+    left: &mut Table,
+    right: &mut Table,
+) -> Built
+    requires { (length codes.now + 48 ≤ N) × (N ≤ 4144) × (left.old ≡ zeros TABLE) × (right.old ≡ zeros TABLE) }
     ensures { (result ≡ built_from tests codes.now) × (left.new ≡ left_table codes.now)
         × (right.new ≡ right_table codes.now) }
 {
     let n = codes.len() + codes::RELATION_SETS;
-    let mut needs = [0u64; 512];
-    build_in(codes, &mut needs[..n], tests, left, right)
-}
-
-// No more than 4,096 codes.
-fn build_long(codes: &[u64], tests: u64, left: &mut Table, right: &mut Table) -> Built
-    requires { (length codes.now ≤ 4096) × (left.old ≡ zeros TABLE) × (right.old ≡ zeros TABLE) }
-    ensures { (result ≡ built_from tests codes.now) × (left.new ≡ left_table codes.now)
-        × (right.new ≡ right_table codes.now) }
-{
-    let n = codes.len() + codes::RELATION_SETS;
-    let mut needs = [0u64; 4144];
+    let mut needs = [0u64; N];
     build_in(codes, &mut needs[..n], tests, left, right)
 }
 
@@ -153,10 +147,10 @@ pub fn build(codes: &[u64], n: usize, tests: u64, left: &mut Table, right: &mut 
         × (left.new ≡ left_table (take (min n 4096) codes.now))
         × (right.new ≡ right_table (take (min n 4096) codes.now)) }
 {
-    let m = memory::least(memory::least(n, 4096), codes.len());
+    let m = n.min(4096).min(codes.len());
     let part = &codes[..m];
     if m <= 464 {
-        return build_short(part, tests, left, right);
+        return build_with::<512>(part, tests, left, right);
     }
-    build_long(part, tests, left, right)
+    build_with::<4144>(part, tests, left, right)
 }

@@ -6,14 +6,13 @@ use native.Mathlib.Omega.{arith}
 use mathlib.Core.Path.{◌≡◌, refl, sym, ◌∙◌, ap, ap₂, subst}
 use mathlib.Core.Bool.{Bool, true, false, cond, ◌&&◌}
 use mathlib.Core.List.{List, [], ◌∷◌, ◌++◌, append-nil, append-eq-nil_iff}
-use lib.Dec.{eqb}
 use borrow.Author.Tests.{ne_eqb}
 use Rattle.claims.specs.Tree.{Tree, Claim, includes, empty, irreflexive, Line, test_line, rel_line, let_line, never_line, within_line, closed_line, assume_empty, assume_irreflexive, claim_line}
 use Rattle.claims.specs.Query.{Query, each, assumed_empty, assumed_irreflexive, claims_of}
 use Rattle.codes.specs.Codes.{query_codes}
 use Rattle.codes.proofs.Claimed.{Claimed}
 use Rattle.side_items.specs.Items.{starts_of}
-use Rattle.side_items.proofs.Placed.{Placed, PlacedAll}
+use Rattle.side_items.proofs.Placed.{PlacedAll}
 use Rattle.claims.specs.Under.{of_lines}
 use Rattle.side_claim.proofs.Starts.{only, line_ends, claim_ending, ending, endings, ending_placed}
 

@@ -2,7 +2,7 @@
 -- Assumes nothing.
 use Prim.Native.Nat.{ℕ, ◌+◌, ◌≤◌}
 use native.Mathlib.Omega.{arith}
-use mathlib.Core.Path.{◌≡◌, refl, ap, ap₂}
+use mathlib.Core.Path.{◌≡◌, refl, ap₂}
 use mathlib.Core.Bool.{Bool, true, ◌&&◌}
 use mathlib.Core.List.{List, [], ◌∷◌}
 use lib.Dec.{leb}
@@ -13,7 +13,7 @@ use Rattle.claims.specs.Tree.{Tree, Claim, includes, empty, irreflexive}
 use Rattle.claims.specs.Query.{Query, assumed_empty, assumed_irreflexive}
 use Rattle.claims.specs.Sides.{union_all, somewhere}
 use Rattle.claims.specs.Width.{width}
-use Rattle.claims.specs.Counting.{occurrences_of, leaves_of, total, Size, size_of, with_anys, left_size, right_limit}
+use Rattle.claims.specs.Counting.{occurrences_of, leaves_of, total, size_of, with_anys, left_size, right_limit}
 use Rattle.claims.proofs.Counts.{counted_occurrences, total_append}
 use Rattle.claims.specs.Under.{of_lines, empty_under, irreflexive_under, decision_under, right_under, within_under}
 use Rattle.side_claim.proofs.Sides.{leaves_left, leaves_beside, Roomy}

@@ -22,7 +22,7 @@ use Rattle.bits.proofs.Bit.{bit_ones}
 use Rattle.side_atoms.specs.Atoms.{atoms_of, all_atoms}
 use Rattle.side_atoms.proofs.Atoms.{atoms_none, atoms_all}
 use Rattle.side_atoms.proofs.Singles.{any_single}
-use Rattle.side_parts.specs.Machine.{Machine, given, united, any_star, nothing_built}
+use Rattle.side_parts.specs.Machine.{Machine, united, any_star, nothing_built}
 use Rattle.side_items.specs.Items.{items_of, starts_of}
 use Rattle.side_items.proofs.Placed.{Placed, PlacedAll, Limited}
 use Rattle.side_runs.specs.Program.{items_in, sets_in, counts_in}

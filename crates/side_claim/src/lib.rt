@@ -25,17 +25,14 @@ fn start_of(codes: &[u64], k: u64) -> usize
     ensures { result ≡ start_of k codes.now }
 {
     let mut start = 0;
-    let mut i = 0;
-    while i < codes.len() {
-        let code = codes[i];
-        i += 1;
-        if code < codes::LINE {
+    for (i, code) in codes.iter().enumerate() {
+        if *code < codes::LINE {
             continue;
         }
-        if code == k {
+        if *code == k {
             return start;
         }
-        start = i;
+        start = i + 1;
     }
     0
 }

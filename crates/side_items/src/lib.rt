@@ -83,15 +83,12 @@ pub fn find_args(codes: &[u64], args: &mut [u64])
     let mut line: usize = 0;
     let mut from: usize = 0;
     let mut lets: usize = 0;
-    let mut i: usize = 0;
-    while i < codes.len() {
-        let k = codes[i];
-        let x = arg_of(codes, from, i, args, &starts, k);
+    for (i, k) in codes.iter().enumerate() {
+        let x = arg_of(codes, from, i, args, &starts, *k);
         args[i] = x;
-        codes::keep_let(&mut starts, k, lets, line as u64);
-        lets = codes::lets_after(lets, k);
-        line = line_after(line, i, k);
-        from = from_after(from, i, k);
-        i += 1;
+        codes::keep_let(&mut starts, *k, lets, line as u64);
+        lets = codes::lets_after(lets, *k);
+        line = line_after(line, i, *k);
+        from = from_after(from, i, *k);
     }
 }

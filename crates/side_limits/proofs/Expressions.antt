@@ -11,7 +11,7 @@ use mathlib.Core.Option.{none}
 use borrow.Author.Tests.{lt-ltb, le-ltb, ne_eqb}
 use Rattle.claims.specs.Tree.{Name, TestTree, test_name, true_test, false_test, either, both, not, Tree, name, tested, union, sequence, star, plus, opt}
 use Rattle.claims.specs.Names.{uses_test, uses_either, test_uses, tree_uses, kind_of, slip, first_slip}
-use Rattle.claims.specs.Query.{Query, Bound, lookup, index_of, lets, tests}
+use Rattle.claims.specs.Query.{Query, Bound, lookup, index_of, tests}
 use Rattle.claims.specs.Counting.{count}
 use Rattle.claims.proofs.Limits.{Declared}
 use Rattle.codes.specs.Codes.{kind_code, code_of, test_codes, tree_codes}

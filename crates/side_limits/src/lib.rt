@@ -44,14 +44,7 @@ const TABLE: usize = 96;
 fn add(a: u64, b: u64) -> u64
     ensures { result ≡ capped (a + b) }
 {
-    if a < 1000 {
-        if b < 1000 {
-            if a + b < 1000 {
-                return a + b;
-            }
-        }
-    }
-    1000
+    a.saturating_add(b).min(1000)
 }
 
 // The first entries: a bracketed test counts `test`, and each relation 1.
@@ -59,10 +52,8 @@ fn start_table(test: u64, table: &mut [u64])
     requires { table.old ≡ replicate 96 0 }
     ensures { Table test (λ k. 1) [] table.new }
 {
-    let mut i = codes::A_RELATION as usize;
-    while i < codes::ANY as usize {
+    for i in codes::A_RELATION as usize..codes::ANY as usize {
         memory::store(table, i, 1);
-        i += 1;
     }
     memory::store(table, codes::TESTED as usize, test);
 }
@@ -73,17 +64,14 @@ fn add_limits(codes: &[u64], test: u64, table: &mut [u64])
     ensures { Table test (relation_count test codes.now) [] table.new }
 {
     let tests = add(test, test);
-    let mut i = 0;
-    while i < codes.len() {
-        let k = codes[i];
-        i += 1;
-        if k < codes::WITHIN_LINE {
+    for k in codes {
+        if *k < codes::WITHIN_LINE {
             continue;
         }
-        if codes::CLOSED_LINE <= k {
+        if codes::CLOSED_LINE <= *k {
             continue;
         }
-        let at = (codes::A_RELATION + (k - codes::WITHIN_LINE)) as usize;
+        let at = (codes::A_RELATION + (*k - codes::WITHIN_LINE)) as usize;
         let w = add(word(table, at), tests);
         memory::store(table, at, w);
     }
@@ -95,15 +83,12 @@ fn count_lets(codes: &[u64], table: &mut [u64])
 {
     let mut sum = 0;
     let mut n: usize = 0;
-    let mut i = 0;
-    while i < codes.len() {
-        let k = codes[i];
-        i += 1;
-        if k < codes::LINE {
-            sum = add(sum, word(table, k as usize));
+    for k in codes {
+        if *k < codes::LINE {
+            sum = add(sum, word(table, *k as usize));
             continue;
         }
-        if k != codes::LET_LINE {
+        if *k != codes::LET_LINE {
             sum = 0;
             continue;
         }
@@ -118,14 +103,12 @@ fn count_at(codes: &[u64], from: usize, table: &[u64]) -> u64
     ensures { result ≡ capped (count_at (in_table table.now) codes.now from) }
 {
     let mut sum = 0;
-    let mut i = from;
-    while i < codes.len() {
+    for i in from..codes.len() {
         let k = codes[i];
         if codes::LINE <= k {
             return sum;
         }
         sum = add(sum, word(table, k as usize));
-        i += 1;
     }
     sum
 }
@@ -137,21 +120,15 @@ fn count_kind(codes: &[u64], out: &[u64], kind: u64, table: &[u64]) -> u64
     let mut sum = 0;
     let mut line = 0;
     let mut start = 0;
-    let mut i = 0;
-    while i < codes.len() {
-        let code = codes[i];
-        i += 1;
-        if code < codes::LINE {
+    for (i, code) in codes.iter().enumerate() {
+        if *code < codes::LINE {
             continue;
         }
-        let one = side_runs::is_one(out, 0, code, kind, line);
+        if side_runs::is_one(out, 0, *code, kind, line) {
+            sum = add(sum, count_at(codes, start, table));
+        }
         line += 1;
-        if !one {
-            start = i;
-            continue;
-        }
-        sum = add(sum, count_at(codes, start, table));
-        start = i;
+        start = i + 1;
     }
     sum
 }

@@ -1,17 +1,13 @@
--- The set of the relations that the lines of a query close, by a loop over its codes: what one code adds, and what is left to do from a place on;
--- and its members: relation i is in the set exactly where the code of its `closed` line is among the codes.
+-- The set of the relations that the lines of a query close, by a walk over its codes: what one code adds; and its members: relation i is in the set exactly where the code of its `closed` line is among the codes.
 -- Assumes nothing.
 use Prim.Native.Nat.{ℕ, ◌+◌, ◌-◌, ◌≤◌, ◌<◌}
-use native.Mathlib.Numerals.{add-one}
 use native.Mathlib.Omega.{arith}
-use mathlib.Core.Path.{◌≡◌, refl, sym, ◌∙◌, ap, ap₂}
+use mathlib.Core.Path.{◌≡◌, refl, sym, ◌∙◌, ap}
 use mathlib.Core.Logic.{◌⊎◌, ⊎_elim}
 use mathlib.Core.Logic.◌⊎◌.{inl, inr}
 use mathlib.Core.Bool.{Bool, ◌||◌, or-false, or_assoc}
 use mathlib.Core.List.{List, [], ◌∷◌}
 use lib.Dec.{eqb}
-use lib.ListN.{length, get_or, drop, drop_of_length-le}
-use lib.Seq.{drop-cons}
 use borrow.Author.Tests.{eq-eqb, ne_eqb, lt-ltb, le-ltb, lt-leb, le-leb}
 use Rattle.kat.specs.Lists.{some}
 use Rattle.kat.proofs.Bools.{lt_or_le}
@@ -34,16 +30,6 @@ module _ (s k : ℕ) where
   pub closed_line_lem : 160 ≤ k → k < 176 → (r : ℕ) → r ≡ including 64 s (k - 160) → r ≡ closed_with s k
   unfolding closed_with
   closed_line_lem h l r e = e ∙ sym (rw (le-leb 160 k h, lt-ltb k 176 l))
-
-pub closed_more : (ks : List ℕ) (i s v : ℕ) → i < length ks → v ≡ closed_with s (get_or ks i 0)
-    → closed_set v (drop (i + 1) ks) ≡ closed_set s (drop i ks)
-unfolding closed_set
-closed_more ks i s v h e =
-    ap₂ closed_set e (ap (λ j. drop j ks) (add-one i)) ∙ sym (ap (closed_set s) (drop-cons ks i 0 h))
-
-pub closed_end : (ks : List ℕ) (i s : ℕ) → length ks ≤ i → s ≡ closed_set s (drop i ks)
-unfolding closed_set
-closed_end ks i s h = sym (ap (closed_set s) (drop_of_length-le ks h))
 
 -- the end of a `closed` line of relation number i
 abbrev pub of_closed : ℕ → ℕ → Bool

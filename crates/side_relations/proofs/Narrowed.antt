@@ -1,53 +1,29 @@
 -- The sets of the relations and atoms by loops over the codes: what one code does, and what is left to do from a place on.
 -- Assumes nothing.
-use Prim.Native.Nat.{ℕ, zero, suc, ◌+◌, ◌-◌, ◌^◌, ◌≤◌, ◌<◌, min}
+use Prim.Native.Nat.{ℕ, suc, ◌+◌, ◌-◌, ◌^◌, ◌≤◌, ◌<◌, min}
 use native.Mathlib.Nat.{pow-le-pow_right}
-use native.Mathlib.Numerals.{add-one}
 use native.Mathlib.Omega.{arith}
 use mathlib.Core.Path.{◌≡◌, refl, sym, ◌∙◌, ap, ap₂}
 use mathlib.Core.Logic.{⊎_elim}
 use mathlib.Core.Bool.{Bool, true, false, cond, not, ◌&&◌, ◌||◌}
 use mathlib.Core.List.{List, [], ◌∷◌}
-use lib.Bits.{bit_and, bit_or, and_le_r, or_zero_r}
+use lib.Bits.{bit_and, and_le_r}
 use lib.Dec.{eqb, leb, ltb}
-use lib.ListN.{length, get_or, set, take, drop, replicate, length-set, length-replicate, get_or-replicate, drop_of_length-le}
-use lib.Seq.{drop-cons}
-use borrow.Author.Tests.{eq-eqb, ne_eqb, lt-ltb, le-ltb, le-leb, lt-leb}
+use lib.ListN.{length, get_or, set, take, replicate, length-set, length-replicate, get_or-replicate}
+use borrow.Author.Tests.{lt-ltb, le-ltb, le-leb, lt-leb}
 use Rattle.kat.specs.Lists.{some}
 use Rattle.kat.proofs.Bools.{le_or_lt}
 use Rattle.claims.specs.Query.{bit}
 use Rattle.bits.specs.Sets.{all_below}
-use Rattle.bits.proofs.Bit.{bit-bit_and, or_assoc}
+use Rattle.bits.proofs.Bit.{bit-bit_and}
 use Rattle.bits.proofs.Rows.{bit_all}
 use Rattle.side_atoms.specs.Atoms.{all_atoms}
 use Rattle.memory.specs.Memory.{words}
 use Rattle.side_atoms.proofs.Atoms.{bit_not, atoms_ext}
 use Rattle.memory.proofs.Words.{words_ext, words_same}
 use Rattle.side_items.specs.Items.{Item, paired}
-use Rattle.side_relations.specs.Relations.{narrowed, limits_from, limit_sets, closed_set, closed_in, relation_at, relation_sets, removed_set, live_set}
+use Rattle.side_relations.specs.Relations.{narrowed, limits_from, limit_sets, closed_set, closed_in, relation_at, relation_sets, live_set}
 use Rattle.side_relations.proofs.ClosedSets.{closed_bit}
-
--- codes and what they need, from a place on
-pub paired_more : (ks xs : List ℕ) (i : ℕ) → i < min (length ks) (length xs)
-    → drop i (paired ks xs) ≡ record { code = get_or ks i 0; arg = get_or xs i 0 } ∷ drop (i + 1) (paired ks xs)
-unfolding paired
-paired_more ks xs i h = go ks xs i h ∙ ap (λ j. record { code = get_or ks i 0; arg = get_or xs i 0 } ∷ drop j (paired ks xs)) (sym (add-one i))
-  where
-    go : (ks xs : List ℕ) (i : ℕ) → i < min (length ks) (length xs)
-        → drop i (paired ks xs) ≡ record { code = get_or ks i 0; arg = get_or xs i 0 } ∷ drop (suc i) (paired ks xs)
-    go [] xs i h = absurd (omega arith)
-    go (k ∷ ks) [] i h = absurd (omega arith)
-    go (k ∷ ks) (x ∷ xs) zero h = refl
-    go (k ∷ ks) (x ∷ xs) (suc i) h = go ks xs i (omega arith)
-
-pub paired_end : (ks xs : List ℕ) (i : ℕ) → min (length ks) (length xs) ≤ i → drop i (paired ks xs) ≡ []
-unfolding paired
-paired_end [] xs zero h = refl
-paired_end [] xs (suc i) h = refl
-paired_end (k ∷ ks) [] zero h = refl
-paired_end (k ∷ ks) [] (suc i) h = refl
-paired_end (k ∷ ks) (x ∷ xs) zero h = absurd (omega arith)
-paired_end (k ∷ ks) (x ∷ xs) (suc i) h = paired_end ks xs i (omega arith)
 
 -- what one code does
 module _ (k x y : ℕ) (ws : List ℕ) where
@@ -74,29 +50,24 @@ module _ (k x y : ℕ) (ws : List ℕ) where
           ∙ length-set ws (k - 144) (bit_and (get_or ws (k - 144) 0) x)
       go false = refl
 
--- the codes from a place on
+-- one code with what it needs, and then the others; and the end of either
+pub limits_more : (k a x y z w : ℕ) (ws vs ks xs : List ℕ) → vs ≡ narrowed k x y ws → z ≡ cond (eqb k 6) y x → w ≡ cond (eqb k 6) a y
+    → limits_from z w (paired ks xs) vs ≡ limits_from x y (paired (k ∷ ks) (a ∷ xs)) ws
+unfolding limits_from paired
+limits_more k a x y z w ws vs ks xs e f g = rw (e, f, g) refl
+
+pub limits_codes_end : (x y : ℕ) (ws ks xs : List ℕ) → length ks ≡ 0 → limits_from x y (paired ks xs) ws ≡ ws
+unfolding limits_from paired
+limits_codes_end x y ws [] xs h = refl
+limits_codes_end x y ws (k ∷ ks) xs h = absurd (omega arith)
+
+pub limits_args_end : (x y : ℕ) (ws ks xs : List ℕ) → length xs ≡ 0 → limits_from x y (paired ks xs) ws ≡ ws
+unfolding limits_from paired
+limits_args_end x y ws [] xs h = refl
+limits_args_end x y ws (k ∷ ks) [] h = refl
+limits_args_end x y ws (k ∷ ks) (a ∷ xs) h = absurd (omega arith)
+
 module _ (ks xs : List ℕ) where
-  pub limits_more : (i x y z w : ℕ) (ws vs : List ℕ) → i < min (length ks) (length xs) → vs ≡ narrowed (get_or ks i 0) x y ws
-      → z ≡ cond (eqb (get_or ks i 0) 6) y x → w ≡ cond (eqb (get_or ks i 0) 6) (get_or xs i 0) y
-      → limits_from z w (drop (i + 1) (paired ks xs)) vs ≡ limits_from x y (drop i (paired ks xs)) ws
-  unfolding limits_from
-  limits_more i x y z w ws vs h a b c = sym (rw (paired_more ks xs i h, a, b, c))
-
-  pub limits_end : (i x y : ℕ) (ws : List ℕ) → min (length ks) (length xs) ≤ i → limits_from x y (drop i (paired ks xs)) ws ≡ ws
-  unfolding limits_from
-  limits_end i x y ws h = rw (paired_end ks xs i h)
-
-  pub removed_more : (i s d : ℕ) → i < min (length ks) (length xs) → d ≡ cond (eqb (get_or ks i 0) 131) (get_or xs i 0) 0
-      → bit_or (bit_or s d) (removed_set (drop (i + 1) (paired ks xs))) ≡ bit_or s (removed_set (drop i (paired ks xs)))
-  unfolding removed_set
-  removed_more i s d h a =
-      or_assoc s d (removed_set (drop (i + 1) (paired ks xs)))
-      ∙ ap (bit_or s) (sym (ap removed_set (paired_more ks xs i h) ∙ ap (λ e. bit_or e (removed_set (drop (i + 1) (paired ks xs)))) (sym a)))
-
-  pub removed_end : (i s : ℕ) → min (length ks) (length xs) ≤ i → bit_or s (removed_set (drop i (paired ks xs))) ≡ s
-  unfolding removed_set
-  removed_end i s h = ap (λ l. bit_or s (removed_set l)) (paired_end ks xs i h) ∙ or_zero_r s
-
   -- a code is among them
   pub closed_codes : (r : ℕ) → closed_in (paired ks xs) r ≡ some (λ k. eqb k (160 + r)) (take (min (length ks) (length xs)) ks)
   unfolding closed_in paired
@@ -112,20 +83,6 @@ module _ (ks xs : List ℕ) where
       go (k ∷ ks) (x ∷ xs) =
           let z : min (suc (length ks)) (suc (length xs)) ≡ suc (min (length ks) (length xs)) = omega arith in
           ap (λ b. eqb k (160 + r) || b) (go ks xs) ∙ sym (ap (λ n. some (λ k. eqb k (160 + r)) (take n (k ∷ ks))) z)
-
--- a code among those from a place on
-module _ (ks : List ℕ) (k i : ℕ) where
-  some_here : i < length ks → some (λ c. eqb c k) (drop i ks) ≡ (eqb (get_or ks i 0) k || some (λ c. eqb c k) (drop (i + 1) ks))
-  some_here h = rw (add-one, drop-cons ks i 0 h)
-
-  pub among_hit : i < length ks → get_or ks i 0 ≡ k → true ≡ some (λ c. eqb c k) (drop i ks)
-  among_hit h e = sym (some_here h ∙ ap (λ b. b || some (λ c. eqb c k) (drop (i + 1) ks)) (eq-eqb (get_or ks i 0) k e))
-
-  pub among_miss : i < length ks → (get_or ks i 0 ≡ k → ⊥) → some (λ c. eqb c k) (drop (i + 1) ks) ≡ some (λ c. eqb c k) (drop i ks)
-  among_miss h e = sym (some_here h ∙ ap (λ b. b || some (λ c. eqb c k) (drop (i + 1) ks)) (ne_eqb (get_or ks i 0) k e))
-
-  pub among_end : length ks ≤ i → false ≡ some (λ c. eqb c k) (drop i ks)
-  among_end h = sym (ap (some (λ c. eqb c k)) (drop_of_length-le ks h))
 
 -- one of the 48 sets
 module _ (is_closed : ℕ → Bool) (ws : List ℕ) (i : ℕ) where

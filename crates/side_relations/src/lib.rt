@@ -9,8 +9,6 @@ ghost use Rattle.memory.specs.Memory.{words};
 ghost use Rattle.side_items.specs.Items.{paired};
 ghost use Rattle.side_relations.specs.Relations.{narrowed, limits_from, closed_with, closed_set, relation_at, relation_sets, removed_set, live_set};
 
-use memory::least;
-
 // How many atoms the tests make, and no more than 64.
 pub fn atom_count(tests: u64) -> usize
     ensures { result ≡ min (2 ^ tests) 64 }
@@ -54,15 +52,12 @@ fn narrow_all(codes: &[u64], args: &[u64], limits: &mut [u64])
     requires { length limits.old ≡ 32 }
     ensures { limits.new ≡ limits_from 0 0 (paired codes.now args.now) limits.old }
 {
-    let n = least(codes.len(), args.len());
     let mut x: u64 = 0;
     let mut y: u64 = 0;
-    let mut i = 0;
-    while i < n {
-        narrow(limits, codes[i], x, y);
-        x = behind(codes[i], codes::TESTED, y, x);
-        y = behind(codes[i], codes::TESTED, args[i], y);
-        i += 1;
+    for (code, arg) in codes.iter().zip(args) {
+        narrow(limits, *code, x, y);
+        x = behind(*code, codes::TESTED, y, x);
+        y = behind(*code, codes::TESTED, *arg, y);
     }
 }
 
@@ -70,14 +65,7 @@ fn narrow_all(codes: &[u64], args: &[u64], limits: &mut [u64])
 pub fn among(codes: &[u64], k: u64) -> bool
     ensures { result ≡ some (λ c. eqb c k) codes.now }
 {
-    let mut i = 0;
-    while i < codes.len() {
-        if codes[i] == k {
-            return true;
-        }
-        i += 1;
-    }
-    false
+    codes.contains(&k)
 }
 
 // The set s, and the relation whose `closed` line ends with the code, where it is such a code.
@@ -97,13 +85,7 @@ fn closed_with(s: u64, code: u64) -> u64
 pub fn closed_set(codes: &[u64]) -> u64
     ensures { result ≡ closed_set 0 codes.now }
 {
-    let mut s: u64 = 0;
-    let mut i = 0;
-    while i < codes.len() {
-        s = closed_with(s, codes[i]);
-        i += 1;
-    }
-    s
+    codes.iter().fold(0, |s, code| closed_with(s, *code))
 }
 
 // What stands at place i of the sets of the relations, where `closed` has the closed ones.
@@ -125,10 +107,8 @@ fn relation_words(closed: u64, limits: &[u64], rels: &mut [u64])
     requires { (length limits.now ≡ 32) × (length rels.old ≤ 48) }
     ensures { rels.new ≡ words (length rels.old) (relation_at (λ k. bit k closed) limits.now) }
 {
-    let mut i = 0;
-    while i < rels.len() {
-        rels[i] = relation_at(closed, limits, i);
-        i += 1;
+    for (i, set) in rels.iter_mut().enumerate() {
+        *set = relation_at(closed, limits, i);
     }
 }
 
@@ -138,7 +118,7 @@ pub fn relation_sets(codes: &[u64], args: &[u64], rels: &mut [u64; codes::RELATI
 {
     let mut limits = [bits::ALL; 32];
     narrow_all(codes, args, &mut limits);
-    let n = least(codes.len(), args.len());
+    let n = codes.len().min(args.len());
     let closed = closed_set(&codes[..n]);
     relation_words(closed, &limits, rels);
 }
@@ -147,14 +127,10 @@ pub fn relation_sets(codes: &[u64], args: &[u64], rels: &mut [u64; codes::RELATI
 pub fn removed_set(codes: &[u64], args: &[u64]) -> u64
     ensures { result ≡ removed_set (paired codes.now args.now) }
 {
-    let n = least(codes.len(), args.len());
-    let mut s: u64 = 0;
-    let mut i = 0;
-    while i < n {
-        s = s | behind(codes[i], codes::NEVER_LINE, args[i], 0);
-        i += 1;
-    }
-    s
+    codes.iter().zip(args).fold(
+        0,
+        |s, (code, arg)| s | behind(*code, codes::NEVER_LINE, *arg, 0),
+    )
 }
 
 // Of the atoms of the tests those that are left.

@@ -7,7 +7,6 @@ use mathlib.Core.Path.{◌≡◌, refl, sym, ap, ap₂, ◌∙◌}
 use mathlib.Core.Logic.{⊎_elim}
 use mathlib.Core.Bool.{true, cond}
 use mathlib.Core.List.{List, [], ◌∷◌, ◌++◌}
-use lib.Dec.{leb}
 use lib.ListN.{length, get_or, take, drop, length-drop, length-append, get_or-append, get_or-eq_default, drop_of_length-le, length-replicate, get_or-replicate}
 use lib.Seq.{get_or-append-add, take_all}
 use borrow.Author.Tests.{lt-ltb, le-ltb, le-leb, lt-leb}

@@ -10,37 +10,21 @@ ghost use Rattle.side_runs.specs.Program.{items_in, sets_in, counts_from, counts
 ghost use Rattle.side_runs.specs.Execution.{execute_all, united_times, execute_union};
 ghost use Rattle.side_runs.specs.inner.Running.{Skipped, LineRan, ItemRan};
 
-use memory::{least, word};
+use memory::word;
 use side_parts::step;
 use side_stack::STACK;
 use side_tables::{TABLE, Table};
-
-// The first place from pc on at which no operator of a T stands.
-fn skip_operators(codes: &[u64], pc: usize) -> usize
-    ensures { Skipped codes.now pc result }
-{
-    let mut i = pc;
-    while i < codes.len() {
-        if codes::TESTED <= codes[i] {
-            return i;
-        }
-        i += 1;
-    }
-    i
-}
 
 // The first place from pc on at which no code of a T stands.
 fn skip_tests(codes: &[u64], pc: usize) -> usize
     ensures { Skipped codes.now pc result }
 {
-    let mut i = skip_operators(codes, pc);
-    while i < codes.len() {
+    for i in pc..codes.len() {
         if !side_items::of_test(codes[i]) {
             return i;
         }
-        i = skip_operators(codes, i + 1);
     }
-    i
+    pc.max(codes.len())
 }
 
 // The items from a place to the end of its line; a let is built from the place where its line starts, which comes before. No more than 33
@@ -82,7 +66,7 @@ fn run_item(
 {
     let code = codes[pc];
     let arg = word(needs, pc);
-    let n = least(codes.len(), needs.len());
+    let n = codes.len().min(needs.len());
     if code < codes::A_LET {
         step(code, arg, &needs[n..], table, parts);
         return;
@@ -127,22 +111,16 @@ fn run_kind(
     let mut count = 0;
     let mut line = 0;
     let mut start = 0;
-    let mut i = 0;
-    while i < codes.len() {
-        let code = codes[i];
-        i += 1;
-        if code < codes::LINE {
+    for (i, code) in codes.iter().enumerate() {
+        if *code < codes::LINE {
             continue;
         }
-        let one = is_one(needs, codes.len() + codes::RELATION_SETS, code, kind, line);
+        if is_one(needs, codes.len() + codes::RELATION_SETS, *code, kind, line) {
+            run_from(codes, needs, table, parts, start);
+            count += 1;
+        }
         line += 1;
-        if !one {
-            start = i;
-            continue;
-        }
-        run_from(codes, needs, table, parts, start);
-        count += 1;
-        start = i;
+        start = i + 1;
     }
     count
 }
@@ -151,10 +129,8 @@ fn run_kind(
 fn unite_times(parts: &mut [u64; STACK], n: usize)
     ensures { (t : List ℕ) → machine_in t parts.new ≡ united_times n (machine_in t parts.old) }
 {
-    let mut left = n;
-    while 0 < left {
+    for _ in 0..n {
         side_parts::unite(parts);
-        left -= 1;
     }
 }
 

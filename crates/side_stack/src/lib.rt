@@ -5,7 +5,7 @@
 ghost use Rattle.std.specs.Prelude.{◌+◌, ◌*◌, ◌^◌, ◌≤◌, ◌<◌, min, ◌≡◌, cond, [], length};
 ghost use Rattle.side_stack.specs.Stack.{top_part, under_part, push_part, parts_in, used_in, height_in, stack_in};
 
-use memory::{least, word};
+use memory::word;
 
 // Words of the memory, and how many parts can wait: a side has no more than 512 leaves.
 pub const STACK: usize = 1090;
@@ -25,14 +25,14 @@ pub struct Part {
 pub fn used(parts: &[u64; STACK]) -> usize
     ensures { result ≡ used_in parts.now }
 {
-    least(word(parts, 0) as usize, 64)
+    (word(parts, 0) as usize).min(64)
 }
 
 // How many parts wait.
 fn height(parts: &[u64; STACK]) -> usize
     ensures { result ≡ height_in parts.now }
 {
-    least(word(parts, 1) as usize, MOST_PARTS)
+    (word(parts, 1) as usize).min(MOST_PARTS)
 }
 
 // The part on top of n parts.
@@ -66,7 +66,7 @@ pub fn top(parts: &[u64; STACK]) -> Part
 pub fn second(parts: &[u64; STACK]) -> Part
     ensures { (result ≡ top_part (under_part (stack_in parts.now))) × (result.low < 2 ^ 63) }
 {
-    part_at(parts, memory::less(height(parts)))
+    part_at(parts, height(parts).saturating_sub(1))
 }
 
 // Twice the occurrences before a part, with 1 where it is looped.
@@ -74,11 +74,7 @@ fn mark_of(low: usize, looped: bool) -> u64
     requires { low < 2 ^ 63 }
     ensures { result ≡ low * 2 + cond looped 1 0 }
 {
-    if looped {
-        (low as u64) * 2 + 1
-    } else {
-        (low as u64) * 2
-    }
+    (low as u64) * 2 + u64::from(looped)
 }
 
 // The n lowest parts stay, and this one is put on top of them.
@@ -111,7 +107,7 @@ pub fn replace(parts: &mut [u64; STACK], part: Part)
     ensures { (used_in parts.new ≡ used_in parts.old) × (stack_in parts.new ≡ push_part part (under_part (stack_in parts.old))) }
 {
     let n = height(parts);
-    put(parts, memory::less(n), part);
+    put(parts, n.saturating_sub(1), part);
 }
 
 // A part put in the place of the two on top.
@@ -120,7 +116,7 @@ pub fn replace_two(parts: &mut [u64; STACK], part: Part)
     ensures { (used_in parts.new ≡ used_in parts.old) × (stack_in parts.new ≡ push_part part (under_part (under_part (stack_in parts.old)))) }
 {
     let n = height(parts);
-    put(parts, memory::less(memory::less(n)), part);
+    put(parts, n.saturating_sub(2), part);
 }
 
 // One occurrence more, up to 64.

@@ -9,10 +9,10 @@ use mathlib.Core.Bool.{Bool, true, false, cond, ◌||◌}
 use mathlib.Core.List.{List, [], ◌∷◌}
 use lib.Bits.{bit_and, bit_or, or_self}
 use lib.Dec.{eqb}
-use lib.ListN.{length, get_or, set, get_or-eq_default}
+use lib.ListN.{length, get_or, get_or-eq_default}
 use lib.Seq.{get_or-set_same, get_or-set_other}
 use borrow.Author.Tests.{eqb-true, eq-eqb, ne_eqb}
-use Rattle.kat.specs.Lists.{In, some, upto}
+use Rattle.kat.specs.Lists.{some, upto}
 use Rattle.kat.proofs.Bools.{bool_ext, false_of_not, le_or_lt, lt_or_le}
 use Rattle.kat.proofs.Sets.{some_in, in_some}
 use Rattle.claims.specs.Query.{bit}

@@ -12,7 +12,7 @@ use Rattle.kat.specs.Expr.{Expr, test, alt, plus, opt}
 use Rattle.kat.specs.Tables.{occurrences, firsts, lasts, follows}
 use Rattle.kat.proofs.Bools.{or_right, lt_or_le}
 use Rattle.claims.specs.Query.{bit}
-use Rattle.side_tables.specs.InPlace.{range_set, joined, iterated}
+use Rattle.side_tables.specs.InPlace.{range_set, iterated}
 use Rattle.side_tables.specs.Layout.{ENDS, LETTERS, NULL, ROW}
 use Rattle.side_tables.proofs.Changes.{joined_first, joined_end, joined_step, joined_above, joined_long}
 use Rattle.side_tables.proofs.RangeSets.{range_in, range_below, range_above}

@@ -17,7 +17,6 @@ use Rattle.claims.specs.Query.{bit}
 use Rattle.bits.proofs.Bit.{bit_above, bits_equal}
 use Rattle.side_atoms.specs.Atoms.{atoms_of}
 use Rattle.side_atoms.proofs.Atoms.{bit_of, number_small}
-use Rattle.memory.specs.Memory.{words}
 use Rattle.side_tables.specs.SideTable.{occurrence_set, step_words, end_words, letter_words, side_table}
 use Rattle.side_tables.specs.Layout.{ENDS, LETTERS, NULL, TABLE, ROW}
 use Rattle.memory.proofs.Words.{words_length, words_at_lem, words_ext, same_or_not}

@@ -63,10 +63,8 @@ fn join_atoms(table: &mut [u64], from: u64, to: u64)
     requires { length table.old ≡ TABLE }
     ensures { table.new ≡ joined from to table.old }
 {
-    let mut a = 0;
-    while a < 64 {
+    for a in 0..64 {
         join_at(table, from, to, a);
-        a += 1;
     }
 }
 
@@ -107,10 +105,8 @@ fn cut_ends(table: &mut [u64], from: u64, to: u64, x: u64, y: u64)
     requires { length table.old ≡ TABLE }
     ensures { table.new ≡ cut from to x y table.old }
 {
-    let mut a = 0;
-    while a < 64 {
+    for a in 0..64 {
         cut_at(table, from, to, x, y, a);
-        a += 1;
     }
 }
 
@@ -126,10 +122,8 @@ fn mark(table: &mut [u64], i: usize, k: usize, on: bool)
 fn add_letters(table: &mut [u64], k: usize, s: u64)
     ensures { table.new ≡ for_each (lettered_at k s) (upto 0 16) table.old }
 {
-    let mut r = 0;
-    while r < 16 {
+    for r in 0..16 {
         mark(table, LETTERS + r, k, bits::member(s, r));
-        r += 1;
     }
 }
 

@@ -55,12 +55,10 @@ fn through(r: u64, middle: usize) -> u64
 {
     let row = (r >> (8 * middle)) & 255;
     let mut all = r;
-    let mut from: usize = 0;
-    while from < 8 {
+    for from in 0..8 {
         if has(r, 8 * from + middle) {
             all = all | (row << (8 * from));
         }
-        from += 1;
     }
     all
 }
@@ -70,10 +68,8 @@ pub fn closed(r: u64) -> u64
     ensures { Edges result (reached 8 r) }
 {
     let mut all = r;
-    let mut middle: usize = 0;
-    while middle < 8 {
+    for middle in 0..8 {
         all = through(all, middle);
-        middle += 1;
     }
     all
 }
@@ -116,13 +112,11 @@ fn put_events(atoms: &[u8], count: usize, to: &mut [u8]) -> usize
     ensures { Puts to.old 0 (event_fields (take count atoms.now)) result to.new }
 {
     let mut at = 0;
-    let mut i = 0;
-    while i < count {
+    for i in 0..count {
         if atoms.len() <= i {
             return at;
         }
         at = put_event(to, at, atoms[i]);
-        i += 1;
     }
     at
 }
@@ -142,10 +136,8 @@ fn put_relation(r: u64, relation: usize, from: usize, to: &mut [u8]) -> usize
     ensures { Puts to.old from (edge_fields relation r) result to.new }
 {
     let mut at = from;
-    let mut place: usize = 0;
-    while place < 64 {
+    for place in 0..64 {
         at = put_bit(r, relation, place, to, at);
-        place += 1;
     }
     at
 }
@@ -156,13 +148,11 @@ pub fn write(atoms: &[u8], count: usize, edges: &[u64], relations: usize, to: &m
         result to.new }
 {
     let mut at = put_events(atoms, count, to);
-    let mut i = 0;
-    while i < relations {
+    for i in 0..relations {
         if edges.len() <= i {
             return at;
         }
         at = put_relation(edges[i], i, at, to);
-        i += 1;
     }
     at
 }

@@ -1,5 +1,4 @@
 -- Laws of the parts of a text.
-pub mod SameBytes
 pub mod Fronts
 pub mod LineLaws
 pub mod NameLaws

@@ -21,17 +21,7 @@ pub fn first(text: &[u8], n: usize) -> &[u8]
 pub fn same(a: &[u8], b: &[u8]) -> bool
     ensures { result ≡ sameBytes a.now b.now }
 {
-    if a.len() != b.len() {
-        return false;
-    }
-    let mut i = 0;
-    while i < a.len() {
-        if a[i] != b[i] {
-            return false;
-        }
-        i += 1;
-    }
-    true
+    a == b
 }
 
 // What a part of a text consists of: the bytes of a line, spaces, or the bytes of a word.
@@ -65,15 +55,12 @@ fn part_end(text: &[u8], at: usize, kind: PartKind) -> usize
     requires { at ≤ length text.now }
     ensures { (at ≤ result) × (result ≤ length text.now) × (result ≡ at + length (front (of_part kind) (drop at text.now))) }
 {
-    let mut i = at;
-    while i < text.len() {
-        if belongs(kind, text[i]) {
-            i += 1;
-        } else {
+    for i in at..text.len() {
+        if !belongs(kind, text[i]) {
             return i;
         }
     }
-    i
+    text.len()
 }
 
 // Where the next line begins behind the end of a line, which is required to be within the text: behind its byte 10, or at the text's end.
@@ -103,10 +90,8 @@ pub fn line(text: &[u8], n: usize) -> &[u8]
         return &text[..0];
     }
     let mut at = 0;
-    let mut left = n;
-    while 1 < left {
+    for line in 1..n {
         at = next_line(text, at);
-        left -= 1;
     }
     let end = part_end(text, at, PartKind::Line);
     &text[at..end]

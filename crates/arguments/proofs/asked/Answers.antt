@@ -5,7 +5,6 @@ use Rattle.arguments.specs.Arguments.{called}
 use Rattle.arguments.specs.declared.Verb.TheVariants as verbs
 use Rattle.arguments.specs.declared.Call.TheVariants as calls
 use Rattle.arguments.proofs.Changes.{asks_wrong, asks_short, asks_called, short_of, whole_of}
-use borrow.Author.Rules.{rules}
 use Rattle.arguments.proofs.asked.Goals as goal
 
 pub returns-then-s-gt0 : goal.returns-then-s-gt0

@@ -3,7 +3,6 @@
 use mathlib.Core.Path.{◌∙◌, ap}
 use Rattle.arguments.specs.Arguments.{wrong_at}
 use Rattle.arguments.proofs.Changes.{begun_known, begun_unknown}
-use borrow.Author.Rules.{rules}
 use Rattle.arguments.proofs.begin.Goals as goal
 
 pub returns-then-wanted_by : goal.returns-then-wanted_by

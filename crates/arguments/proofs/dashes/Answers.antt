@@ -3,7 +3,6 @@
 use lib.ListN.{length, get_or}
 use borrow.Author.Tests.{lt-ltb, le-ltb, eq-eqb, ne_eqb}
 use Rattle.arguments.specs.ArgumentWords.{dashes_first}
-use borrow.Author.Rules.{rules}
 use Rattle.arguments.proofs.dashes.Goals as goal
 
 pub returns-then-word-lt2 : goal.returns-then-word-lt2

@@ -2,7 +2,6 @@
 -- Assumes nothing.
 use mathlib.Core.Path.{sym, ◌∙◌}
 use Rattle.arguments.proofs.Tested.{is_allowance, is_dot, is_other, is_file}
-use borrow.Author.Rules.{rules}
 use Rattle.arguments.proofs.kind_in.Goals as goal
 
 pub returns-then-same : goal.returns-then-same

@@ -2,7 +2,6 @@
 -- Assumes nothing.
 use borrow.Author.Tests.{lt-ltb, le-ltb}
 use Rattle.arguments.specs.ArgumentWords.{more}
-use borrow.Author.Rules.{rules}
 use Rattle.arguments.proofs.one_more.Goals as goal
 
 pub returns-then-value-gt-MOST_STANDINGS : goal.returns-then-value-gt-MOST_STANDINGS

@@ -1,6 +1,5 @@
 -- `arguments::start` meets its contract. By definition.
 -- Assumes nothing.
-use borrow.Author.Rules.{rules}
 use Rattle.arguments.specs.Arguments.{none_seen}
 use Rattle.arguments.proofs.start.Goals as goal
 

@@ -2,7 +2,6 @@
 -- Assumes nothing.
 use mathlib.Core.Path.{sym, ◌∙◌}
 use Rattle.arguments.proofs.Tested.{is_query, is_sheet, is_check, is_draw, is_judge, is_help, is_unknown}
-use borrow.Author.Rules.{rules}
 use Rattle.arguments.proofs.verb_in.Goals as goal
 
 pub returns-then-same : goal.returns-then-same

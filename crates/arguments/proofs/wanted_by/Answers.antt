@@ -2,7 +2,6 @@
 -- Assumes nothing.
 use mathlib.Core.Path.{sym, ◌∙◌, ap}
 use Rattle.arguments.specs.inner.Wanted.{wanted_by}
-use borrow.Author.Rules.{rules}
 use Rattle.arguments.proofs.wanted_by.Goals as goal
 
 pub returns-in-Query : goal.returns-in-Query

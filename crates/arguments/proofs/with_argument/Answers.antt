@@ -4,7 +4,6 @@ use mathlib.Core.Path.{sym, ◌∙◌, ap}
 use Rattle.arguments.specs.Arguments.{with_argument}
 use Rattle.arguments.proofs.Changes.{option_allowance, no_allowance, option_dot, no_dot}
 use Rattle.arguments.specs.declared.Kind.{Kind}
-use borrow.Author.Rules.{rules}
 use Rattle.arguments.proofs.with_argument.Goals as goal
 
 pub returns-then-wanted_by : goal.returns-then-wanted_by

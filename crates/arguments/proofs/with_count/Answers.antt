@@ -2,14 +2,14 @@
 -- Assumes nothing.
 use mathlib.Core.Path.{sym, ◌∙◌, ap}
 use Rattle.arguments.specs.Arguments.{with_count}
-use Rattle.arguments.specs.declared.Count.{Count}
-use borrow.Author.Rules.{rules}
+use Prim.Native.Nat.{ℕ}
+use Rattle.std.specs.Prelude.{Option}
 use Rattle.arguments.proofs.with_count.Goals as goal
 
-pub returns-in-Of : goal.returns-in-Of
+pub returns-in-Some : goal.returns-in-Some
 unfolding with_count
-returns-in-Of c = ap (λ (n : Count). with_count c.args.s n c.args.i) (sym c.in-Of.is)
+returns-in-Some c = ap (λ (n : Option ℕ). with_count c.args.s n c.args.i) (sym c.in-Some.is)
 
-pub returns-in-Nothing : goal.returns-in-Nothing
+pub returns-in-None : goal.returns-in-None
 unfolding with_count
-returns-in-Nothing c = c.wrong_at.ensures ∙ ap (λ (n : Count). with_count c.args.s n c.args.i) (sym c.in-Nothing.is)
+returns-in-None c = c.wrong_at.ensures ∙ ap (λ (n : Option ℕ). with_count c.args.s n c.args.i) (sym c.in-None.is)

@@ -2,7 +2,6 @@
 -- Assumes nothing.
 use mathlib.Core.Path.{◌∙◌}
 use Rattle.arguments.proofs.Changes.{file_query, file_none, file_sheet, file_second, file_third}
-use borrow.Author.Rules.{rules}
 use Rattle.arguments.proofs.with_file.Goals as goal
 
 pub returns-then-most-gt0 : goal.returns-then-most-gt0

@@ -2,7 +2,6 @@
 -- Assumes nothing.
 use mathlib.Core.Path.{refl}
 use Rattle.arguments.specs.Arguments.{wrong_at}
-use borrow.Author.Rules.{rules}
 use Rattle.arguments.proofs.wrong_at.Goals as goal
 
 pub returns : goal.returns

@@ -1,54 +1,17 @@
--- `bits::any_member` meets its contract. The invariant: k is in a row of the members left exactly where it is in a row of the
--- members. The measure is the count of ones of the set left.
+-- `bits::any_member` meets its contract: `any` over the members is `some` over their list.
 -- Assumes nothing.
-use Prim.Native.Nat.{ℕ, ◌^◌, ◌<◌}
-use native.Mathlib.Omega.{arith}
-use mathlib.Core.Path.{◌≡◌, refl, sym, ◌∙◌, ap}
-use mathlib.Core.Bool.{Bool}
-use mathlib.Core.List.{List}
-use borrow.Author.Rules.{rules}
-use lib.Count.{ones, count_trailing_zeros, trailing_le}
+use Rattle.std.proofs.Common.{rules, ◌∙◌}
+use Rattle.std.proofs.lemmas.Iterator.Search.{any_from_yields_List}
+use Rattle.std.proofs.lemmas.Iterator.Consumers.{YieldsList-from_first}
 use Rattle.claims.specs.Query.{bit}
-use Rattle.bits.specs.Sets.{row, any_member}
-use Rattle.bits.proofs.Lowest.{Lowest, lowest}
-use Rattle.bits.proofs.Walk.{some_end, some_hit, some_miss}
+use Rattle.bits.specs.Sets.{members, row, any_member}
+use Rattle.bits.specs.Walk.{members_left}
+use Rattle.kat.proofs.Chains.{some_any}
 use Rattle.bits.proofs.any_member.Goals as goal
-
--- the test of a member
-abbrev passes : List ℕ → ℕ → ℕ → Bool
-passes rows k p = bit k (row rows p)
-
-pub loop-left-init : goal.loop-left-init
-loop-left-init c = (search rules, refl)
-
-pub overflow_cast-p : goal.overflow_cast-p
-overflow_cast-p c = omega (arith, trailing_le 64 c.loop-left.left)
-
-pub returns-then-member : goal.returns-then-member
-unfolding any_member
-returns-then-member c =
-    let at = c.loop-left in
-    let a = c.args in
-    sym
-    (some_hit (passes a.rows.now a.k) 64 (lowest 64 c.loop-left.left c.loop-left.invariant.0 c.loop-left-test.true) (ap (bit c.args.k) (sym c.word.ensures) ∙ sym c.member.ensures ∙ c.if-member.true))
-    ∙ at.invariant.1
-
-pub loop-left-smaller : goal.loop-left-smaller
-loop-left-smaller c = omega (arith, (lowest 64 c.loop-left.left c.loop-left.invariant.0 c.loop-left-test.true).count)
-
-pub loop-left-preserved : goal.loop-left-preserved
-unfolding any_member
-loop-left-preserved c =
-    let l = lowest 64 c.loop-left.left c.loop-left.invariant.0 c.loop-left-test.true in
-    let at = c.loop-left in
-    let a = c.args in (
-      omega (arith, l.less),
-      some_miss (passes a.rows.now a.k) 64 l (ap (bit c.args.k) (sym c.word.ensures) ∙ sym c.member.ensures ∙ c.if-member.false) ∙ at.invariant.1,
-    )
 
 pub returns : goal.returns
 unfolding any_member
 returns c =
-    let at = c.loop-left in
-    let a = c.args in
-    sym (some_end (passes a.rows.now a.k) 64 at.left c.loop-left-test.false) ∙ at.invariant.1
+    any_from_yields_List (λ p. bit c.args.k (row c.args.rows.now p)) _ _ _ c.any.ensures.ran
+    (YieldsList-from_first (λ x. x) members_left (members c.args.s) c.of.ensures) (λ x b q k. search rules)
+    ∙ some_any _ (members c.args.s)

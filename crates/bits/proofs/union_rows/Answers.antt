@@ -1,37 +1,37 @@
--- `bits::union_rows` meets its contract. The invariant: the union so far with the rows of the members left is the whole union. The
--- measure is the count of ones of the set left.
+-- `bits::union_rows` meets its contract. With the members so far taken up, the union of any others is that of all of them.
 -- Assumes nothing.
-use Prim.Native.Nat.{◌^◌, ◌<◌}
-use native.Mathlib.Omega.{arith}
-use mathlib.Core.Path.{◌≡◌, refl, sym, ◌∙◌}
-use borrow.Author.Rules.{rules}
-use lib.Bits.{bit_or}
-use lib.Count.{ones, trailing_le}
-use Rattle.bits.specs.Sets.{members, union_over, union_rows}
-use Rattle.bits.proofs.Lowest.{Lowest, lowest}
-use Rattle.bits.proofs.Walk.{union_end, union_more}
+use Rattle.std.proofs.Common.{◌≡◌, refl, sym, ap, subst, ◌∙◌, ℕ, List, [], ◌∷◌, ◌++◌, append_assoc, append-nil, rules}
+use Rattle.std.specs.Int.Bits.{bit_or}
+use lib.Bits.{or_zero_l, or_zero_r}
+use Rattle.bits.proofs.Bit.{or_assoc}
+use Rattle.std.proofs.lemmas.Fn.{fold_over}
+use Rattle.std.proofs.lemmas.Iterator.Consumers.{YieldsList-from_first}
+use Rattle.std.specs.Iterator.{YieldsFirst}
+use Rattle.bits.specs.Sets.{members, row, union_over, union_rows}
+use Rattle.bits.specs.Walk.{members_left}
 use Rattle.bits.proofs.union_rows.Goals as goal
 
-pub loop-left-init : goal.loop-left-init
-unfolding union_rows
-loop-left-init c = (search rules, refl)
+-- the union of the rows of ys is `all`, whatever follows
+abbrev Taken : List ℕ → List ℕ → ℕ → Type 0
+Taken rows ys all = (zs : List ℕ) → bit_or all (union_over rows zs) ≡ union_over rows (ys ++ zs)
 
-pub overflow_cast-k : goal.overflow_cast-k
-overflow_cast-k c = omega (arith, trailing_le 64 c.loop-left.left)
+module _ (rows : List ℕ) where
+  taken_none : Taken rows [] 0
+  taken_none zs = or_zero_l (union_over rows zs)
 
-pub loop-left-smaller : goal.loop-left-smaller
-loop-left-smaller c = omega (arith, (lowest 64 c.loop-left.left c.loop-left.invariant.0 c.loop-left-test.true).count)
+  taken_more : (ys : List ℕ) (all k : ℕ) → Taken rows ys all → Taken rows (ys ++ (k ∷ [])) (bit_or all (row rows k))
+  unfolding union_over
+  taken_more ys all k h zs =
+      or_assoc all (row rows k) (union_over rows zs) ∙ h (k ∷ zs) ∙ ap (union_over rows) (sym (append_assoc ys (k ∷ []) zs))
 
-pub loop-left-preserved : goal.loop-left-preserved
-loop-left-preserved c =
-    let l = lowest 64 c.loop-left.left c.loop-left.invariant.0 c.loop-left-test.true in
-    let at = c.loop-left in
-    let rows = c.args.rows.now in (
-      omega (arith, l.less),
-      union_more rows 64 l at.all c.word-all.result c.word-all.ensures ∙ at.invariant.1,
-    )
+  taken_all : (ys : List ℕ) (all : ℕ) → Taken rows ys all → all ≡ union_over rows ys
+  unfolding union_over
+  taken_all ys all h = sym (or_zero_r all) ∙ h [] ∙ ap (union_over rows) (append-nil ys)
 
 pub returns : goal.returns
+unfolding union_rows
 returns c =
-    let at = c.loop-left in
-    sym (union_end c.args.rows.now 64 at.left at.all c.loop-left-test.false) ∙ at.invariant.1
+    let rows = c.args.rows.now in
+    taken_all rows (members c.args.s) c.fold.result
+    (fold_over (YieldsFirst members_left) (λ k. k) _ (Taken rows) _ (λ ys all k r q h f. let next : r ≡ bit_or all (row rows k) = search rules in (subst (Taken rows (ys ++ (k ∷ []))) (sym next) (taken_more rows ys all k h), search rules))
+    c.of.result (members c.args.s) 0 c.fold.result (YieldsList-from_first (λ k. k) members_left (members c.args.s) c.of.ensures).runs (taken_none rows) c.fold.ensures.ran)

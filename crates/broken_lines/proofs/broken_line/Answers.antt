@@ -1,22 +1,22 @@
 -- `broken_lines::broken_line` meets its contract. By the case of the judgement.
 -- Assumes nothing.
+use Rattle.graph.proofs.Judging.{judged_as}
 use mathlib.Core.Path.{sym, ap}
 use Rattle.broken_lines.specs.BrokenLine.{broken_line}
-use borrow.Author.Rules.{rules}
 use Rattle.broken_lines.proofs.broken_line.Goals as goal
 
-pub returns-in-Holds : goal.returns-in-Holds
+pub returns-in-Ok-Holds : goal.returns-in-Ok-Holds
 unfolding broken_line
-returns-in-Holds c = ap broken_line (sym c.in-Holds.is)
+returns-in-Ok-Holds c = ap broken_line (sym (judged_as c.in-Ok-Holds.is (rw c.in-Ok-Holds.is at c.in-Ok-Holds.field-0-is)))
 
-pub returns-in-BreaksAt : goal.returns-in-BreaksAt
+pub returns-in-Ok-BreaksAt : goal.returns-in-Ok-BreaksAt
 unfolding broken_line
-returns-in-BreaksAt c = ap broken_line (sym c.in-BreaksAt.is)
+returns-in-Ok-BreaksAt c = ap broken_line (sym (judged_as c.in-Ok-BreaksAt.is (rw c.in-Ok-BreaksAt.is at c.in-Ok-BreaksAt.field-0-is)))
 
-pub returns-in-BreaksFrom : goal.returns-in-BreaksFrom
+pub returns-in-Ok-BreaksFrom : goal.returns-in-Ok-BreaksFrom
 unfolding broken_line
-returns-in-BreaksFrom c = ap broken_line (sym c.in-BreaksFrom.is)
+returns-in-Ok-BreaksFrom c = ap broken_line (sym (judged_as c.in-Ok-BreaksFrom.is (rw c.in-Ok-BreaksFrom.is at c.in-Ok-BreaksFrom.field-0-is)))
 
-pub returns-in-Refused : goal.returns-in-Refused
+pub returns-in-Err : goal.returns-in-Err
 unfolding broken_line
-returns-in-Refused c = ap broken_line (sym c.in-Refused.is)
+returns-in-Err c = ap broken_line (sym c.in-Err.is)

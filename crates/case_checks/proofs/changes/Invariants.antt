@@ -6,7 +6,4 @@ use borrow.Author.Rules.{rules}
 use Rattle.case_checks.proofs.changes.Given as goal
 
 abbrev pub invariant-loop-b : goal.invariant-loop-b
-invariant-loop-b l = (l.b ≤ 255) × (l.buffer ≡ l.initial.buffer)
-
-abbrev pub decreases-loop-b : goal.decreases-loop-b
-decreases-loop-b l = 255 - l.b
+invariant-loop-b l = (l.buffer ≡ l.initial.buffer)

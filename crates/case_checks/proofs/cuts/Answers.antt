@@ -8,5 +8,5 @@ use lib.ListN.{length}
 use borrow.Author.Rules.{rules}
 use Rattle.case_checks.proofs.cuts.Goals as goal
 
-pub slice_bounds-answer-end : goal.slice_bounds-answer-end
-slice_bounds-answer-end c = sym (length-take-le _ _ (omega arith))
+pub slice_bounds-answer_of-end : goal.slice_bounds-answer_of-end
+slice_bounds-answer_of-end c = sym (length-take-le _ _ (omega arith))

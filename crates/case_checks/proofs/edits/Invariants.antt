@@ -6,7 +6,4 @@ use borrow.Author.Rules.{rules}
 use Rattle.case_checks.proofs.edits.Given as goal
 
 abbrev pub invariant-loop-i : goal.invariant-loop-i
-invariant-loop-i l = (l.i ≤ l.n) × (l.buffer ≡ l.initial.buffer)
-
-abbrev pub decreases-loop-i : goal.decreases-loop-i
-decreases-loop-i l = l.n - l.i
+invariant-loop-i l = (l.buffer ≡ l.initial.buffer)

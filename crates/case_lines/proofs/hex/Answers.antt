@@ -1,6 +1,5 @@
 use mathlib.Core.Path.{sym, ◌∙◌}
 use Rattle.case_lines.proofs.FieldLaws.{hex_none, hex_some}
-use borrow.Author.Rules.{rules}
 use Rattle.case_lines.proofs.hex.Goals as goal
 
 pub returns-then-no_bytes : goal.returns-then-no_bytes

@@ -1,10 +1,10 @@
-use Prim.Native.Nat.{◌-◌, ◌*◌, ◌≤◌}
+use Prim.Native.Nat.{ℕ, ◌*◌, ◌≤◌, ◌<◌}
 use native.Mathlib.Omega.{arith}
-use mathlib.Core.Path.{◌≡◌}
-use lib.ListN.{length, drop}
-use Rattle.case_lines.specs.Fields.{hex_pairs}
+use mathlib.Core.Path.{◌≡◌, subst}
+use lib.ListN.{length}
+use Rattle.case_lines.specs.Fields.{Puts, hex_pairs}
 use Rattle.case_lines.proofs.FieldLaws.{pairs_more, pairs_space, pairs_end}
-use Rattle.case_lines.proofs.Putting.{Left, left_more, left_none, left_full, puts_one}
+use Rattle.case_lines.proofs.Putting.{left_more, left_none, left_full, puts_one}
 use borrow.Author.Rules.{rules}
 use Rattle.case_lines.proofs.hex_pairs.Goals as goal
 
@@ -24,7 +24,12 @@ pub loop-used-preserved : goal.loop-used-preserved
 loop-used-preserved c =
     let at = c.loop-used in
     let t = c.args.text.now in
-    (omega arith, search rules, left_more _ _ (pairs_more t at.used _ (omega arith) c.if-text-used-eq32.false c.hex_byte.ensures) at.invariant.2 (puts_one _ _ _ c.loop-used-test.true))
+    let h : at.used < length at.to = omega arith in
+    (omega arith, search rules, left_more _ _ (pairs_more t at.used _ (omega arith) c.if-text-used-eq32.false c.hex_byte.ensures) at.invariant.2 (puts_one _ _ _ h))
 
 pub returns : goal.returns
-returns c = left_full _ c.loop-used-test.false c.loop-used.invariant.2
+returns c =
+    let at = c.loop-used in
+    let h : length at.to ≤ at.used = omega arith in
+    let e : at.used ≡ length at.to = omega arith in
+    subst (λ (k : ℕ). Puts c.args.to.now 0 (hex_pairs c.args.text.now) k at.to) e (left_full _ h at.invariant.2)

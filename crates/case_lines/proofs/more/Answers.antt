@@ -2,7 +2,6 @@
 -- Assumes nothing.
 use borrow.Author.Tests.{lt-ltb, le-ltb}
 use Rattle.case_lines.specs.Fields.{with_digit}
-use borrow.Author.Rules.{rules}
 use Rattle.case_lines.proofs.more.Goals as goal
 
 pub returns-then-value-gt1000000000 : goal.returns-then-value-gt1000000000

@@ -2,7 +2,6 @@
 -- Assumes nothing.
 use native.Mathlib.Omega.{arith}
 use Rattle.case_lines.proofs.FieldLaws.{dash_first, dash_empty}
-use borrow.Author.Rules.{rules}
 use Rattle.case_lines.proofs.no_bytes.Goals as goal
 
 pub returns-then-text-eq0 : goal.returns-then-text-eq0

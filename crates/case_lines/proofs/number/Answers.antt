@@ -1,10 +1,8 @@
 -- `case_lines::number` meets its contract. It goes over at most 20 digits: the number so far and the digits that are left are the whole.
 -- Assumes nothing.
-use Prim.Native.Nat.{◌-◌, ◌≤◌}
 use native.Mathlib.Omega.{arith}
-use mathlib.Core.Path.{refl}
-use Rattle.case_lines.proofs.FieldLaws.{Left, number_start, number_more, number_under, number_over, number_end, front_length}
-use borrow.Author.Rules.{rules}
+use mathlib.Core.Path.{◌≡◌, refl, sym, ◌∙◌}
+use Rattle.case_lines.proofs.FieldLaws.{number_start, number_more, number_under, number_over, number_end, front_length}
 use Rattle.case_lines.proofs.number.Goals as goal
 
 pub loop-i-init : goal.loop-i-init
@@ -49,4 +47,5 @@ returns c =
     let a = c.args in
     let at = c.loop-i in
     let e = number_end a.n a.text.now at.i at.value (omega (arith, front_length a.n a.text.now)) at.invariant.1 in
-    (omega arith, e.0, e.1)
+    let all : at.i ≡ 20 = omega arith in
+    (omega arith, sym all ∙ e.0, e.1)

@@ -1,8 +1,3 @@
-use Prim.Native.Nat.{◌-◌}
-use native.Mathlib.Omega.{arith}
-use mathlib.Core.Path.{◌≡◌}
-use lib.ListN.{length}
-use Rattle.case_lines.specs.Lines.{left, Begun}
 use Rattle.case_lines.proofs.LineLaws.{begun_start, scan_more, scan_end, scan_past, scan_over}
 use borrow.Author.Rules.{rules}
 use Rattle.case_lines.proofs.scan.Goals as goal

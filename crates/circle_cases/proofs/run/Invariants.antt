@@ -7,7 +7,4 @@ use borrow.Author.Rules.{rules}
 use Rattle.circle_cases.proofs.run.Given as goal
 
 abbrev pub invariant-loop-place : goal.invariant-loop-place
-invariant-loop-place l = (l.place ≤ 1048576) × (length l.input ≡ length l.initial.input) × (length l.text ≡ length l.initial.text) × (length l.words ≡ length l.initial.words) × (length l.buffer ≡ length l.initial.buffer) × (length l.graph ≡ length l.initial.graph) × (length l.counts ≡ length l.initial.counts)
-
-abbrev pub decreases-loop-place : goal.decreases-loop-place
-decreases-loop-place l = 1048576 - l.place
+invariant-loop-place l = (length l.input ≡ length l.initial.input) × (length l.text ≡ length l.initial.text) × (length l.words ≡ length l.initial.words) × (length l.buffer ≡ length l.initial.buffer) × (length l.graph ≡ length l.initial.graph) × (length l.counts ≡ length l.initial.counts)

@@ -5,7 +5,6 @@ use native.Mathlib.Omega.{arith}
 use lib.ListN.{length, drop, length-drop}
 use lib.Seq.{take_all}
 use Rattle.dot.proofs.Lines.{text_whole}
-use borrow.Author.Rules.{rules}
 use Rattle.dot.proofs.dot.Goals as goal
 
 pub returns : goal.returns

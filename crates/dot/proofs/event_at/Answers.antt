@@ -2,7 +2,6 @@
 -- Assumes nothing.
 use native.Mathlib.Omega.{arith}
 use Rattle.dot.proofs.Listing.{event_tag, event_cut}
-use borrow.Author.Rules.{rules}
 use Rattle.dot.proofs.event_at.Goals as goal
 
 pub returns-then-graph-lt4 : goal.returns-then-graph-lt4

@@ -1,12 +1,9 @@
 -- `dot::events` meets its contract. The events counted and those that are left are all.
 -- Assumes nothing.
-use Prim.Native.Nat.{◌+◌, ◌-◌, ◌*◌, ◌≤◌}
 use native.Mathlib.Omega.{arith}
-use mathlib.Core.Path.{◌≡◌, sym, ◌∙◌, ap}
-use lib.ListN.{length, drop}
-use Rattle.dot.specs.DotText.{atoms_in}
+use mathlib.Core.Path.{sym, ◌∙◌, ap}
+use lib.ListN.{length}
 use Rattle.dot.proofs.Listing.{event_within, event_more, event_none}
-use borrow.Author.Rules.{rules}
 use Rattle.dot.proofs.events.Goals as goal
 
 pub loop-at-init : goal.loop-at-init

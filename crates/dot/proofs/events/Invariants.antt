@@ -1,12 +1,9 @@
 -- `dot::events` meets its contract. The events counted and those that are left are all.
 -- Assumes nothing.
 use Prim.Native.Nat.{◌+◌, ◌-◌, ◌*◌, ◌≤◌}
-use native.Mathlib.Omega.{arith}
-use mathlib.Core.Path.{◌≡◌, sym, ◌∙◌, ap}
+use mathlib.Core.Path.{◌≡◌}
 use lib.ListN.{length, drop}
 use Rattle.dot.specs.DotText.{atoms_in}
-use Rattle.dot.proofs.Listing.{event_within, event_more, event_none}
-use borrow.Author.Rules.{rules}
 use Rattle.dot.proofs.events.Given as goal
 
 abbrev pub invariant-loop-at : goal.invariant-loop-at

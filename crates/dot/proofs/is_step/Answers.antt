@@ -1,7 +1,6 @@
 -- `dot::is_step` meets its contract. By the tests in their order.
 -- Assumes nothing.
 use Rattle.dot.proofs.Steps.{step_none, step_other, step_last, step_next}
-use borrow.Author.Rules.{rules}
 use Rattle.dot.proofs.is_step.Goals as goal
 
 pub returns-then-word-i : goal.returns-then-word-i

@@ -2,7 +2,6 @@
 -- Assumes nothing.
 use Rattle.print_line.proofs.Putting.{puts_append, puts_bytes}
 use Rattle.dot.specs.DotText.{edge_line}
-use borrow.Author.Rules.{rules}
 use Rattle.dot.proofs.put_edge.Goals as goal
 
 pub returns : goal.returns

@@ -1,13 +1,9 @@
 -- `dot::put_edges` meets its contract. The invariant: the edges that are left, put into the memory as it is, are all of them put into the memory at
 -- the start.
 -- Assumes nothing.
-use Prim.Native.Nat.{◌-◌, ◌≤◌}
 use native.Mathlib.Omega.{arith}
-use lib.ListN.{length, drop}
-use Rattle.print_line.proofs.Pieces.{Left, left_begin}
-use Rattle.dot.specs.DotText.{edge_lines, edges_in}
+use Rattle.print_line.proofs.Pieces.{left_begin}
 use Rattle.dot.proofs.Lines.{edges_more, edges_end}
-use borrow.Author.Rules.{rules}
 use Rattle.dot.proofs.put_edges.Goals as goal
 
 pub loop-field-init : goal.loop-field-init

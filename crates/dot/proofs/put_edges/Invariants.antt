@@ -2,12 +2,9 @@
 -- the start.
 -- Assumes nothing.
 use Prim.Native.Nat.{◌-◌, ◌≤◌}
-use native.Mathlib.Omega.{arith}
 use lib.ListN.{length, drop}
-use Rattle.print_line.proofs.Pieces.{Left, left_begin}
+use Rattle.print_line.proofs.Pieces.{Left}
 use Rattle.dot.specs.DotText.{edge_lines, edges_in}
-use Rattle.dot.proofs.Lines.{edges_more, edges_end}
-use borrow.Author.Rules.{rules}
 use Rattle.dot.proofs.put_edges.Given as goal
 
 abbrev pub invariant-loop-field : goal.invariant-loop-field

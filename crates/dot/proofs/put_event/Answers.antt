@@ -2,7 +2,6 @@
 -- Assumes nothing.
 use Rattle.print_line.proofs.Putting.{puts_append}
 use Rattle.dot.specs.DotText.{event_line}
-use borrow.Author.Rules.{rules}
 use Rattle.dot.proofs.put_event.Goals as goal
 
 pub returns : goal.returns

@@ -1,15 +1,11 @@
 -- `dot::put_events` meets its contract. The invariant: the events that are left, put into the memory as it is, are all of them put into the memory at
 -- the start.
 -- Assumes nothing.
-use Prim.Native.Nat.{◌+◌, ◌-◌, ◌≤◌}
 use native.Mathlib.Omega.{arith}
 use mathlib.Core.Path.{sym, ◌∙◌}
-use lib.ListN.{length, drop}
-use Rattle.print_line.proofs.Pieces.{Left, left_begin}
-use Rattle.dot.specs.DotText.{event_lines, atoms_in}
+use Rattle.print_line.proofs.Pieces.{left_begin}
 use Rattle.dot.proofs.Listing.{event_within}
 use Rattle.dot.proofs.Lines.{events_more, events_end}
-use borrow.Author.Rules.{rules}
 use Rattle.dot.proofs.put_events.Goals as goal
 
 pub loop-out-init : goal.loop-out-init

@@ -1,7 +1,6 @@
 -- `dot::put_style` meets its contract. One text or the other.
 -- Assumes nothing.
 use Rattle.dot.proofs.Lines.{style_solid, style_dashed}
-use borrow.Author.Rules.{rules}
 use Rattle.dot.proofs.put_style.Goals as goal
 
 pub returns-then-step : goal.returns-then-step

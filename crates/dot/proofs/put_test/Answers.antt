@@ -3,7 +3,6 @@
 use mathlib.Core.Path.{sym, ◌∙◌}
 use Rattle.print_line.proofs.Putting.{puts_bytes}
 use Rattle.dot.proofs.Lines.{test_holds, test_fails}
-use borrow.Author.Rules.{rules}
 use Rattle.dot.proofs.put_test.Goals as goal
 
 pub returns-then-member : goal.returns-then-member

@@ -1,15 +1,10 @@
 -- `dot::put_tests` meets its contract. The invariant: the tests that are left, put into the memory as it is, are all of them put into the memory at the
 -- start.
 -- Assumes nothing.
-use Prim.Native.Nat.{◌-◌, ◌≤◌}
 use native.Mathlib.Omega.{arith}
 use mathlib.Core.Path.{refl}
-use Rattle.kat.specs.Lists.{upto}
-use Rattle.claims.specs.GraphWriting.{joined}
-use Rattle.print_line.proofs.Pieces.{Left, range_more, range_end}
-use Rattle.dot.specs.DotText.{tests_text}
+use Rattle.print_line.proofs.Pieces.{range_more, range_end}
 use Rattle.dot.proofs.Lines.{a_test, tests_begin}
-use borrow.Author.Rules.{rules}
 use Rattle.dot.proofs.put_tests.Goals as goal
 
 pub loop-i-init : goal.loop-i-init

@@ -1,18 +1,10 @@
--- `draw_bytes::graph_length` meets its contract. The invariant: what was counted, and the length of what is left, is the length of all. The
--- measure is what is left of the relations.
+-- `draw_bytes::graph_length` meets its contract. The invariant: what was counted, and the length of what is left, is the length of all.
 -- Assumes nothing.
-use Prim.Native.Nat.{ℕ, ◌+◌, ◌*◌, ◌-◌, ◌≤◌}
 use native.Mathlib.Omega.{arith}
-use mathlib.Core.Path.{◌≡◌}
-use mathlib.Core.List.{List}
-use lib.ListN.{length}
-use Rattle.kat.specs.Lists.{upto}
-use Rattle.claims.specs.GraphWriting.{joined}
 use Rattle.draw_rows.specs.Rows.{table_at}
-use Rattle.draw_bytes.specs.Bytes.{relation_bytes, bytes_of}
+use Rattle.draw_bytes.specs.Bytes.{relation_bytes}
 use Rattle.print_line.proofs.Pieces.{count_more, count_end}
 use Rattle.draw_bytes.proofs.Relations.{graph_count_begin}
-use borrow.Author.Rules.{rules}
 use Rattle.draw_bytes.proofs.graph_length.Goals as goal
 
 pub loop-r-init : goal.loop-r-init

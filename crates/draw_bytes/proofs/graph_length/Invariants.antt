@@ -1,8 +1,6 @@
--- `draw_bytes::graph_length` meets its contract. The invariant: what was counted, and the length of what is left, is the length of all. The
--- measure is what is left of the relations.
+-- `draw_bytes::graph_length` meets its contract. The invariant: what was counted, and the length of what is left, is the length of all.
 -- Assumes nothing.
-use Prim.Native.Nat.{ℕ, ◌+◌, ◌*◌, ◌-◌, ◌≤◌}
-use native.Mathlib.Omega.{arith}
+use Prim.Native.Nat.{ℕ, ◌+◌, ◌*◌, ◌≤◌}
 use mathlib.Core.Path.{◌≡◌}
 use mathlib.Core.List.{List}
 use lib.ListN.{length}
@@ -10,15 +8,9 @@ use Rattle.kat.specs.Lists.{upto}
 use Rattle.claims.specs.GraphWriting.{joined}
 use Rattle.draw_rows.specs.Rows.{table_at}
 use Rattle.draw_bytes.specs.Bytes.{relation_bytes, bytes_of}
-use Rattle.print_line.proofs.Pieces.{count_more, count_end}
-use Rattle.draw_bytes.proofs.Relations.{graph_count_begin}
-use borrow.Author.Rules.{rules}
 use Rattle.draw_bytes.proofs.graph_length.Given as goal
 
 abbrev pub invariant-loop-r : goal.invariant-loop-r
 invariant-loop-r l =
     (l.r ≤ l.relations) × (l.sum ≤ 1020 + 97920 * l.r)
     × ((bs : List ℕ) → l.sum + length (joined (relation_bytes l.n (table_at l.tables)) (upto l.r l.relations)) ≡ length (bytes_of bs l.n (table_at l.tables) l.relations))
-
-abbrev pub decreases-loop-r : goal.decreases-loop-r
-decreases-loop-r l = l.relations - l.r

@@ -2,7 +2,6 @@
 -- Assumes nothing.
 use Rattle.claims.specs.GraphWriting.{edge_field, edge_of}
 use Rattle.draw_bytes.proofs.Pieces.{edge_field_lem, puts_field}
-use borrow.Author.Rules.{rules}
 use Rattle.draw_bytes.proofs.put_edge.Goals as goal
 
 pub returns : goal.returns

@@ -1,16 +1,12 @@
 -- `draw_bytes::put_edges` meets its contract. The invariant: the relations that are left, put into the memory as it is, are all of them put into
--- the memory at the start. The measure is what is left of the relations.
+-- the memory at the start.
 -- Assumes nothing.
-use Prim.Native.Nat.{◌-◌, ◌≤◌}
 use native.Mathlib.Omega.{arith}
 use mathlib.Core.Path.{refl}
-use Rattle.kat.specs.Lists.{upto}
-use Rattle.claims.specs.GraphWriting.{joined}
 use Rattle.draw_rows.specs.Rows.{table_at}
-use Rattle.draw_bytes.specs.Bytes.{relation_bytes, edges_bytes}
-use Rattle.print_line.proofs.Pieces.{Left, range_more, range_end}
+use Rattle.draw_bytes.specs.Bytes.{relation_bytes}
+use Rattle.print_line.proofs.Pieces.{range_more, range_end}
 use Rattle.draw_bytes.proofs.Relations.{edges_begin}
-use borrow.Author.Rules.{rules}
 use Rattle.draw_bytes.proofs.put_edges.Goals as goal
 
 pub loop-r-init : goal.loop-r-init

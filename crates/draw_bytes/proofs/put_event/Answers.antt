@@ -2,7 +2,6 @@
 -- Assumes nothing.
 use Rattle.claims.specs.GraphWriting.{event_field}
 use Rattle.draw_bytes.proofs.Pieces.{event_field_lem, puts_field}
-use borrow.Author.Rules.{rules}
 use Rattle.draw_bytes.proofs.put_event.Goals as goal
 
 pub returns : goal.returns

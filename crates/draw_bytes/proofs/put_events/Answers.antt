@@ -1,15 +1,11 @@
 -- `draw_bytes::put_events` meets its contract. The invariant: the events that are left, put into the memory as it is, are all of them put into
--- the memory at the start. The measure is what is left of the events.
+-- the memory at the start.
 -- Assumes nothing.
-use Prim.Native.Nat.{◌-◌, ◌≤◌}
 use native.Mathlib.Omega.{arith}
 use mathlib.Core.Path.{ap}
-use Rattle.kat.specs.Lists.{upto}
-use Rattle.claims.specs.GraphWriting.{joined, event_field}
-use Rattle.draw_bytes.specs.Fields.{events_bytes}
-use Rattle.print_line.proofs.Pieces.{Left, range_more, range_end}
+use Rattle.claims.specs.GraphWriting.{event_field}
+use Rattle.print_line.proofs.Pieces.{range_more, range_end}
 use Rattle.draw_bytes.proofs.Pieces.{an_event, events_begin}
-use borrow.Author.Rules.{rules}
 use Rattle.draw_bytes.proofs.put_events.Goals as goal
 
 pub loop-i-init : goal.loop-i-init

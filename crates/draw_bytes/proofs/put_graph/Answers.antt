@@ -1,7 +1,6 @@
 -- `draw_bytes::put_graph` meets its contract: the events, and then the edges.
 -- Assumes nothing.
 use Rattle.draw_bytes.proofs.Relations.{puts_graph}
-use borrow.Author.Rules.{rules}
 use Rattle.draw_bytes.proofs.put_graph.Goals as goal
 
 pub returns : goal.returns

@@ -1,7 +1,6 @@
 -- `draw_bytes::put_relation` meets its contract: its rows are put.
 -- Assumes nothing.
 use Rattle.draw_bytes.proofs.Relations.{puts_relation}
-use borrow.Author.Rules.{rules}
 use Rattle.draw_bytes.proofs.put_relation.Goals as goal
 
 pub returns : goal.returns

@@ -1,14 +1,9 @@
 -- `draw_bytes::put_row` meets its contract. The invariant: the edges to the members that are left, put into the memory as it is, are all of them
 -- put into the memory at the start. The measure is the count of ones of the set left.
 -- Assumes nothing.
-use Prim.Native.Nat.{◌^◌, ◌<◌}
 use native.Mathlib.Omega.{arith}
-use lib.Count.{ones, trailing_le}
-use Rattle.claims.specs.GraphWriting.{joined}
-use Rattle.bits.specs.Sets.{members}
-use Rattle.bits.proofs.Lowest.{Lowest, lowest}
-use Rattle.draw_bytes.specs.Fields.{row_bytes}
-use Rattle.print_line.proofs.Pieces.{Left}
+use lib.Count.{trailing_le}
+use Rattle.bits.proofs.Lowest.{lowest}
 use Rattle.draw_bytes.proofs.Pieces.{an_edge, row_begin, set_more, set_end}
 use borrow.Author.Rules.{rules}
 use Rattle.draw_bytes.proofs.put_row.Goals as goal

@@ -2,15 +2,12 @@
 -- put into the memory at the start. The measure is the count of ones of the set left.
 -- Assumes nothing.
 use Prim.Native.Nat.{◌^◌, ◌<◌}
-use native.Mathlib.Omega.{arith}
-use lib.Count.{ones, trailing_le}
+use lib.Count.{ones}
 use Rattle.claims.specs.GraphWriting.{joined}
 use Rattle.bits.specs.Sets.{members}
-use Rattle.bits.proofs.Lowest.{Lowest, lowest}
 use Rattle.draw_bytes.specs.Fields.{row_bytes}
 use Rattle.print_line.proofs.Pieces.{Left}
-use Rattle.draw_bytes.proofs.Pieces.{an_edge, row_begin, set_more, set_end}
-use borrow.Author.Rules.{rules}
+use Rattle.draw_bytes.proofs.Pieces.{an_edge}
 use Rattle.draw_bytes.proofs.put_row.Given as goal
 
 abbrev pub invariant-loop-left : goal.invariant-loop-left

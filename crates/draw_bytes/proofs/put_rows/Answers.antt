@@ -1,15 +1,11 @@
 -- `draw_bytes::put_rows` meets its contract. The invariant: the rows that are left, put into the memory as it is, are all of them put into the
--- memory at the start. The measure is what is left of the rows.
+-- memory at the start.
 -- Assumes nothing.
-use Prim.Native.Nat.{◌-◌, ◌≤◌}
 use native.Mathlib.Omega.{arith}
 use mathlib.Core.Path.{ap}
-use Rattle.kat.specs.Lists.{upto}
-use Rattle.claims.specs.GraphWriting.{joined}
-use Rattle.draw_bytes.specs.Fields.{row_bytes, rows_bytes}
-use Rattle.print_line.proofs.Pieces.{Left, range_more, range_end}
+use Rattle.draw_bytes.specs.Fields.{row_bytes}
+use Rattle.print_line.proofs.Pieces.{range_more, range_end}
 use Rattle.draw_bytes.proofs.Pieces.{a_row, rows_begin}
-use borrow.Author.Rules.{rules}
 use Rattle.draw_bytes.proofs.put_rows.Goals as goal
 
 pub loop-x-init : goal.loop-x-init

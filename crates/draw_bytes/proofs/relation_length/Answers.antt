@@ -1,7 +1,6 @@
 -- `draw_bytes::relation_length` meets its contract: its rows are counted.
 -- Assumes nothing.
 use Rattle.draw_bytes.proofs.Relations.{relation_length}
-use borrow.Author.Rules.{rules}
 use Rattle.draw_bytes.proofs.relation_length.Goals as goal
 
 pub returns : goal.returns

@@ -1,17 +1,12 @@
--- `draw_bytes::rows_length` meets its contract. The invariant: what was counted, and the length of what is left, is the length of all. The
--- measure is what is left of the rows.
+-- `draw_bytes::rows_length` meets its contract. The invariant: what was counted, and the length of what is left, is the length of all.
 -- Assumes nothing.
-use Prim.Native.Nat.{ℕ, ◌+◌, ◌*◌, ◌-◌, ◌≤◌}
 use native.Mathlib.Omega.{arith}
-use mathlib.Core.Path.{◌≡◌, ◌∙◌, ap}
+use mathlib.Core.Path.{◌∙◌, ap}
 use lib.ListN.{length}
-use Rattle.kat.specs.Lists.{upto}
-use Rattle.claims.specs.GraphWriting.{joined}
-use Rattle.draw_bytes.specs.Fields.{row_bytes, rows_bytes}
+use Rattle.draw_bytes.specs.Fields.{row_bytes}
 use Rattle.print_line.proofs.Pieces.{count_more, count_end}
 use Rattle.draw_bytes.proofs.Pieces.{a_row}
 use Rattle.draw_bytes.proofs.Relations.{rows_count_begin}
-use borrow.Author.Rules.{rules}
 use Rattle.draw_bytes.proofs.rows_length.Goals as goal
 
 pub loop-x-init : goal.loop-x-init

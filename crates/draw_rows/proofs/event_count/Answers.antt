@@ -3,7 +3,6 @@
 use mathlib.Core.Path.{◌∙◌, ap, sym}
 use Rattle.draw_rows.specs.Rows.{event_count}
 use Rattle.draw_rows.proofs.Steps.{events_alone, events_ring, events_line}
-use borrow.Author.Rules.{rules}
 use Rattle.draw_rows.proofs.event_count.Goals as goal
 
 pub returns-then-size-lt2 : goal.returns-then-size-lt2

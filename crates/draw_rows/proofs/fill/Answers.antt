@@ -1,10 +1,9 @@
--- `draw_rows::fill` meets its contract. The invariant: the relations so far are filled. The measure is what is left of the tables.
+-- `draw_rows::fill` meets its contract. The invariant: the relations so far are filled.
 -- Assumes nothing.
-use Prim.Native.Nat.{◌-◌, ◌≤◌}
 use native.Mathlib.Omega.{arith}
-use mathlib.Core.Path.{◌≡◌, ◌∙◌}
-use lib.ListN.{length, length-set}
-use Rattle.draw_rows.proofs.Tables.{Filled, filled_more}
+use mathlib.Core.Path.{◌∙◌}
+use lib.ListN.{length-set}
+use Rattle.draw_rows.proofs.Tables.{filled_more}
 use borrow.Author.Rules.{rules}
 use Rattle.draw_rows.proofs.fill.Goals as goal
 

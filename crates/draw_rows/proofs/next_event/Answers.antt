@@ -1,7 +1,6 @@
 -- `draw_rows::next_event` meets its contract.
 -- Assumes nothing.
 use Rattle.draw_rows.proofs.Steps.{next_first, next_on}
-use borrow.Author.Rules.{rules}
 use Rattle.draw_rows.proofs.next_event.Goals as goal
 
 pub returns-then-x-n : goal.returns-then-x-n

@@ -1,7 +1,6 @@
 -- `draw_rows::relation_rows` meets its contract: the steps, and the rounds where the relation is closed.
 -- Assumes nothing.
 use Rattle.draw_rows.proofs.Steps.{rows_closed, rows_open}
-use borrow.Author.Rules.{rules}
 use Rattle.draw_rows.proofs.relation_rows.Goals as goal
 
 pub returns-then-closed : goal.returns-then-closed

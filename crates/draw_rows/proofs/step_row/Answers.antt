@@ -2,7 +2,6 @@
 -- Assumes nothing.
 use native.Mathlib.Omega.{arith}
 use Rattle.draw_rows.proofs.Steps.{step_past, step_other, step_on}
-use borrow.Author.Rules.{rules}
 use Rattle.draw_rows.proofs.step_row.Goals as goal
 
 pub returns-then-word-at : goal.returns-then-word-at

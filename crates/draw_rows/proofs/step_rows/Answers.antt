@@ -1,11 +1,9 @@
 -- `draw_rows::step_rows` meets its contract. The invariant: what is left of the rows, filled in the memory as it is, is all of them filled in
--- the memory at the start. The measure is what is left of the rows.
+-- the memory at the start.
 -- Assumes nothing.
-use Prim.Native.Nat.{◌-◌, ◌≤◌}
 use native.Mathlib.Omega.{arith}
-use mathlib.Core.Path.{◌≡◌, sym, ◌∙◌}
-use lib.ListN.{length, length-set}
-use Rattle.memory.specs.Memory.{changed, words}
+use mathlib.Core.Path.{sym, ◌∙◌}
+use lib.ListN.{length-set}
 use Rattle.memory.proofs.Words.{fill_begin, fill_more, fill_end}
 use Rattle.draw_rows.specs.Rows.{step_row}
 use borrow.Author.Rules.{rules}

@@ -2,7 +2,6 @@
 -- Assumes nothing.
 use native.Mathlib.Omega.{arith}
 use Rattle.draw_rows.proofs.Tables.{inside_table, blank_table}
-use borrow.Author.Rules.{rules}
 use Rattle.draw_rows.proofs.table.Goals as goal
 
 pub returns-then-r-tables : goal.returns-then-r-tables

@@ -1,6 +1,5 @@
 -- `graph::judge_codes` meets its contract: an array of 4,096 codes is as long as that.
 -- Assumes nothing.
-use borrow.Author.Rules.{rules}
 use Rattle.graph.proofs.judge_codes.Goals as goal
 
 pub returns : goal.returns

@@ -6,7 +6,6 @@ use Rattle.side_items.specs.Items.{items_of}
 use Rattle.graph_judge.specs.Machine.{performed_all, beginning}
 use lib.ListN.{take, length-take, length-drop, length-append}
 use Rattle.graph.proofs.Answered.{items_read}
-use borrow.Author.Rules.{rules}
 use Rattle.graph.proofs.judge_first.Goals as goal
 
 pub slice_bounds-find_args-end : goal.slice_bounds-find_args-end

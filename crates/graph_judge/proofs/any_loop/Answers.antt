@@ -2,7 +2,6 @@
 -- Assumes nothing.
 use mathlib.Core.Path.{◌∙◌, ap}
 use Rattle.rows.specs.Rows.{lowest_loop}
-use borrow.Author.Rules.{rules}
 use Rattle.graph_judge.proofs.any_loop.Goals as goal
 
 pub returns : goal.returns

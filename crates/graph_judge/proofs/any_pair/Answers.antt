@@ -1,7 +1,6 @@
 -- `graph_judge::any_pair` meets its contract: the table on top against a blank one.
 -- Assumes nothing.
 use Rattle.graph_judge.proofs.Ends.{pair_read}
-use borrow.Author.Rules.{rules}
 use Rattle.graph_judge.proofs.any_pair.Goals as goal
 
 pub returns : goal.returns

@@ -1,7 +1,6 @@
 -- `graph_judge::apart` meets its contract: the upper two tables.
 -- Assumes nothing.
 use Rattle.graph_judge.proofs.Ends.{apart_read}
-use borrow.Author.Rules.{rules}
 use Rattle.graph_judge.proofs.apart.Goals as goal
 
 pub returns : goal.returns

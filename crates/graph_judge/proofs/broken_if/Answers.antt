@@ -1,7 +1,6 @@
 -- `graph_judge::broken_if` meets its contract: the state behind a line.
 -- Assumes nothing.
 use Rattle.graph_judge.proofs.Ends.{broken_state}
-use borrow.Author.Rules.{rules}
 use Rattle.graph_judge.proofs.broken_if.Goals as goal
 
 pub returns : goal.returns

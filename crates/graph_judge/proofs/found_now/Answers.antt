@@ -1,7 +1,6 @@
 -- `graph_judge::found_now` meets its contract: the state behind the claim.
 -- Assumes nothing.
 use Rattle.graph_judge.proofs.Ends.{found_state}
-use borrow.Author.Rules.{rules}
 use Rattle.graph_judge.proofs.found_now.Goals as goal
 
 pub returns : goal.returns

@@ -5,7 +5,6 @@ use Rattle.memory.specs.Memory.{zeros}
 use Rattle.rows.specs.Rows.{blank}
 use Rattle.graph_tables.specs.Machine.{Judging}
 use Rattle.graph_judge.specs.Machine.{beginning}
-use borrow.Author.Rules.{rules}
 use Rattle.graph_judge.proofs.judge.Goals as goal
 
 pub returns : goal.returns

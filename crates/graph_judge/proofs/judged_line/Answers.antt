@@ -5,7 +5,6 @@ use lib.Dec.{ltb}
 use Rattle.graph_tables.specs.Machine.{judging}
 use Rattle.graph_judge.specs.Machine.{broken_if, found_now}
 use Rattle.graph_judge.proofs.Ends.{ends_never, ends_empty, ends_irreflexive, ends_left, ends_include, ends_claim_empty, ends_claim_irreflexive, ends_other}
-use borrow.Author.Rules.{rules}
 use Rattle.graph_judge.proofs.judged_line.Goals as goal
 
 pub returns-in-131 : goal.returns-in-131

@@ -2,7 +2,6 @@
 -- Assumes nothing.
 use native.Mathlib.Omega.{arith}
 use Rattle.graph_judge.proofs.Ends.{kept_room, kept_full}
-use borrow.Author.Rules.{rules}
 use Rattle.graph_judge.proofs.keep.Goals as goal
 
 pub returns-then-n-lt-MOST_LETS : goal.returns-then-n-lt-MOST_LETS

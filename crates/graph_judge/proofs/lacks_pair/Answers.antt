@@ -1,7 +1,6 @@
 -- `graph_judge::lacks_pair` meets its contract: two edges in a row against one.
 -- Assumes nothing.
 use Rattle.graph_judge.proofs.Ends.{closed_read}
-use borrow.Author.Rules.{rules}
 use Rattle.graph_judge.proofs.lacks_pair.Goals as goal
 
 pub returns : goal.returns

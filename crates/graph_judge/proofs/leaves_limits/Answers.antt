@@ -1,7 +1,6 @@
 -- `graph_judge::leaves_limits` meets its contract: a relation against what of it goes from T to U.
 -- Assumes nothing.
 use Rattle.graph_judge.proofs.Ends.{limits_read}
-use borrow.Author.Rules.{rules}
 use Rattle.graph_judge.proofs.leaves_limits.Goals as goal
 
 pub returns : goal.returns

@@ -4,7 +4,6 @@ use native.Mathlib.Omega.{arith}
 use mathlib.Core.Path.{◌∙◌}
 use Rattle.graph_tables.specs.Machine.{judging}
 use Rattle.graph_judge.proofs.Ends.{does_operate, does_keep, does_end}
-use borrow.Author.Rules.{rules}
 use Rattle.graph_judge.proofs.perform.Goals as goal
 
 pub returns-then-k-lt-LINE : goal.returns-then-k-lt-LINE

@@ -5,7 +5,6 @@ use mathlib.Core.Path.{sym, ◌∙◌, ap}
 use Rattle.graph_tables.specs.Machine.{judging}
 use Rattle.graph_judge.specs.Machine.{broken_if}
 use Rattle.graph_judge.proofs.Ends.{onward_state, ends_bare, ends_within, ends_closed, ends_past}
-use borrow.Author.Rules.{rules}
 use Rattle.graph_judge.proofs.relation_line.Goals as goal
 
 pub returns-then-k-lt-WITHIN_LINE : goal.returns-then-k-lt-WITHIN_LINE

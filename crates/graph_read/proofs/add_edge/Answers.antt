@@ -3,7 +3,6 @@
 -- Assumes nothing.
 use native.Mathlib.Omega.{arith}
 use mathlib.Core.Path.{sym, ◌∙◌}
-use borrow.Author.Rules.{rules}
 use Rattle.graph_read.proofs.Contents.{edge_long, edge_unknown, edge_from_none, edge_to_none, edge_repeated, edge_taken}
 use Rattle.graph_read.proofs.add_edge.Goals as goal
 

@@ -2,7 +2,6 @@
 -- nothing of the graph, and else the atom stored behind the others lists the graph with the event.
 -- Assumes nothing.
 use native.Mathlib.Omega.{arith}
-use borrow.Author.Rules.{rules}
 use Rattle.graph_read.proofs.Contents.{event_long, event_unknown, event_late, event_many, event_taken}
 use Rattle.graph_read.proofs.add_event.Goals as goal
 

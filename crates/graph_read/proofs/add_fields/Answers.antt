@@ -1,11 +1,8 @@
 -- `graph_read::add_fields` meets its contract. The invariant: what the fields before place `at` make is held, and what is left to read is the
 -- whole reading. The measure is how many bytes are left.
 -- Assumes nothing.
-use Prim.Native.Nat.{◌-◌}
 use native.Mathlib.Omega.{arith}
-use lib.ListN.{length}
-use borrow.Author.Rules.{rules}
-use Rattle.graph_read.proofs.SoFar.{SoFar, so_far_none, so_far_end, so_far_wrong, so_far_on}
+use Rattle.graph_read.proofs.SoFar.{so_far_none, so_far_end, so_far_wrong, so_far_on}
 use Rattle.graph_read.proofs.add_fields.Goals as goal
 
 pub loop-at-init : goal.loop-at-init
@@ -31,7 +28,7 @@ loop-at-smaller c =
     let l = c.loop-at in
     let f = c.add_field in
     let s =
-    so_far_on l.invariant (omega arith) f.new.listed c.in-On.is (f.ensures l.invariant.graph l.invariant.held) in
+    so_far_on l.invariant (omega arith) f.new.listed c.in-Some.is (f.ensures l.invariant.graph l.invariant.held) in
     omega (arith, s.1, s.0.inside)
 
 pub loop-at-preserved : goal.loop-at-preserved
@@ -39,7 +36,7 @@ loop-at-preserved c =
     let l = c.loop-at in
     let f = c.add_field in
     let s =
-    so_far_on l.invariant (omega arith) f.new.listed c.in-On.is (f.ensures l.invariant.graph l.invariant.held) in
+    so_far_on l.invariant (omega arith) f.new.listed c.in-Some.is (f.ensures l.invariant.graph l.invariant.held) in
     s.0
 
 pub returns : goal.returns

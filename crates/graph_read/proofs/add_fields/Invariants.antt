@@ -2,10 +2,8 @@
 -- whole reading. The measure is how many bytes are left.
 -- Assumes nothing.
 use Prim.Native.Nat.{◌-◌}
-use native.Mathlib.Omega.{arith}
 use lib.ListN.{length}
-use borrow.Author.Rules.{rules}
-use Rattle.graph_read.proofs.SoFar.{SoFar, so_far_none, so_far_end, so_far_wrong, so_far_on}
+use Rattle.graph_read.proofs.SoFar.{SoFar}
 use Rattle.graph_read.proofs.add_fields.Given as goal
 
 abbrev pub invariant-loop-at : goal.invariant-loop-at

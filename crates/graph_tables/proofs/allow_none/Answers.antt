@@ -2,7 +2,6 @@
 -- Assumes nothing.
 use Rattle.rows.specs.Rows.{reflexive}
 use Rattle.graph_tables.proofs.Steps.{changed_with}
-use borrow.Author.Rules.{rules}
 use Rattle.graph_tables.proofs.allow_none.Goals as goal
 
 pub returns : goal.returns

@@ -2,7 +2,6 @@
 -- Assumes nothing.
 use Rattle.rows.specs.Rows.{composed}
 use Rattle.graph_tables.proofs.Steps.{merged_with}
-use borrow.Author.Rules.{rules}
 use Rattle.graph_tables.proofs.chain.Goals as goal
 
 pub returns : goal.returns

@@ -1,13 +1,12 @@
 -- `graph_tables::copy` meets its contract. The invariant: what is left of the rows, filled in the memory as it is, is all of them filled in the
--- memory at the start. The measure is what is left of the rows.
+-- memory at the start.
 -- Assumes nothing.
-use Prim.Native.Nat.{◌+◌, ◌-◌}
+use Prim.Native.Nat.{◌+◌}
 use native.Mathlib.Omega.{arith}
-use mathlib.Core.Path.{◌≡◌, refl, sym, ◌∙◌, ap}
-use lib.ListN.{length, get_or, length-set}
-use Rattle.memory.specs.Memory.{words, changed}
+use mathlib.Core.Path.{refl, sym, ◌∙◌, ap}
+use lib.ListN.{get_or, length-set}
+use Rattle.memory.specs.Memory.{changed}
 use Rattle.memory.proofs.Words.{fill_begin, fill_more, fill_end}
-use borrow.Author.Rules.{rules}
 use Rattle.graph_tables.proofs.copy.Goals as goal
 
 pub loop-x-init : goal.loop-x-init

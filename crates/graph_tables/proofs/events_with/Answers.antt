@@ -5,7 +5,6 @@ use native.Mathlib.Omega.{arith}
 use lib.ListN.{length, drop, length-drop}
 use lib.Seq.{take_all}
 use Rattle.graph_tables.proofs.Steps.{events_read}
-use borrow.Author.Rules.{rules}
 use Rattle.graph_tables.proofs.events_with.Goals as goal
 
 pub returns : goal.returns

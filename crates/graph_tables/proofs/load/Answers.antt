@@ -2,7 +2,6 @@
 -- Assumes nothing.
 use native.Mathlib.Omega.{arith}
 use Rattle.graph_tables.proofs.Places.{inside_same, past_blank}
-use borrow.Author.Rules.{rules}
 use Rattle.graph_tables.proofs.load.Goals as goal
 
 pub returns-then-i-mem : goal.returns-then-i-mem

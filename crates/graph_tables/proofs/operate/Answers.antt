@@ -5,7 +5,6 @@ use mathlib.Core.Path.{sym, ◌∙◌, ap}
 use Rattle.rows.specs.Rows.{diagonal}
 use Rattle.graph_tables.specs.Machine.{judging, pushed}
 use Rattle.graph_tables.proofs.Steps.{does_test, does_union, does_sequence, does_star, does_plus, does_optional, does_relation, does_let, does_nothing_low, does_nothing_between, does_nothing_high}
-use borrow.Author.Rules.{rules}
 use Rattle.graph_tables.proofs.operate.Goals as goal
 
 pub returns-in-6 : goal.returns-in-6

@@ -2,7 +2,6 @@
 -- Assumes nothing.
 use native.Mathlib.Omega.{arith}
 use Rattle.graph_tables.proofs.Steps.{pushed_room, pushed_full}
-use borrow.Author.Rules.{rules}
 use Rattle.graph_tables.proofs.push.Goals as goal
 
 pub returns-then-w-lt-MOST_WAITING : goal.returns-then-w-lt-MOST_WAITING

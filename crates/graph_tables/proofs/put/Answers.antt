@@ -3,7 +3,6 @@
 use native.Mathlib.Omega.{arith}
 use mathlib.Core.Path.{sym}
 use lib.Seq.{set_out}
-use borrow.Author.Rules.{rules}
 use Rattle.graph_tables.proofs.put.Goals as goal
 
 pub returns-else-i-mem : goal.returns-else-i-mem

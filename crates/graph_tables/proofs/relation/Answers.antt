@@ -4,7 +4,6 @@ use Prim.Native.Nat.{◌*◌}
 use native.Mathlib.Omega.{arith}
 use mathlib.Core.Path.{refl}
 use Rattle.graph_tables.proofs.Places.{relation_read, relation_none}
-use borrow.Author.Rules.{rules}
 use Rattle.graph_tables.proofs.relation.Goals as goal
 
 pub returns-then-r : goal.returns-then-r

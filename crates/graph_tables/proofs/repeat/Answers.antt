@@ -2,7 +2,6 @@
 -- Assumes nothing.
 use Rattle.rows.specs.Rows.{rounds}
 use Rattle.graph_tables.proofs.Steps.{changed_with}
-use borrow.Author.Rules.{rules}
 use Rattle.graph_tables.proofs.repeat.Goals as goal
 
 pub returns : goal.returns

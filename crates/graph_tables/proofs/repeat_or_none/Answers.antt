@@ -3,7 +3,6 @@
 use mathlib.Core.Path.{◌∙◌, ap}
 use Rattle.rows.specs.Rows.{reflexive, rounds}
 use Rattle.graph_tables.proofs.Steps.{changed_with}
-use borrow.Author.Rules.{rules}
 use Rattle.graph_tables.proofs.repeat_or_none.Goals as goal
 
 pub returns : goal.returns

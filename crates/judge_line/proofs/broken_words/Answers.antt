@@ -1,5 +1,4 @@
 use Rattle.judge_line.proofs.JudgedLaws.{words_line, words_none, words_claim}
-use borrow.Author.Rules.{rules}
 use Rattle.judge_line.proofs.broken_words.Goals as goal
 
 pub returns-then-line-gt0 : goal.returns-then-line-gt0

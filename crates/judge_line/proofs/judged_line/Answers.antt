@@ -1,7 +1,6 @@
 -- `judge_line::judged_line` meets its contract: the line is that of what the judgement says.
 -- Assumes nothing.
 use Rattle.judge_line.proofs.JudgedLaws.{as_said}
-use borrow.Author.Rules.{rules}
 use Rattle.judge_line.proofs.judged_line.Goals as goal
 
 pub returns : goal.returns

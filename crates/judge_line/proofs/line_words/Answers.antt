@@ -2,7 +2,6 @@ use mathlib.Core.List.{List, [], ◌∷◌, ◌++◌}
 use Prim.Native.Nat.{ℕ}
 use mathlib.Core.Path.{ap}
 use Rattle.print_line.proofs.Putting.{puts_append, puts_bytes}
-use borrow.Author.Rules.{rules}
 use Rattle.judge_line.proofs.line_words.Goals as goal
 
 pub returns : goal.returns

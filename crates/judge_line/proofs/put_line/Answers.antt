@@ -1,5 +1,4 @@
 use Rattle.print_line.proofs.Putting.{puts_append}
-use borrow.Author.Rules.{rules}
 use Rattle.judge_line.proofs.put_line.Goals as goal
 
 pub returns : goal.returns

@@ -1,17 +1,17 @@
 -- `judge_line::words` meets its contract. By the case of the judgement.
 -- Assumes nothing.
+use Rattle.graph.proofs.Judging.{judged_as}
 use Rattle.judge_line.proofs.JudgedLaws.{as_worded}
-use borrow.Author.Rules.{rules}
 use Rattle.judge_line.proofs.words.Goals as goal
 
-pub returns-in-Holds : goal.returns-in-Holds
-returns-in-Holds c = as_worded _ c.in-Holds.is c.broken_words.ensures
+pub returns-in-Ok-Holds : goal.returns-in-Ok-Holds
+returns-in-Ok-Holds c = as_worded _ (judged_as c.in-Ok-Holds.is (rw c.in-Ok-Holds.is at c.in-Ok-Holds.field-0-is)) c.broken_words.ensures
 
-pub returns-in-BreaksAt : goal.returns-in-BreaksAt
-returns-in-BreaksAt c = as_worded _ c.in-BreaksAt.is c.broken_words-in-BreaksAt.ensures
+pub returns-in-Ok-BreaksAt : goal.returns-in-Ok-BreaksAt
+returns-in-Ok-BreaksAt c = as_worded _ (judged_as c.in-Ok-BreaksAt.is (rw c.in-Ok-BreaksAt.is at c.in-Ok-BreaksAt.field-0-is)) c.broken_words-in-Ok-BreaksAt.ensures
 
-pub returns-in-BreaksFrom : goal.returns-in-BreaksFrom
-returns-in-BreaksFrom c = as_worded _ c.in-BreaksFrom.is c.broken_words-in-BreaksFrom.ensures
+pub returns-in-Ok-BreaksFrom : goal.returns-in-Ok-BreaksFrom
+returns-in-Ok-BreaksFrom c = as_worded _ (judged_as c.in-Ok-BreaksFrom.is (rw c.in-Ok-BreaksFrom.is at c.in-Ok-BreaksFrom.field-0-is)) c.broken_words-in-Ok-BreaksFrom.ensures
 
-pub returns-in-Refused : goal.returns-in-Refused
-returns-in-Refused c = as_worded _ c.in-Refused.is c.refusal.ensures
+pub returns-in-Err : goal.returns-in-Err
+returns-in-Err c = as_worded _ c.in-Err.is c.refusal.ensures

@@ -12,6 +12,3 @@ use Rattle.memory.proofs.copy.Given as goal
 abbrev pub invariant-loop-i : goal.invariant-loop-i
 invariant-loop-i l =
     (length l.to ≡ length l.initial.to) × (l.end ≡ min (length l.from) (length l.initial.to)) × (changed (λ k w. get_or l.from k 0) l.to l.i (length l.from) ≡ copied l.from l.initial.to)
-
-abbrev pub decreases-loop-i : goal.decreases-loop-i
-decreases-loop-i l = l.end - l.i

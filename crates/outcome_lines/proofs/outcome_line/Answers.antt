@@ -1,15 +1,18 @@
 -- `outcome_lines::outcome_line` meets its contract. By the case of the outcome.
 -- Assumes nothing.
-use Rattle.outcome_lines.proofs.OutcomeLines.{as_outcome, as_refuted}
+use Rattle.outcome_lines.proofs.OutcomeLines.{by_verdict, as_outcome, as_refuted}
 use borrow.Author.Rules.{rules}
 use Rattle.outcome_lines.proofs.outcome_line.Goals as goal
 
 pub returns-in-Proved : goal.returns-in-Proved
-returns-in-Proved c = as_outcome _ c.in-Proved.is c.proved_line.ensures
+returns-in-Proved c =
+    let e = by_verdict c.in-Ok.is c.in-Proved.is in
+    as_outcome _ e c.proved_line.ensures
 
 pub returns-in-Refuted : goal.returns-in-Refuted
 returns-in-Refuted c =
-    as_refuted _ _ c.in-Refuted.is c.word_in.ensures c.refuted_line.ensures
+    let e = by_verdict c.in-Ok.is c.in-Refuted.is in
+    as_refuted _ _ e c.word_in.ensures c.refuted_line.ensures
 
-pub returns-in-Refused : goal.returns-in-Refused
-returns-in-Refused c = as_outcome _ c.in-Refused.is c.refusal_line.ensures
+pub returns-in-Err : goal.returns-in-Err
+returns-in-Err c = as_outcome _ c.in-Err.is c.refusal_line.ensures

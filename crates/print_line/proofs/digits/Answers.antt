@@ -8,9 +8,9 @@ use lib.ListN.{set, length-set}
 use Prim.Native.Nat.{suc, ◌+◌, ◌-◌}
 use mathlib.Core.Path.{sym, ◌∙◌}
 use native.Mathlib.Omega.{arith}
-use Prim.Native.Nat.{ℕ, ◌^◌, ◌<◌, ◌≤◌}
+use Prim.Native.Nat.{◌≤◌}
 use mathlib.Core.Path.{◌≡◌}
-use lib.ListN.{length, drop}
+use lib.ListN.{drop}
 use Rattle.claims.specs.Printed.{digits_before, decimal}
 use borrow.Author.Rules.{rules}
 use Rattle.print_line.proofs.digits.Goals as goal

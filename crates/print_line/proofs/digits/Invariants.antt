@@ -1,18 +1,9 @@
 -- `print_line::digits` meets its contract. The digits that stand and those still to come are the whole number's; the number left falls.
 -- Assumes nothing.
-use lib.ListN.{drop_of_length-le, length-drop}
-use lib.Seq.{take_all}
-use mathlib.Core.Path.{ap}
-use Rattle.print_line.proofs.Decimals.{digit_more, digit_last, two_digits, fewer_digits}
-use lib.ListN.{set, length-set}
-use Prim.Native.Nat.{suc, ◌+◌, ◌-◌}
-use mathlib.Core.Path.{sym, ◌∙◌}
-use native.Mathlib.Omega.{arith}
 use Prim.Native.Nat.{ℕ, ◌^◌, ◌<◌, ◌≤◌}
 use mathlib.Core.Path.{◌≡◌}
 use lib.ListN.{length, drop}
 use Rattle.claims.specs.Printed.{digits_before, decimal}
-use borrow.Author.Rules.{rules}
 use Rattle.print_line.proofs.digits.Given as goal
 
 abbrev pub invariant-loop-left : goal.invariant-loop-left

@@ -1,7 +1,6 @@
 -- `print_line::proved_line` meets its contract. One piece after the other.
 -- Assumes nothing.
 use Rattle.print_line.proofs.Putting.{puts_append}
-use borrow.Author.Rules.{rules}
 use Rattle.print_line.proofs.proved_line.Goals as goal
 
 pub returns : goal.returns

@@ -1,6 +1,5 @@
 -- `print_line::put_byte` meets its contract: one byte where there is room, and else nothing.
 -- Assumes nothing.
-use borrow.Author.Rules.{rules}
 use Rattle.print_line.proofs.Putting.{puts_one, puts_none}
 use Rattle.print_line.proofs.put_byte.Goals as goal
 

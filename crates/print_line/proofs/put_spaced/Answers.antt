@@ -1,10 +1,8 @@
 -- `print_line::put_spaced` meets its contract. A space, and then the digits.
 -- Assumes nothing.
+use mathlib.Core.Path.{refl}
 use Rattle.print_line.proofs.Decimals.{puts_number}
-use borrow.Author.Rules.{rules}
 use Rattle.print_line.proofs.put_spaced.Goals as goal
 
 pub returns : goal.returns
-returns c =
-    puts_number _ c.put_byte-to.ensures c.put_text.ensures
-    c.digits-i.ensures.1
+returns c = puts_number _ c.put_byte-to.ensures c.put_decimal.ensures refl

@@ -2,7 +2,6 @@
 -- Assumes nothing.
 use Rattle.print_line.proofs.Putting.{puts_append}
 use Rattle.print_line.proofs.Decimals.{puts_as}
-use borrow.Author.Rules.{rules}
 use Rattle.print_line.proofs.refusal_line.Goals as goal
 
 pub returns : goal.returns

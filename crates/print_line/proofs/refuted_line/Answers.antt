@@ -1,7 +1,6 @@
 -- `print_line::refuted_line` meets its contract. One piece after the other.
 -- Assumes nothing.
 use Rattle.print_line.proofs.Putting.{puts_append}
-use borrow.Author.Rules.{rules}
 use Rattle.print_line.proofs.refuted_line.Goals as goal
 
 pub returns : goal.returns

@@ -2,7 +2,6 @@
 -- Assumes nothing.
 use Rattle.query.specs.inner.Counted.{facts_by}
 use mathlib.Core.Path.{refl}
-use borrow.Author.Rules.{rules}
 use Rattle.query.proofs.facts_by.Goals as goal
 
 pub returns : goal.returns

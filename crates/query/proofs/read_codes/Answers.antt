@@ -1,6 +1,5 @@
 -- `query::read_codes` meets its contract.
 -- Assumes nothing.
-use borrow.Author.Rules.{rules}
 use Rattle.query.proofs.read_codes.Goals as goal
 
 pub returns : goal.returns

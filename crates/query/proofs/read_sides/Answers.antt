@@ -1,6 +1,5 @@
 -- `query::read_sides` meets its contract.
 -- Assumes nothing.
-use borrow.Author.Rules.{rules}
 use Rattle.query.proofs.read_sides.Goals as goal
 
 pub returns : goal.returns

@@ -3,15 +3,14 @@
 use native.Mathlib.Omega.{arith}
 use mathlib.Core.Path.{sym}
 use lib.Seq.{length-take-le}
-use borrow.Author.Rules.{rules}
 use Rattle.query.proofs.Limits.{sizes_told}
 use Rattle.query.proofs.sizes.Goals as goal
 
 pub slice_bounds-part-end : goal.slice_bounds-part-end
-slice_bounds-part-end c = sym (length-take-le _ _ (omega (arith, c.least-m.ensures)))
+slice_bounds-part-end c = sym (length-take-le _ _ (omega (arith, c.min-m.ensures)))
 
 pub returns : goal.returns
 returns c =
     let a = c.args in
-    sizes_told a.n c.least-m.result a.codes.now c.claimed_in-d.result c.sizes_of.result c.least-m.ensures c.claimed_in-d.ensures
+    sizes_told a.n c.min-m.result a.codes.now c.claimed_in-d.result c.sizes_of.result c.min-m.ensures c.claimed_in-d.ensures
     c.sizes_of.ensures

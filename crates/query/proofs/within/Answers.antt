@@ -1,7 +1,6 @@
 -- `query::within` meets its contract: what was counted tells the limits.
 -- Assumes nothing.
 use mathlib.Core.Path.{◌∙◌, ap}
-use borrow.Author.Rules.{rules}
 use Rattle.side_limits.specs.Sizes.{within_test}
 use Rattle.query.proofs.within.Goals as goal
 

@@ -1,15 +1,20 @@
 -- `read_bodies::code_behind` meets its contract: the code stands behind what was read, and an answer that is no tree is passed on.
 -- Assumes nothing.
-use Rattle.read_bodies.proofs.Parts.{failed, code_left, code_written}
-use borrow.Author.Rules.{rules}
-use borrow.Enum.Refused.{opened as unsealed}
+use Rattle.std.specs.Prelude.{◌≡◌, Ok, Err}
+use Rattle.std.proofs.Common.{subst}
+use Rattle.read_bodies.specs.inner.Parts.{Fits}
+use Rattle.read_bodies.proofs.Parts.{code_left, code_written}
+use Rattle.std.proofs.lemmas.Result.{err_from_is_err_and}
 use Rattle.read_bodies.proofs.code_behind.Goals as goal
 
-pub returns-in_default : goal.returns-in_default
-returns-in_default c = code_left _ (failed c.args.r (unsealed c.in_default.in_default-own.keys2)) _ _
-
-pub write-used-requires : goal.write-used-requires
-write-used-requires c = tt
+pub returns-in_err-g : goal.returns-in_err-g
+returns-in_err-g c =
+    let p = err_from_is_err_and c.from_residual.result c.from_residual.ensures.1 in
+    let w : c.args.r ≡ Err c.in_err-g.field-0.0 = c.in_err-g.was in
+    rw (p.1, p.2, w) (code_left c.in_err-g.field-0.0 _ _)
 
 pub returns : goal.returns
-returns c = code_written _ _ c.in-Got.is c.requires _ _ _ _ c.write-used.ensures
+returns c =
+    let w : c.args.r ≡ Ok c.in_ok-g.g = c.in_ok-g.was in
+    let h : Fits (Ok c.in_ok-g.g) = subst Fits w c.requires in
+    rw w (code_written c.in_ok-g.g h _ _ _ _ c.write-used.ensures)

@@ -4,7 +4,6 @@ use Rattle.claims.specs.Lines.{condition}
 use Rattle.claims.specs.Names.{test_uses}
 use Rattle.codes.specs.Codes.{test_codes}
 use Rattle.read_bodies.proofs.Parts.{code_fits, tree_read, code_read}
-use native.Mathlib.Omega.{arith}
 use Rattle.read_bodies.proofs.condition_then.Goals as goal
 
 pub code_behind-requires : goal.code_behind-requires

@@ -6,28 +6,14 @@ use native.Mathlib.Omega.{arith}
 use Rattle.read_next.proofs.Stores.{written_room}
 use Rattle.read_bodies.proofs.Bodies.{declaration_got}
 use Rattle.read_bodies.proofs.NextWords.{no_word, token_found, declared_missing}
-use borrow.Author.Rules.{rules}
 use borrow.Enum.Refused.{opened as unsealed}
 use Rattle.read_bodies.proofs.declaration.Goals as goal
-
-pub token_at-t-requires : goal.token_at-t-requires
-token_at-t-requires c = tt
-
-pub wrong-requires : goal.wrong-requires
-wrong-requires c = tt
 
 pub returns-in_default : goal.returns-in_default
 returns-in_default c =
     λ kind d.
-    let w = c.wrong.ensures in
-    let b = c in
-    rw w.0 (w.1, λ q m. ap (mapped kind) (declared_missing _ _ _ b.token_at-t.ensures (no_word b.token_at-t.result (unsealed b.in_default.in_default-own.keys2))))
-
-pub declaration_slip-slip-requires : goal.declaration_slip-slip-requires
-declaration_slip-slip-requires c = tt
-
-pub write-end-requires : goal.write-end-requires
-write-end-requires c = tt
+    let w = c.fail.ensures in
+    rw w.0 (w.1, λ q m. ap (mapped kind) (declared_missing _ _ _ c.token_at-t.ensures (no_word c.token_at-t.result (unsealed c.in_default.in_default-own.keys2))))
 
 pub returns : goal.returns
 returns c =

@@ -4,7 +4,6 @@ use Rattle.claims.specs.Lines.{expression}
 use Rattle.claims.specs.Names.{tree_uses}
 use Rattle.codes.specs.Codes.{tree_codes}
 use Rattle.read_bodies.proofs.Parts.{code_fits, tree_read, code_read}
-use native.Mathlib.Omega.{arith}
 use Rattle.read_bodies.proofs.expression_then.Goals as goal
 
 pub code_behind-requires : goal.code_behind-requires

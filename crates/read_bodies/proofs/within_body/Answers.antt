@@ -4,42 +4,18 @@ use Rattle.read_bodies.proofs.Bodies.{within_none, within_reserved, within_passe
 use Rattle.read_bodies.proofs.NextWords.{no_word, token_found, name_missing}
 use mathlib.Core.List.{[]}
 use native.Mathlib.Omega.{arith}
-use borrow.Author.Rules.{rules}
 use borrow.Enum.Refused.{opened as unsealed}
 use Rattle.read_bodies.proofs.within_body.Goals as goal
 
-pub token_at-t-requires : goal.token_at-t-requires
-token_at-t-requires c = tt
-
-pub wrong-requires : goal.wrong-requires
-wrong-requires c = tt
-
 pub returns-in_default : goal.returns-in_default
 returns-in_default c =
-    let w = c.wrong.ensures in
-    let b = c in
-    rw w.0 (w.1, λ q m. within_none _ (name_missing _ _ _ b.token_at-t.ensures (no_word b.token_at-t.result (unsealed b.in_default.in_default-own.keys2)) (λ n. n)))
-
-pub reserved-requires : goal.reserved-requires
-reserved-requires c = tt
-
-pub wrong-requires-then-reserved : goal.wrong-requires-then-reserved
-wrong-requires-then-reserved c = tt
+    let w = c.fail.ensures in
+    rw w.0 (w.1, λ q m. within_none _ (name_missing _ _ _ c.token_at-t.ensures (no_word c.token_at-t.result (unsealed c.in_default.in_default-own.keys2)) (λ n. n)))
 
 pub returns-then-reserved : goal.returns-then-reserved
 returns-then-reserved c =
-    let w = c.wrong-then-reserved.ensures in
-    let b = c in
-    rw w.0 (w.1, λ q m. within_reserved _ [] 0 _ 0 _ _ (token_found _ _ _ _ b.token_at-t.ensures b.in-Word.is) _ b.reserved.ensures b.if-reserved.true)
-
-pub find-c-requires : goal.find-c-requires
-find-c-requires c = tt
-
-pub slip_of-requires : goal.slip_of-requires
-slip_of-requires c = tt
-
-pub relation_number-requires : goal.relation_number-requires
-relation_number-requires c = tt
+    let w = c.fail-then-reserved.ensures in
+    rw w.0 (w.1, λ q m. within_reserved _ [] 0 _ 0 _ _ (token_found _ _ _ _ c.token_at-t.ensures c.in-Word.is) _ c.reserved.ensures c.if-reserved.true)
 
 pub limits-requires : goal.limits-requires
 limits-requires c =

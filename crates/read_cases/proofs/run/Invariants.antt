@@ -1,12 +1,9 @@
--- `read_cases::run` meets its contract. The number of cases that it may still take falls.
+-- `read_cases::run` meets its contract. The lent memory keeps its lengths.
 -- Assumes nothing.
 use mathlib.Core.Path.{◌≡◌}
 use lib.ListN.{length}
 use borrow.Author.Rules.{rules}
 use Rattle.read_cases.proofs.run.Given as goal
 
-abbrev pub invariant-loop-left : goal.invariant-loop-left
-invariant-loop-left l = (length l.part ≡ length l.initial.part) × (length l.text ≡ length l.initial.text)
-
-abbrev pub decreases-loop-left : goal.decreases-loop-left
-decreases-loop-left l = l.left
+abbrev pub invariant-loop : goal.invariant-loop
+invariant-loop l = (length l.part ≡ length l.initial.part) × (length l.text ≡ length l.initial.text)

@@ -2,7 +2,6 @@
 -- Assumes nothing.
 use mathlib.Core.Path.{ap, sym}
 use Rattle.read_declarations.specs.inner.Kinds.{by_slip}
-use borrow.Author.Rules.{rules}
 use Rattle.read_declarations.proofs.by_slip.Goals as goal
 
 pub returns-in-Clean : goal.returns-in-Clean

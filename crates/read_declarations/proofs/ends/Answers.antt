@@ -1,7 +1,6 @@
 -- `read_declarations::ends` meets its contract: the line ends where no token is found and byte 10 stands.
 -- Assumes nothing.
 use Rattle.read_declarations.proofs.LineEnds.{end_stands, end_missing}
-use borrow.Author.Rules.{rules}
 use borrow.Enum.Refused.{opened as unsealed}
 use Rattle.read_declarations.proofs.ends.Goals as goal
 

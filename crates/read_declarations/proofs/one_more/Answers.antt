@@ -1,7 +1,6 @@
 -- `read_declarations::one_more` meets its contract. No sum wraps, since no more is declared than may be.
 -- Assumes nothing.
 use Rattle.read_declarations.proofs.Declaring.{one_more_is}
-use borrow.Author.Rules.{rules}
 use Rattle.read_declarations.proofs.one_more.Goals as goal
 
 pub returns : goal.returns

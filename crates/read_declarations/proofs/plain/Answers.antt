@@ -1,14 +1,16 @@
 -- `read_declarations::plain` meets its contract: the check of the line says whether it is taken.
 -- Assumes nothing.
 use Rattle.read_declarations.specs.inner.Kinds.{plain_read}
-use mathlib.Core.Path.{sym, ap, ◌∙◌}
-use borrow.Author.Rules.{rules}
+use mathlib.Core.Path.{ap}
+use Rattle.std.proofs.lemmas.Result.{err_from_is_err_and}
 use Rattle.read_declarations.proofs.plain.Goals as goal
 
-pub returns-in-Fine : goal.returns-in-Fine
+pub returns : goal.returns
 unfolding plain_read
-returns-in-Fine c = ap (plain_read c.args.st c.args.claim) c.in-Fine.ensures
+returns c = ap (plain_read c.args.st c.args.claim) c.in_ok-used.ensures
 
-pub returns-in-Faulty : goal.returns-in-Faulty
+pub returns-in_err-used : goal.returns-in_err-used
 unfolding plain_read
-returns-in-Faulty c = ap (plain_read c.args.st c.args.claim) c.in-Faulty.ensures
+returns-in_err-used c =
+    let p = err_from_is_err_and c.from_residual.result c.from_residual.ensures.1 in
+    rw (p.1, p.2) (ap (plain_read c.args.st c.args.claim) c.in_err-used.ensures)

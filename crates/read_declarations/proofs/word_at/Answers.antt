@@ -4,7 +4,6 @@ use Rattle.read_bodies.specs.Bodies.{word_of}
 use Rattle.read_bodies.proofs.NextWords.{no_word}
 use Rattle.read_declarations.proofs.LineEnds.{no_key}
 use mathlib.Core.Path.{sym, ap, ◌∙◌}
-use borrow.Author.Rules.{rules}
 use borrow.Enum.Refused.{opened as unsealed}
 use Rattle.read_declarations.proofs.word_at.Goals as goal
 

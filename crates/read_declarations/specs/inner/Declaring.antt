@@ -1,7 +1,7 @@
 -- A line that declares a name: what it does to the state and to the table of names. A kind of name is known by the code of the first name
 -- of that kind: a test, a relation or a let. (Document 01, "The query".)
 -- Assumes nothing.
-use Rattle.std.specs.Prelude.{ℕ, ◌+◌, ◌<◌, ◌≡◌, false, cond, List, [], ◌∷◌, ◌++◌, eqb, leb, length}
+use Rattle.std.specs.Prelude.{Result, Ok, Err, ℕ, ◌+◌, ◌<◌, ◌≡◌, false, cond, List, [], ◌∷◌, ◌++◌, eqb, leb, length}
 use Rattle.std.proofs.Math.Option.{none}
 use Rattle.claims.specs.Bytes.{same}
 use Rattle.claims.specs.Tree.{Name, Line}
@@ -12,12 +12,9 @@ use Rattle.codes.specs.Codes.{code_of, A-TEST, A-RELATION, A-LET, MOST-TESTS, MO
 use Rattle.read_tokens.specs.declared.Key.{Key}
 use Rattle.read_names.specs.Keys.{entered}
 use Rattle.read_bodies.specs.Bodies.{Named}
+use Rattle.refusals.specs.declared.Reason.{Reason}
 use Rattle.refusals.specs.declared.Reason.TheVariants.{TooMany}
-use Rattle.read_declarations.specs.declared.LineCheck.{LineCheck}
-use Rattle.read_declarations.specs.declared.LineCheck.TheVariants.{Fine, Faulty}
 use Rattle.read_declarations.specs.declared.LineState.{LineState}
-use Rattle.read_declarations.specs.declared.LineRead.{LineRead}
-use Rattle.read_declarations.specs.declared.LineRead.TheVariants.{Taken, Refused}
 
 -- how many names of the kind the state counts, how many the lines of q declare, and how many there may be
 unfoldable pub count_of : ℕ → LineState → ℕ
@@ -46,14 +43,14 @@ one_more of u st =
     }
 
 -- a line that declares a name of the kind, by its check
-unfoldable pub declared_read : ℕ → LineState → LineCheck → LineRead
-declared_read of st (Fine u) = cond (leb (most_of of) (count_of of st)) (Refused TooMany) (Taken (one_more of u st))
-declared_read of st (Faulty w) = Refused w
+unfoldable pub declared_read : ℕ → LineState → Result ℕ Reason → Result LineState Reason
+declared_read of st (Ok u) = cond (leb (most_of of) (count_of of st)) (Err TooMany) (Ok (one_more of u st))
+declared_read of st (Err w) = Err w
 
 -- the table of names behind it, where the name has the key k
-unfoldable pub declared_names : Key → ℕ → LineState → LineCheck → List ℕ → List ℕ
-declared_names k of st (Fine u) names = cond (leb (most_of of) (count_of of st)) names (entered names st.names k (of + count_of of st))
-declared_names k of st (Faulty w) names = names
+unfoldable pub declared_names : Key → ℕ → LineState → Result ℕ Reason → List ℕ → List ℕ
+declared_names k of st (Ok u) names = cond (leb (most_of of) (count_of of st)) names (entered names st.names k (of + count_of of st))
+declared_names k of st (Err w) names = names
 
 -- what there is to know of a line that declares the name w of the kind, and no other
 pub record DeclaresName (of : ℕ) (w : Name) (l : Line) : Type 0 where

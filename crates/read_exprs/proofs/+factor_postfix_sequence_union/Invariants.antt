@@ -2,20 +2,11 @@
 -- brackets may still be opened and how many bytes of the line are left, which both fall at a bracket, and then which reader it is. The laws are
 -- those of chains, of postfixes and of brackets; here they are cited.
 -- Assumes nothing.
-use mathlib.Core.Path.{refl, sym, ◌∙◌}
-use Prim.Native.Nat.{ℕ, ◌+◌, ◌-◌, ◌*◌, ◌<◌}
-use native.Mathlib.Omega.{arith}
+use Prim.Native.Nat.{◌+◌, ◌-◌, ◌*◌}
 use lib.ListN.{length}
 use Rattle.read_tests.specs.Places.{opened}
-use Rattle.read_next.proofs.Next.{mark_stands}
-use Rattle.read_tests.proofs.Loops.{loop_fault, loop_onward, loop_got, loop_turn}
-use Rattle.read_tests.proofs.Chains.{Waiting, chain_start}
-use Rattle.read_tests.proofs.Bracketed.{inner_fault, inner_open, inner_closed}
-use Rattle.read_tests.proofs.Rounds.{round_bracket, round_deep}
-use Rattle.read_exprs.proofs.PostfixRuns.{postfix_fault, postfix_room, postfix_got}
-use Rattle.read_exprs.proofs.Trees.{union_chain, unions, sequence_chain, sequences, factors}
-use borrow.Author.Rules.{rules}
-use borrow.Enum.Refused.{opened as unsealed}
+use Rattle.read_tests.proofs.Chains.{Waiting}
+use Rattle.read_exprs.proofs.Trees.{union_chain, sequence_chain}
 use Rattle.read_exprs.proofs.+factor_postfix_sequence_union.Given as goal
 
 abbrev pub decreases-union : goal.decreases-union

@@ -1,6 +1,6 @@
 -- The postfixes `*`, `+`, `?` behind a factor. (Document 01, "The query".)
 -- Assumes nothing.
-use Rattle.std.specs.Prelude.{ℕ, suc, ◌+◌, ◌*◌, ◌-◌, ◌≤◌, ◌<◌, ◌≡◌, List, [], ◌∷◌, ◌++◌, length, drop}
+use Rattle.std.specs.Prelude.{Option, Some, None, ℕ, suc, ◌+◌, ◌*◌, ◌-◌, ◌≤◌, ◌<◌, ◌≡◌, List, [], ◌∷◌, ◌++◌, length, drop}
 use Rattle.std.proofs.lemmas.List.Edits.{sets}
 use Rattle.claims.specs.Tokens.{tokens}
 use Rattle.claims.specs.Grammar.{got, postfix_more}
@@ -25,10 +25,10 @@ pub record SignStands (s : List ℕ) (at : ℕ) (r : Sign) : Type 0 where
   pub within : r.at ≤ length s
   pub fewer : length (tokens (drop r.at s)) < length (tokens (drop at s))
 
--- the code of a postfix, or 0 where none stands next
-pub record SignNext (s : List ℕ) (at : ℕ) (r : Sign) : Type 0 where
-  pub none : r.code ≡ 0 → (f d : ℕ) (e : Tree) → postfix_more (suc f) d e (tokens (drop at s)) ≡ got e (tokens (drop at s))
-  pub some : (r.code ≡ 0 → ⊥) → SignStands s at r
+-- the postfix that stands next, if one does
+abbrev pub SignNext : List ℕ → ℕ → Option Sign → Type 0
+SignNext s at (Some r) = SignStands s at r
+SignNext s at None = (f d : ℕ) (e : Tree) → postfix_more (suc f) d e (tokens (drop at s)) ≡ got e (tokens (drop at s))
 
 -- all postfixes that stand next were read from the place p to the place r, and their codes stored, whichever tree stands before them
 pub record PostfixesNext (s : List ℕ) (p : Place) (before after : List ℕ) (r : Place) : Type 0 where

@@ -1,29 +1,23 @@
--- `read_names::reserved` meets its contract. The invariant: the words that are left have the key exactly if one of all has it.
+-- `read_names::reserved` meets its contract. Some word that is no name has the key.
 -- Assumes nothing.
-use Prim.Native.Nat.{◌-◌, ◌≤◌}
-use native.Mathlib.Omega.{arith}
-use mathlib.Core.Path.{ap, ◌≡◌, sym, ◌∙◌}
-use borrow.Author.Rules.{rules}
-use Rattle.read_names.specs.Keys.{same_key, reserved_key}
-use Rattle.read_names.proofs.Keys.{reserved_here, reserved_next, reserved_end, reserved_from, reserved_start}
+use Rattle.std.proofs.Common.{◌≡◌, refl, ◌∙◌, rules}
+use Rattle.std.proofs.lemmas.Iterator.{YieldsList-from_slice}
+use Rattle.std.proofs.lemmas.Iterator.Search.{any_from_yields_List}
+use Rattle.std.specs.List.{list_any}
+use Rattle.claims.specs.Tokens.{reserved_words}
+use Rattle.read_tokens.specs.declared.Key.{Key}
+use Rattle.read_names.specs.Keys.{same_key, word_key, reserved_key}
+use Rattle.read_names.specs.Keywords.{place_of, all_words}
 use Rattle.read_names.proofs.reserved.Goals as goal
 
-pub loop-n-init : goal.loop-n-init
-loop-n-init c = (omega arith, reserved_start _)
-
-pub returns-then-same_key : goal.returns-then-same_key
-returns-then-same_key c =
-    let l = c.loop-n in
-    reserved_here _ l.n (omega arith)
-    (ap (same_key _) (sym c.word_key.ensures) ∙ (sym c.same_key.ensures ∙ c.if-same_key.true)) ∙ l.invariant.1
-
-pub loop-n-preserved : goal.loop-n-preserved
-loop-n-preserved c =
-    let l = c.loop-n in (
-      omega arith,
-      reserved_next _ l.n (omega arith)
-          (ap (same_key _) (sym c.word_key.ensures) ∙ (sym c.same_key.ensures ∙ c.if-same_key.false)) ∙ l.invariant.1,
-    )
+-- the places of all words are those of the document's list
+some_word : (k : Key) → list_any (λ w. same_key k (word_key (place_of w))) all_words ≡ reserved_key k
+unfolding word_key reserved_key reserved_words
+some_word k = refl
 
 pub returns : goal.returns
-returns c = reserved_end _ _ c.loop-n-test.false ∙ c.loop-n.invariant.1
+unfolding same_key
+returns c =
+    any_from_yields_List (λ w. same_key c.args.k (word_key (place_of w))) _ _ _ c.any.ensures.ran
+    (YieldsList-from_slice all_words (search rules)) (λ x b q k. search rules)
+    ∙ some_word c.args.k

@@ -2,7 +2,6 @@
 -- Assumes nothing.
 use mathlib.Core.Path.{◌∙◌}
 use Rattle.read_next.proofs.Next.{mark_elsewhere, mark_none, mark_here, mark_differs}
-use borrow.Author.Rules.{rules}
 use borrow.Enum.Refused.{opened as unsealed}
 use Rattle.read_next.proofs.mark_next.Goals as goal
 

@@ -2,29 +2,24 @@
 -- what is left of the line.
 -- Assumes nothing.
 use native.Mathlib.Omega.{arith}
-use Rattle.read_next.proofs.Next.{Passed, run_start, run_more, run_end, mark_stands, mark_missing}
-use Prim.Native.Nat.{◌-◌}
-use lib.ListN.{length}
+use Rattle.read_next.proofs.Next.{run_start, run_more, run_end, mark_stands, mark_missing}
 use Rattle.read_next.proofs.marks_next.Goals as goal
 
-pub loop-at-init : goal.loop-at-init
-loop-at-init c = run_start _ _ _
+pub loop-next-init : goal.loop-next-init
+loop-next-init c = run_start _ _ _
 
-pub mark_next-next-requires : goal.mark_next-next-requires
-mark_next-next-requires c = tt
-
-pub returns-then-next-eq0 : goal.returns-then-next-eq0
-returns-then-next-eq0 c = run_end _ _ _ _ _ c.loop-at.invariant (mark_missing _ _ _ _ c.mark_next-next.ensures c.if-next-eq0.true)
+pub returns : goal.returns
+returns c = run_end _ _ _ _ _ c.loop-next.invariant (mark_missing _ _ _ c.in_default.ensures)
 
 pub overflow_add-count : goal.overflow_add-count
 overflow_add-count c =
-    let m = mark_stands _ _ _ _ c.mark_next-next.ensures c.if-next-eq0.false in
-    omega (arith, m.after, m.within, c.loop-at.invariant.room)
+    let m = mark_stands _ _ _ _ c.in-Some.ensures in
+    omega (arith, m.after, m.within, c.loop-next.invariant.room)
 
-pub loop-at-smaller : goal.loop-at-smaller
-loop-at-smaller c =
-    let m = mark_stands _ _ _ _ c.mark_next-next.ensures c.if-next-eq0.false in
+pub loop-next-smaller : goal.loop-next-smaller
+loop-next-smaller c =
+    let m = mark_stands _ _ _ _ c.in-Some.ensures in
     omega (arith, m.after, m.within)
 
-pub loop-at-preserved : goal.loop-at-preserved
-loop-at-preserved c = run_more _ _ _ _ _ _ c.loop-at.invariant (mark_stands _ _ _ _ c.mark_next-next.ensures c.if-next-eq0.false)
+pub loop-next-preserved : goal.loop-next-preserved
+loop-next-preserved c = run_more _ _ _ _ _ _ c.loop-next.invariant (mark_stands _ _ _ _ c.in-Some.ensures)

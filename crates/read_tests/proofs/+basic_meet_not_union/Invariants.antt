@@ -1,20 +1,11 @@
 -- The proof of the readers of T, which call each other. The measure is how many brackets may still be opened and how many bytes of the line are
 -- left, which both fall at a bracket, and then which reader it is. Laws are cited.
 -- Assumes nothing.
-use mathlib.Core.Path.{refl}
-use Prim.Native.Nat.{ℕ, ◌+◌, ◌-◌, ◌*◌, ◌<◌}
-use native.Mathlib.Omega.{arith}
+use Prim.Native.Nat.{◌+◌, ◌-◌, ◌*◌}
 use lib.ListN.{length}
-use Rattle.claims.specs.Grammar.{test_word}
-use Rattle.read_tests.specs.Places.{Is, opened}
-use Rattle.read_next.proofs.Next.{mark_stands}
-use Rattle.read_tests.proofs.Loops.{loop_fault, loop_onward, loop_got, loop_turn}
-use Rattle.read_tests.proofs.Chains.{Waiting, chain_start}
-use Rattle.read_tests.proofs.Bracketed.{inner_fault, inner_open, inner_closed}
-use Rattle.read_tests.proofs.Rounds.{round_bracket, round_deep, round_none}
-use Rattle.read_tests.proofs.Tests.{union_chain, unions, meet_chain, meets, basics, nots_fault, nots_got}
-use borrow.Author.Rules.{rules}
-use borrow.Enum.Refused.{opened as unsealed}
+use Rattle.read_tests.specs.Places.{opened}
+use Rattle.read_tests.proofs.Chains.{Waiting}
+use Rattle.read_tests.proofs.Tests.{union_chain, meet_chain}
 use Rattle.read_tests.proofs.+basic_meet_not_union.Given as goal
 
 abbrev pub decreases-union : goal.decreases-union

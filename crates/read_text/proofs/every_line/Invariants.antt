@@ -1,13 +1,8 @@
 -- `read_text::every_line` meets its contract. The invariant, `Going`: what is left to read, from the state now, is the whole reading from the start.
 -- Assumes nothing.
 use Prim.Native.Nat.{◌+◌, ◌-◌}
-use native.Mathlib.Omega.{arith}
 use lib.ListN.{length}
-use borrow.Author.Rules.{rules}
-use borrow.Author.Tests.{not-true, not-false}
-use Rattle.read_text.proofs.Lines.{Going, going_start, going_on, line_fits, refused_here, over_unclaimed, over_claimed}
-use mathlib.Core.Bool.{not}
-use mathlib.Core.Path.{ap}
+use Rattle.read_text.proofs.Lines.{Going}
 use Rattle.read_text.proofs.every_line.Given as goal
 
 abbrev pub invariant-loop-at : goal.invariant-loop-at

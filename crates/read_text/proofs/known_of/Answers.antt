@@ -2,7 +2,6 @@
 -- Assumes nothing.
 use mathlib.Core.Path.{sym}
 use lib.Seq.{length-take-le}
-use borrow.Author.Rules.{rules}
 use Rattle.read_text.specs.inner.Steps.{known}
 use Rattle.read_text.proofs.known_of.Goals as goal
 

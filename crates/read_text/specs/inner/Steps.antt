@@ -1,8 +1,7 @@
--- What the functions of this crate promise one another: bytes of a line, a line's number, and the reading while it goes on.
+-- What the functions of this crate promise one another: bytes of a line, and the reading while it goes on.
 -- Assumes nothing.
 use Rattle.std.specs.Prelude.{ℕ, ◌≡◌, Bool, not, List, ◌++◌, eqb, length, drop}
-use Rattle.std.proofs.Math.Option.{Option, some, none}
-use Rattle.claims.specs.Query.{Query, tests, relations}
+use Rattle.claims.specs.Query.{Query}
 use Rattle.claims.specs.Refusals.{Result, ok, refused}
 use Rattle.memory.specs.Memory.{zeros}
 use Rattle.codes.specs.Codes.{query_codes, claim_kind}
@@ -12,11 +11,6 @@ use Rattle.read_text.specs.declared.Summary.{Summary}
 -- a byte that ends no line
 unfoldable pub in_line : ℕ → Bool
 in_line b = not (eqb b 10)
-
--- a line's number, 0 for none
-unfoldable pub or_zero : Option ℕ → ℕ
-or_zero none = 0
-or_zero (some n) = n
 
 -- the array after the lines were read over it: the codes of the query, and behind them what stood there; all zeros after a refusal
 abbrev pub Written : Result Query → List ℕ → List ℕ → Type 0

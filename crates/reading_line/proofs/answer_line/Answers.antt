@@ -5,13 +5,13 @@ use Rattle.reading_line.proofs.Short.{answer_accepted, answer_refused}
 use borrow.Author.Rules.{rules}
 use Rattle.reading_line.proofs.answer_line.Goals as goal
 
-pub returns-in-Accepted : goal.returns-in-Accepted
-returns-in-Accepted c =
+pub returns-in-Ok : goal.returns-in-Ok
+returns-in-Ok c =
     let l = c.accepted_line in
-    let e = c.in-Accepted.is in
+    let e = c.in-Ok.is in
     record { puts = as_accepted _ _ e l.ensures.puts; short = answer_accepted _ _ e l.ensures.short }
 
-pub returns-in-Refused : goal.returns-in-Refused
-returns-in-Refused c =
-    let e = c.in-Refused.is in
-    record { puts = as_refused _ _ _ e c.refusal_line.ensures; short = answer_refused _ _ _ e (search rules) }
+pub returns-in-Err : goal.returns-in-Err
+returns-in-Err c =
+    let e = c.in-Err.is in
+    record { puts = as_refused _ _ e c.refusal_line.ensures; short = answer_refused _ _ e (search rules) }

@@ -1,10 +1,8 @@
 -- `refusal_texts::put_cause` meets its contract. In each arm the cause is known.
 -- Assumes nothing.
-use mathlib.Core.Path.{refl}
 use Rattle.refusals.specs.declared.Reason.TheVariants.{TooLong, BadByte, Notation, TooDeep, UnknownName, WrongKind, DeclaredTwice, ReservedName, TooMany, NoClaim, AfterClaim, OverLimit, BadAllowance, ShortMemory, SpentAllowance, ShortBuffer, GraphField, SheetField, DoesNotPass}
 use Rattle.refusal_texts.specs.CauseText.{cause_text}
 use Rattle.refusal_texts.proofs.Known.{cause_known}
-use borrow.Author.Rules.{rules}
 use Rattle.refusal_texts.proofs.put_cause.Goals as goal
 
 pub returns-in-TooLong : goal.returns-in-TooLong

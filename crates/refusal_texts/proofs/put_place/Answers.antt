@@ -2,7 +2,6 @@
 -- Assumes nothing.
 use Rattle.print_line.proofs.Putting.{puts_append}
 use Rattle.refusal_texts.proofs.Pieces.{place_none, place_line, place_field}
-use borrow.Author.Rules.{rules}
 use Rattle.refusal_texts.proofs.put_place.Goals as goal
 
 pub returns-then-place-eq0 : goal.returns-then-place-eq0

@@ -3,7 +3,6 @@
 use Rattle.print_line.proofs.Putting.{puts_append}
 use Rattle.refusal_texts.specs.Sentences.{sentence_of}
 use Rattle.refusal_texts.proofs.Pieces.{place_of}
-use borrow.Author.Rules.{rules}
 use Rattle.refusal_texts.proofs.put_sentence.Goals as goal
 
 pub returns : goal.returns

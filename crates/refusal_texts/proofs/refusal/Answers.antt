@@ -1,7 +1,6 @@
 -- `refusal_texts::refusal` meets its contract. The sentence, and the line where there is one.
 -- Assumes nothing.
 use Rattle.refusal_texts.proofs.Pieces.{words_alone, words_field, words_line, line_shown}
-use borrow.Author.Rules.{rules}
 use Rattle.refusal_texts.proofs.refusal.Goals as goal
 
 pub returns-then-place-eq0 : goal.returns-then-place-eq0

@@ -1,7 +1,6 @@
 -- `refusal_texts::shown_byte` meets its contract. By the two tests.
 -- Assumes nothing.
 use Rattle.refusal_texts.proofs.Pieces.{visible_low, visible_high, visible_same}
-use borrow.Author.Rules.{rules}
 use Rattle.refusal_texts.proofs.shown_byte.Goals as goal
 
 pub returns-then-b-lt32 : goal.returns-then-b-lt32

@@ -1,10 +1,7 @@
--- `rows::close` meets its contract. The invariant: the memory is that after the rounds done so far. The measure is what is left of the
--- rounds.
+-- `rows::close` meets its contract. The invariant: the memory is that after the rounds done so far.
 -- Assumes nothing.
-use Prim.Native.Nat.{◌-◌, ◌≤◌}
 use native.Mathlib.Omega.{arith}
 use mathlib.Core.Path.{◌≡◌, ◌∙◌, ap}
-use lib.ListN.{length}
 use Rattle.rows.specs.Rows.{rounds}
 use Rattle.rows.proofs.Rounds.{rounds_begin, rounds_more}
 use borrow.Author.Rules.{rules}

@@ -1,11 +1,7 @@
--- `rows::compose` meets its contract. The invariant: what is left of the rows, put into the table as it is, gives the table with all of them. The measure is
--- what is left of the rows.
+-- `rows::compose` meets its contract. The invariant: what is left of the rows, put into the table as it is, gives the table with all of them.
 -- Assumes nothing.
-use Prim.Native.Nat.{◌-◌}
 use native.Mathlib.Omega.{arith}
-use lib.ListN.{length}
-use Rattle.rows.proofs.EachRow.{Left, each_begin, each_more, each_end, compose_row, row_composed, rows_composed}
-use borrow.Author.Rules.{rules}
+use Rattle.rows.proofs.EachRow.{each_begin, each_more, each_end, compose_row, row_composed, rows_composed}
 use Rattle.rows.proofs.compose.Goals as goal
 
 pub loop-x-init : goal.loop-x-init

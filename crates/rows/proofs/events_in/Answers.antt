@@ -1,6 +1,5 @@
--- `rows::events_in` meets its contract. The invariant: the set so far is that of the events passed. The measure is what is left of the events.
+-- `rows::events_in` meets its contract. The invariant: the set so far is that of the events passed.
 -- Assumes nothing.
-use Prim.Native.Nat.{◌-◌, ◌≤◌}
 use native.Mathlib.Omega.{arith}
 use mathlib.Core.Path.{◌≡◌, ◌∙◌, ap}
 use mathlib.Core.Bool.{cond}
@@ -8,7 +7,6 @@ use Rattle.claims.specs.Query.{bit}
 use Rattle.bits.specs.Sets.{including}
 use Rattle.rows.specs.Rows.{events_in}
 use Rattle.rows.proofs.Events.{events_none, events_more, events_all}
-use borrow.Author.Rules.{rules}
 use Rattle.rows.proofs.events_in.Goals as goal
 
 pub loop-x-init : goal.loop-x-init

@@ -1,12 +1,9 @@
 -- `rows::join` meets its contract. The invariant: what is left of the rows, changed in the table as it is, gives all of them changed in the table
--- at the start. The measure is what is left of the rows.
+-- at the start.
 -- Assumes nothing.
-use Prim.Native.Nat.{◌-◌}
 use native.Mathlib.Omega.{arith}
 use mathlib.Core.Path.{refl}
-use lib.ListN.{length}
-use Rattle.rows.proofs.EachRow.{Left, each_begin, each_more, each_end, join_row, rows_joined}
-use borrow.Author.Rules.{rules}
+use Rattle.rows.proofs.EachRow.{each_begin, each_more, each_end, join_row, rows_joined}
 use Rattle.rows.proofs.join.Goals as goal
 
 pub loop-x-init : goal.loop-x-init

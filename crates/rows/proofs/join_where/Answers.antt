@@ -1,13 +1,10 @@
 -- `rows::join_where` meets its contract. The invariant: what is left of the rows, joined in the memory as it is, is all of them joined in
--- the memory at the start. The measure is what is left of the rows.
+-- the memory at the start.
 -- Assumes nothing.
-use Prim.Native.Nat.{◌-◌, ◌≤◌}
 use native.Mathlib.Omega.{arith}
-use mathlib.Core.Path.{◌≡◌, sym, ◌∙◌}
-use lib.ListN.{length, length-set}
-use Rattle.memory.specs.Memory.{changed}
-use Rattle.rows.specs.Rows.{joined_where}
-use Rattle.rows.proofs.Rounds.{merge, where_begin, where_more, where_end}
+use mathlib.Core.Path.{sym, ◌∙◌}
+use lib.ListN.{length-set}
+use Rattle.rows.proofs.Rounds.{where_begin, where_more, where_end}
 use borrow.Author.Rules.{rules}
 use Rattle.rows.proofs.join_where.Goals as goal
 

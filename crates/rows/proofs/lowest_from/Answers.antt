@@ -1,17 +1,14 @@
 -- `rows::lowest_from` meets its contract. The invariant: the lowest pair from the events from x on is the lowest of all, since none before has
--- one. The measure is what is left of the events.
+-- one.
 -- Assumes nothing.
-use Prim.Native.Nat.{ℕ, ◌-◌, ◌^◌, ◌≤◌, min}
+use Prim.Native.Nat.{ℕ, ◌-◌, ◌^◌}
 use native.Mathlib.Omega.{arith}
 use mathlib.Core.Path.{◌≡◌, refl, ◌∙◌}
 use lib.Bits.{bit_and, and_le_r}
 use lib.ListN.{get_or}
 use mathlib.Core.List.{List}
-use Rattle.kat.specs.Lists.{upto}
 use Rattle.bits.proofs.Lowest.{Lowest, lowest}
-use Rattle.rows.specs.Rows.{lowest_from, lowest_pair}
 use Rattle.rows.proofs.Sought.{pair_begin, pair_more, pair_found, pair_end}
-use borrow.Author.Rules.{rules}
 use Rattle.rows.proofs.lowest_from.Goals as goal
 
 -- what u lacks of t in a row

@@ -1,13 +1,8 @@
 -- `rows::lowest_of` meets its contract. The invariant: the lowest event of those from x on is the lowest of all, since none before is in a loop.
--- The measure is what is left of the events.
 -- Assumes nothing.
-use Prim.Native.Nat.{◌-◌, ◌≤◌, min}
 use native.Mathlib.Omega.{arith}
-use mathlib.Core.Path.{◌≡◌, ◌∙◌}
-use Rattle.kat.specs.Lists.{upto}
-use Rattle.rows.specs.Rows.{lowest_of, lowest_loop}
+use mathlib.Core.Path.{◌∙◌}
 use Rattle.rows.proofs.Sought.{loop_begin, loop_more, loop_found, loop_end}
-use borrow.Author.Rules.{rules}
 use Rattle.rows.proofs.lowest_of.Goals as goal
 
 pub loop-x-init : goal.loop-x-init

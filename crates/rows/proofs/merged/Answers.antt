@@ -1,7 +1,6 @@
 -- `rows::merged` meets its contract.
 -- Assumes nothing.
 use Rattle.rows.proofs.Rounds.{merged_in, merged_out}
-use borrow.Author.Rules.{rules}
 use Rattle.rows.proofs.merged.Goals as goal
 
 pub returns-then-member : goal.returns-then-member

@@ -1,11 +1,7 @@
--- `rows::put_selves` meets its contract. The invariant: what is left of the rows, put into the table as it is, gives the table with all of them. The measure is
--- what is left of the rows.
+-- `rows::put_selves` meets its contract. The invariant: what is left of the rows, put into the table as it is, gives the table with all of them.
 -- Assumes nothing.
-use Prim.Native.Nat.{◌-◌}
 use native.Mathlib.Omega.{arith}
-use lib.ListN.{length}
-use Rattle.rows.proofs.EachRow.{Left, each_begin, each_more, each_end, test_row, self_put, rows_diagonal}
-use borrow.Author.Rules.{rules}
+use Rattle.rows.proofs.EachRow.{each_begin, each_more, each_end, test_row, self_put, rows_diagonal}
 use Rattle.rows.proofs.put_selves.Goals as goal
 
 pub loop-x-init : goal.loop-x-init

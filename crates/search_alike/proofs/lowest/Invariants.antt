@@ -2,16 +2,11 @@
 -- the count of ones of the set left.
 -- Assumes nothing.
 use Prim.Native.Nat.{◌^◌, ◌<◌}
-use native.Mathlib.Omega.{arith}
-use mathlib.Core.Path.{◌≡◌, sym, ◌∙◌, ap}
+use mathlib.Core.Path.{◌≡◌}
 use mathlib.Core.Bool.{not}
-use borrow.Author.Rules.{rules}
-use lib.Bits.{bit_and, and_le_l}
-use lib.Count.{ones, trailing_le}
+use lib.Count.{ones}
 use Rattle.kat.specs.Lists.{some}
 use Rattle.bits.specs.Sets.{members}
-use Rattle.bits.proofs.Lowest.{Lowest, lowest as lowest-member}
-use Rattle.bits.proofs.Walk.{some_end, some_hit, some_miss}
 use Rattle.search_alike.specs.Masks.{alike_words, lowest_words}
 use Rattle.search_alike.proofs.lowest.Given as goal
 

@@ -1,17 +1,12 @@
 -- `search_alike::mask_of` meets its contract. The invariant: the mask so far, with those of the atoms left that are to be tried, is the
 -- whole mask. The measure is the count of ones of the set left.
 -- Assumes nothing.
-use Prim.Native.Nat.{◌-◌, ◌^◌, ◌<◌}
-use native.Mathlib.Omega.{arith}
-use mathlib.Core.Path.{◌≡◌, refl, sym, ◌∙◌, ap}
-use borrow.Author.Rules.{rules}
-use lib.Bits.{bit_and}
-use lib.Count.{ones, trailing_le}
+use Prim.Native.Nat.{◌^◌, ◌<◌}
+use mathlib.Core.Path.{◌≡◌}
+use lib.Count.{ones}
 use Rattle.bits.specs.Sets.{members}
-use Rattle.bits.proofs.Lowest.{Lowest, lowest as lowest-member}
 use Rattle.standings.specs.Alike.{gathered}
 use Rattle.search_alike.specs.Masks.{lowest_words, mask_of}
-use Rattle.standings.proofs.Loops.{gathered_end, gathered_more}
 use Rattle.search_alike.proofs.mask_of.Given as goal
 
 abbrev pub invariant-loop-rest : goal.invariant-loop-rest

@@ -3,7 +3,6 @@
 use mathlib.Core.Path.{◌∙◌, sym, ap}
 use mathlib.Core.Bool.{true, cond}
 use Rattle.standings.specs.Alike.{ends_alike}
-use borrow.Author.Rules.{rules}
 use Rattle.search_alike.proofs.ring_ends_alike.Goals as goal
 
 pub returns-then-ring : goal.returns-then-ring

@@ -2,7 +2,6 @@
 -- Assumes nothing.
 use mathlib.Core.Path.{ap₂}
 use lib.Dec.{eqb}
-use borrow.Author.Rules.{rules}
 use Rattle.standings.specs.Alike.{row_alike}
 use Rattle.search_alike.proofs.row_alike.Goals as goal
 

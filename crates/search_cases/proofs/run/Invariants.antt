@@ -1,13 +1,10 @@
--- `search_cases::run` meets its contract. The number of cases that it may still take falls, and the lent memory keeps its lengths.
+-- `search_cases::run` meets its contract. The lent memory keeps its lengths.
 -- Assumes nothing.
 use mathlib.Core.Path.{◌≡◌}
 use lib.ListN.{length}
 use borrow.Author.Rules.{rules}
 use Rattle.search_cases.proofs.run.Given as goal
 
-abbrev pub invariant-loop-left : goal.invariant-loop-left
-invariant-loop-left l =
+abbrev pub invariant-loop : goal.invariant-loop
+invariant-loop l =
     (length l.part ≡ length l.initial.part) × (length l.text ≡ length l.initial.text) × (length l.words ≡ length l.initial.words) × (length l.buffer ≡ length l.initial.buffer) × (length l.out ≡ length l.initial.out)
-
-abbrev pub decreases-loop-left : goal.decreases-loop-left
-decreases-loop-left l = l.left

@@ -1,10 +1,7 @@
--- `search_cover::close` meets its contract. The invariant: the memory is that after the rounds done so far. The measure is what is left of
--- the rounds.
+-- `search_cover::close` meets its contract. The invariant: the memory is that after the rounds done so far.
 -- Assumes nothing.
-use Prim.Native.Nat.{◌-◌, ◌≤◌}
 use native.Mathlib.Omega.{arith}
 use mathlib.Core.Path.{◌≡◌, ◌∙◌, ap}
-use lib.ListN.{length}
 use Rattle.search_cover.specs.inner.Rounds.{rounds}
 use Rattle.search_cover.proofs.Rounds.{rounds_begin, rounds_more}
 use borrow.Author.Rules.{rules}

@@ -3,7 +3,6 @@
 use Prim.Native.Nat.{◌+◌}
 use mathlib.Core.Path.{◌∙◌, ap}
 use Rattle.search_cover.specs.inner.Rounds.{rounds}
-use borrow.Author.Rules.{rules}
 use Rattle.search_cover.proofs.close_columns.Goals as goal
 
 pub returns : goal.returns

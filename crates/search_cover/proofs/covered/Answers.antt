@@ -4,7 +4,6 @@ use native.Mathlib.Omega.{arith}
 use mathlib.Core.Path.{◌≡◌}
 use lib.ListN.{length}
 use Rattle.search_cover.proofs.Sought.{covered_z, covered_turns}
-use borrow.Author.Rules.{rules}
 use Rattle.search_cover.proofs.covered.Goals as goal
 
 pub returns-then-all-ne0 : goal.returns-then-all-ne0

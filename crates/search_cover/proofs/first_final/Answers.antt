@@ -5,7 +5,6 @@ use mathlib.Core.Bool.{cond, not, ◌&&◌}
 use lib.ListN.{get_or, take}
 use Rattle.search_standings.specs.RingWords.{ring_covered}
 use Rattle.search_cover.proofs.Finals as finals
-use borrow.Author.Rules.{rules}
 use Rattle.search_cover.proofs.first_final.Goals as goal
 
 pub returns-then-covered : goal.returns-then-covered

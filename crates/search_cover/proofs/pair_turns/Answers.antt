@@ -5,7 +5,6 @@ use native.Mathlib.Omega.{arith}
 use mathlib.Core.Path.{sym, ◌∙◌, ap}
 use lib.Bits.{bit_and}
 use Rattle.search_cover.proofs.Sought.{pair_found, pair_sought}
-use borrow.Author.Rules.{rules}
 use Rattle.search_cover.proofs.pair_turns.Goals as goal
 
 pub returns-then-member : goal.returns-then-member

@@ -3,7 +3,6 @@
 use native.Mathlib.Omega.{arith}
 use mathlib.Core.Path.{◌∙◌}
 use Rattle.search_cover.proofs.Sought.{turn_sought}
-use borrow.Author.Rules.{rules}
 use Rattle.search_cover.proofs.turn_ends.Goals as goal
 
 pub returns : goal.returns

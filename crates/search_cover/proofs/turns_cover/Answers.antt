@@ -3,7 +3,6 @@
 use mathlib.Core.Path.{sym, ◌∙◌, ap}
 use mathlib.Core.Bool.{◌||◌}
 use Rattle.search_cover.specs.inner.Rounds.{ends_by, pairs_by}
-use borrow.Author.Rules.{rules}
 use Rattle.search_cover.proofs.turns_cover.Goals as goal
 
 pub returns-then-turn_ends : goal.returns-then-turn_ends

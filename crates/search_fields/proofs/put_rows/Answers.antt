@@ -1,5 +1,5 @@
 -- `search_fields::put_rows` meets its contract. The invariant: the rows that are left, put over the slice as it is, are all rows put over the
--- slice as it was. The measure is how many are left.
+-- slice as it was.
 -- Assumes nothing.
 use Prim.Native.Nat.{◌+◌, ◌-◌, ◌*◌, ◌≤◌}
 use native.Mathlib.Omega.{arith}

@@ -1,5 +1,5 @@
 -- `search_fields::put_rows` meets its contract. The invariant: the rows that are left, put over the slice as it is, are all rows put over the
--- slice as it was. The measure is how many are left.
+-- slice as it was.
 -- Assumes nothing.
 use Prim.Native.Nat.{◌+◌, ◌-◌, ◌*◌, ◌≤◌}
 use native.Mathlib.Omega.{arith}
@@ -16,6 +16,3 @@ abbrev pub invariant-loop-p : goal.invariant-loop-p
 invariant-loop-p l =
     (length l.out ≡ length l.initial.out) × (l.p ≤ 32) × (l.next ≡ l.at + 4 * l.p)
     × (over l.next (rows_from l.upper l.s (upto l.p 32)) l.out ≡ over l.at (rows_bytes l.upper l.s) l.initial.out)
-
-abbrev pub decreases-loop-p : goal.decreases-loop-p
-decreases-loop-p l = 32 - l.p

@@ -1,4 +1,4 @@
--- `search_fields::row_m` meets its contract. The invariant: the row has the bits of the columns passed. The measure is how many are left.
+-- `search_fields::row_m` meets its contract. The invariant: the row has the bits of the columns passed.
 -- Assumes nothing.
 use Prim.Native.Nat.{◌+◌, ◌-◌, ◌≤◌}
 use native.Mathlib.Omega.{arith}

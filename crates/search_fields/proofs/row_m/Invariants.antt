@@ -1,4 +1,4 @@
--- `search_fields::row_m` meets its contract. The invariant: the row has the bits of the columns passed. The measure is how many are left.
+-- `search_fields::row_m` meets its contract. The invariant: the row has the bits of the columns passed.
 -- Assumes nothing.
 use Prim.Native.Nat.{◌+◌, ◌-◌, ◌≤◌}
 use native.Mathlib.Omega.{arith}
@@ -10,6 +10,3 @@ use Rattle.search_fields.proofs.row_m.Given as goal
 
 abbrev pub invariant-loop-q : goal.invariant-loop-q
 invariant-loop-q l = (1 ≤ l.q) × (l.q ≤ 32) × RowBelow l.s l.p l.q l.row
-
-abbrev pub decreases-loop-q : goal.decreases-loop-q
-decreases-loop-q l = 32 - l.q

@@ -1,7 +1,7 @@
 -- `search_grow::next_relation` meets its contract: the relations that are passed over are not tried with the atom.
 -- Assumes nothing.
 use mathlib.Core.Path.{◌≡◌, refl, sym, ◌∙◌, ap}
-use Rattle.search_grow.proofs.Letters.{relation_skip}
+use Rattle.search_grow.proofs.Letters.{relation_skip, relations_none}
 use Rattle.search_grow.specs.Masks.{relations_left, tried}
 use borrow.Author.Rules.{rules}
 use native.Mathlib.Omega.{arith}
@@ -13,11 +13,7 @@ loop-i-init c = (omega arith, omega arith, refl)
 
 pub returns-then-member : goal.returns-then-member
 unfolding tried
-returns-then-member c = record {
-  within = (c.loop-i.invariant.0, omega arith);
-  same = c.loop-i.invariant.2;
-  tried = λ h. sym c.member.ensures ∙ c.if-member.true;
-}
+returns-then-member c = (c.loop-i.invariant.0, omega arith, c.loop-i.invariant.2, sym c.member.ensures ∙ c.if-member.true)
 
 pub loop-i-preserved : goal.loop-i-preserved
 unfolding tried
@@ -28,9 +24,6 @@ loop-i-preserved c = (
 )
 
 pub returns : goal.returns
-returns c = let l = c.loop-i in
-    let e : l.i ≡ c.args.relations = omega arith in record {
-      within = (omega arith, omega arith);
-      same = l.invariant.2 ∙ ap (relations_left _ _ _) e;
-      tried = λ h. absurd (omega arith);
-    }
+returns c =
+    let l = c.loop-i in
+    l.invariant.2 ∙ relations_none c.args.masks.now c.args.relations c.args.a l.i (omega arith)

@@ -11,6 +11,3 @@ use Rattle.search_grow.proofs.next_relation.Given as goal
 abbrev pub invariant-loop-i : goal.invariant-loop-i
 invariant-loop-i l =
     (l.r ≤ l.i) × (l.i ≤ l.relations) × (relations_left l.masks l.relations l.a l.r ≡ relations_left l.masks l.relations l.a l.i)
-
-abbrev pub decreases-loop-i : goal.decreases-loop-i
-decreases-loop-i l = l.relations - l.i

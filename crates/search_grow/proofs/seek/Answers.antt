@@ -1,6 +1,6 @@
 -- `search_grow::seek` meets its contract: the letters that are passed over are not tried.
 -- Assumes nothing.
-use Rattle.search_grow.proofs.Letters.{letters_same, letters_next, weight_more, weight_next}
+use Rattle.search_grow.proofs.Letters.{letters_none, letters_same, letters_next, weight_more, weight_next}
 use Rattle.search_grow.specs.Masks.{letters_left, letter_weight}
 use Rattle.bits.proofs.Lowest.{lowest}
 use borrow.Author.Rules.{rules}
@@ -16,37 +16,36 @@ loop-atoms-init c = (search rules, c.requires.0, refl, omega arith)
 pub overflow_cast-a : goal.overflow_cast-a
 overflow_cast-a c = omega (arith, trailing_le 64 c.loop-atoms.atoms)
 
-pub next_relation-r-requires : goal.next_relation-r-requires
-next_relation-r-requires c = (
+pub next_relation-requires : goal.next_relation-requires
+next_relation-requires c = (
   c.loop-atoms.invariant.1,
   c.requires.1,
   (lowest 64 c.loop-atoms.atoms c.loop-atoms.invariant.0 c.loop-atoms-test.true).inside,
 )
 
-pub returns-then-r-relations : goal.returns-then-r-relations
-returns-then-r-relations c = let l = c.loop-atoms in
-    let n = c.next_relation-r in record {
-      same = l.invariant.2 ∙ letters_same _ _ _ _ _ c.loop-atoms-test.true n.ensures.same;
-      tried = λ z. (c.if-r-relations.true, n.ensures.tried c.if-r-relations.true);
-      falls = omega (arith, l.invariant.3, weight_more l.atoms l.r n.result n.ensures.within.0);
+pub returns-in-Some : goal.returns-in-Some
+returns-in-Some c =
+    let l = c.loop-atoms in
+    let n = c.in-Some.ensures in record {
+      some = c.loop-atoms-test.true;
+      same = l.invariant.2 ∙ letters_same _ _ _ _ _ c.loop-atoms-test.true n.2;
+      within = n.1;
+      tried = n.3;
+      falls = omega (arith, l.invariant.3, weight_more l.atoms l.r c.in-Some.tried n.0);
     }
 
 pub loop-atoms-smaller : goal.loop-atoms-smaller
 loop-atoms-smaller c = omega (arith, (lowest 64 c.loop-atoms.atoms c.loop-atoms.invariant.0 c.loop-atoms-test.true).count)
 
 pub loop-atoms-preserved : goal.loop-atoms-preserved
-loop-atoms-preserved c = let l = c.loop-atoms in
-    let z = c.loop-atoms-test.true in
-    let n = c.next_relation-r in (
+loop-atoms-preserved c =
+    let l = c.loop-atoms in
+    let z = c.loop-atoms-test.true in (
       omega (arith, (lowest 64 l.atoms l.invariant.0 z).less),
       omega arith,
-      l.invariant.2 ∙ letters_same _ _ _ _ _ z n.ensures.same ∙ letters_next _ _ l.atoms n.result l.invariant.0 z c.if-r-relations.false,
-      omega (arith, l.invariant.3, weight_next l.atoms l.r n.result l.invariant.0 z (weight_more l.atoms l.r n.result n.ensures.within.0)),
+      l.invariant.2 ∙ letters_next _ _ l.atoms l.r l.invariant.0 z c.in_default.ensures,
+      omega (arith, l.invariant.3, weight_next l.atoms l.r l.r l.invariant.0 z (omega arith)),
     )
 
 pub returns : goal.returns
-returns c = let l = c.loop-atoms in record {
-  same = l.invariant.2;
-  tried = λ z. absurd (z c.loop-atoms-test.false);
-  falls = l.invariant.3;
-}
+returns c = let l = c.loop-atoms in l.invariant.2 ∙ letters_none _ _ l.atoms l.r c.loop-atoms-test.false

@@ -11,8 +11,7 @@ use Rattle.search_sheet.specs.SheetWords.{Falling, prefix_in, proved_sheet, refu
 use Rattle.search_course.specs.declared.Finding.{Finding as Found}
 use Rattle.search_course.specs.declared.Finding.TheVariants.{Proved, Refuted, Spent}
 use Rattle.layout.specs.Layout.{MOST-STANDINGS}
-use Rattle.search_outcomes.specs.declared.Outcome.{Outcome}
-use Rattle.search_outcomes.specs.Outcomes.{Says, Sized}
+use Rattle.search_outcomes.specs.Outcomes.{Outcome, Says, Sized}
 
 module _ (ring : Bool) (r : List (List ℕ)) (w : List ℕ) where
   -- the memory has what was found

@@ -1,20 +1,18 @@
--- `search_records::clear` meets its contract.
+-- `search_records::clear` meets its contract: n blank records, and behind them what was lent.
 -- Assumes nothing.
-use Rattle.std.proofs.Common.{arith}
+use Prim.Native.Nat.{min}
+use mathlib.Core.Path.{◌≡◌, ◌∙◌, ap}
+use mathlib.Core.List.{◌++◌}
+use lib.ListN.{length, take, drop, replicate}
+use lib.Seq.{length-take-le}
+use borrow.Author.Rules.{rules}
+use Rattle.claims.specs.Calls.{cleared}
 use Rattle.search_records.specs.Records.{blank}
-use Rattle.search_records.proofs.Cleared.{cleared_none}
-use Rattle.search_records.proofs.Facts.{clear_next, clear_ends}
 use Rattle.search_records.proofs.clear.Goals as goal
 
-pub loop-i-init : goal.loop-i-init
-loop-i-init c = (omega arith, cleared_none blank _)
-
-pub loop-i-preserved : goal.loop-i-preserved
-loop-i-preserved c =
-    let l = c.loop-i in
-    (omega arith, clear_next c.args.n c.args.records.now l.records l.i c.requires l.invariant.0 l.invariant.1 (omega arith))
-
 pub returns : goal.returns
+unfolding cleared
 returns c =
-    let l = c.loop-i in
-    clear_ends c.args.n c.args.records.now l.records l.i c.requires l.invariant.0 l.invariant.1 (omega arith)
+    let a = c.args in
+    let e : c.fill.new.self ≡ replicate (length (take a.n a.records.now)) blank = search rules in
+    ap (λ l. l ++ drop a.n a.records.now) (e ∙ ap (λ k. replicate k blank) (length-take-le a.n a.records.now c.requires))

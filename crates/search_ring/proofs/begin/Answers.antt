@@ -9,7 +9,6 @@ use Rattle.claims.specs.Standings.{Letter}
 use Rattle.search_standings.specs.RingWords.{flag}
 use Rattle.search_ring.specs.inner.Columns.{spread_over}
 use Rattle.search_ring.proofs.Standing.{begin_laid}
-use borrow.Author.Rules.{rules}
 use Rattle.search_ring.proofs.begin.Goals as goal
 
 pub returns : goal.returns

@@ -2,7 +2,6 @@
 -- Assumes nothing.
 use native.Mathlib.Omega.{arith}
 use Rattle.search_ring.proofs.Columns.{join_in, join_out}
-use borrow.Author.Rules.{rules}
 use Rattle.search_ring.proofs.join.Goals as goal
 
 pub returns-then-k-lt-MOST_RIGHT : goal.returns-then-k-lt-MOST_RIGHT

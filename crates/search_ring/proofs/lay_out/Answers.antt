@@ -3,7 +3,6 @@
 use mathlib.Core.Path.{◌∙◌, ap}
 use lib.ListN.{set}
 use Rattle.search_ring.specs.inner.Columns.{laid_out}
-use borrow.Author.Rules.{rules}
 use Rattle.search_ring.proofs.lay_out.Goals as goal
 
 pub returns : goal.returns

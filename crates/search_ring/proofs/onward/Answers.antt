@@ -10,7 +10,6 @@ use Rattle.claims.specs.Standings.{Letter}
 use Rattle.search_standings.specs.RingWords.{flag}
 use Rattle.search_ring.specs.inner.Columns.{spread_over}
 use Rattle.search_ring.proofs.Standing.{onward_laid}
-use borrow.Author.Rules.{rules}
 use Rattle.search_ring.proofs.onward.Goals as goal
 
 pub returns : goal.returns

@@ -1,12 +1,10 @@
 -- `search_ring::opened_at` meets its contract: the union of the columns, its lower half moved up.
 -- Assumes nothing.
 use Prim.Native.Nat.{◌*◌, ◌%◌, ◌^◌}
-use native.Mathlib.Omega.{arith}
 use mathlib.Core.Path.{◌∙◌, ap}
 use lib.ListN.{take, drop}
 use Rattle.bits.specs.Sets.{union_rows}
 use Rattle.search_standings.specs.RingWords.{opened}
-use borrow.Author.Rules.{rules}
 use Rattle.search_ring.proofs.opened_at.Goals as goal
 
 pub returns : goal.returns

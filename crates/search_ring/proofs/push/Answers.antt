@@ -1,13 +1,12 @@
 -- `search_ring::push` meets its contract. The invariant: w joined into the columns of the members left, on the memory as it is, is w joined
 -- into those of all members on the memory at the start. The measure is the count of ones of the set left.
 -- Assumes nothing.
-use Prim.Native.Nat.{◌-◌, ◌^◌, ◌<◌}
+use Prim.Native.Nat.{◌-◌}
 use native.Mathlib.Omega.{arith}
-use mathlib.Core.Path.{◌≡◌, refl, sym, ◌∙◌, ap}
+use mathlib.Core.Path.{refl, sym, ◌∙◌, ap}
 use lib.Bits.{bit_and}
-use lib.Count.{ones, trailing_le}
-use lib.ListN.{length}
-use Rattle.bits.proofs.Lowest.{Lowest, lowest}
+use lib.Count.{trailing_le}
+use Rattle.bits.proofs.Lowest.{lowest}
 use Rattle.search_ring.specs.inner.Columns.{pushed}
 use Rattle.search_ring.proofs.Columns.{pushed_more, pushed_end}
 use borrow.Author.Rules.{rules}

@@ -5,7 +5,6 @@ use mathlib.Core.Path.{◌∙◌, ap}
 use Rattle.standings.specs.Steps.{step_from}
 use Rattle.search_ring.specs.inner.Columns.{pushed}
 use Rattle.search_ring.proofs.Columns.{pushed_none}
-use borrow.Author.Rules.{rules}
 use Rattle.search_ring.proofs.send.Goals as goal
 
 pub returns-then-w-eq0 : goal.returns-then-w-eq0

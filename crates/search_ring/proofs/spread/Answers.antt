@@ -1,16 +1,14 @@
 -- `search_ring::spread` meets its contract. The invariant: the columns left, sent on into the memory as it is, give what all columns give on
--- the memory at the start. The measure is what is left of the columns.
+-- the memory at the start.
 -- Assumes nothing.
-use Prim.Native.Nat.{ℕ, ◌+◌, ◌-◌, ◌≤◌}
+use Prim.Native.Nat.{◌+◌}
 use native.Mathlib.Omega.{arith}
-use mathlib.Core.Path.{◌≡◌, refl, sym, ◌∙◌, ap}
-use lib.ListN.{length, get_or}
+use mathlib.Core.Path.{refl, sym, ◌∙◌, ap}
+use lib.ListN.{get_or}
 use Rattle.kat.specs.Lists.{upto}
-use Rattle.claims.specs.Standings.{Letter}
 use Rattle.standings.proofs.Upto.{upto_none}
 use Rattle.search_ring.specs.inner.Columns.{spread_over}
 use Rattle.search_ring.proofs.Columns.{spread_more, spread_end}
-use borrow.Author.Rules.{rules}
 use Rattle.search_ring.proofs.spread.Invariants.{letter}
 use Rattle.search_ring.proofs.spread.Goals as goal
 
@@ -26,7 +24,7 @@ loop-o-preserved c =
       omega arith,
       ap (spread_over a.right.now (letter a.a a.r) (λ i. get_or a.from.now i 0) (upto (l.o + 1) 32)) t.ensures
           ∙ spread_more a.right.now (letter a.a a.r) (λ i. get_or a.from.now i 0) l.o 32 l.to
-          c.word-w.result (omega arith) c.word-w.ensures
+          c.word.result (omega arith) c.word.ensures
           ∙ l.invariant.2,
     )
 

@@ -1,17 +1,14 @@
 -- `search_ring::spread_single` meets its contract. The invariant: the numbers left, sent on into the memory as it is, give what all of them
--- give on the memory at the start. The measure is what is left of the numbers.
+-- give on the memory at the start.
 -- Assumes nothing.
-use Prim.Native.Nat.{ℕ, suc, ◌+◌, ◌-◌, ◌^◌, ◌≤◌}
+use Prim.Native.Nat.{suc, ◌+◌, ◌^◌}
 use native.Mathlib.Omega.{arith}
-use mathlib.Core.Path.{◌≡◌, refl, sym, ◌∙◌, ap}
-use lib.ListN.{length}
+use mathlib.Core.Path.{refl, sym, ◌∙◌, ap}
 use Rattle.kat.specs.Lists.{upto}
-use Rattle.claims.specs.Standings.{Letter}
 use Rattle.bits.proofs.Rows.{shifted_one}
 use Rattle.standings.proofs.Upto.{upto_none}
 use Rattle.search_ring.specs.inner.Columns.{spread_over}
 use Rattle.search_ring.proofs.Columns.{spread_more, spread_end}
-use borrow.Author.Rules.{rules}
 use Rattle.search_ring.proofs.spread_single.Invariants.{letter}
 use Rattle.search_ring.proofs.spread_single.Goals as goal
 

@@ -5,7 +5,6 @@ use mathlib.Core.Path.{◌≡◌, ◌∙◌, ap}
 use mathlib.Core.List.{◌++◌}
 use lib.ListN.{length, take, drop, length-take}
 use Rattle.memory.specs.Memory.{zeros}
-use borrow.Author.Rules.{rules}
 use Rattle.search_ring.proofs.wipe.Goals as goal
 
 pub returns : goal.returns

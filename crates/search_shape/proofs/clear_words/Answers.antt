@@ -1,27 +1,16 @@
--- `search_shape::clear_words` meets its contract. The invariant: so far zero, and behind them what stood there.
+-- `search_shape::clear_words` meets its contract: n words of 0, and behind them what was lent.
 -- Assumes nothing.
-use Prim.Native.Nat.{◌-◌, ◌≤◌}
-use native.Mathlib.Omega.{arith}
-use mathlib.Core.Path.{◌≡◌, refl, ◌∙◌, ap}
-use lib.ListN.{length, length-set}
+use mathlib.Core.Path.{◌≡◌, ◌∙◌, ap}
+use mathlib.Core.List.{◌++◌}
+use lib.ListN.{length, take, drop, replicate}
+use lib.Seq.{length-take-le}
 use borrow.Author.Rules.{rules}
 use Rattle.claims.specs.Calls.{cleared}
-use Rattle.search_records.proofs.Cleared.{cleared_none, cleared_more}
 use Rattle.search_shape.proofs.clear_words.Goals as goal
 
-pub loop-i-init : goal.loop-i-init
-loop-i-init c = (refl, omega arith, cleared_none 0 _)
-
-pub loop-i-preserved : goal.loop-i-preserved
-loop-i-preserved c =
-    let l = c.loop-i in (
-      simp length-set l.invariant.0,
-      omega arith,
-      cleared_more 0 l.i c.args.words.now _ l.invariant.2 (omega arith),
-    )
-
 pub returns : goal.returns
+unfolding cleared
 returns c =
-    let l = c.loop-i in
-    let e : l.i ≡ c.args.n = omega arith in
-    l.invariant.2 ∙ ap (λ k. cleared 0 k c.args.words.now) e
+    let a = c.args in
+    let e : c.fill.new.self ≡ replicate (length (take a.n a.words.now)) 0 = search rules in
+    ap (λ l. l ++ drop a.n a.words.now) (e ∙ ap (λ k. replicate k 0) (length-take-le a.n a.words.now c.requires))

@@ -1,28 +1,18 @@
--- `search_store::copy` meets its contract. The invariant: what is left to copy, copied now, is the whole copied at the start.
+-- `search_store::copy` meets its contract: the words of one memory in the place of as many of the other.
 -- Assumes nothing.
-use Prim.Native.Nat.{◌-◌, ◌≤◌}
+use Prim.Native.Nat.{◌+◌, ◌-◌}
 use native.Mathlib.Omega.{arith}
-use mathlib.Core.Path.{◌≡◌, refl, sym, ◌∙◌}
-use lib.ListN.{length, length-set}
-use Rattle.search_store.specs.Store.{copied}
-use Rattle.search_store.proofs.Standing.{copy_more, copy_end}
-use borrow.Author.Rules.{rules}
+use mathlib.Core.Path.{◌≡◌, ◌∙◌, ap, ap₂}
+use mathlib.Core.List.{◌++◌}
+use lib.ListN.{take, drop}
+use borrow.Rule.Slice.PartMut.{Post-is}
+use Rattle.search_store.proofs.Appended.{copied_whole}
 use Rattle.search_store.proofs.copy.Goals as goal
-
-pub loop-j-init : goal.loop-j-init
-loop-j-init c = (refl, omega arith, refl)
-
-pub loop-j-preserved : goal.loop-j-preserved
-loop-j-preserved c =
-    let l = c.loop-j in
-    let a = c.args in (
-      simp length-set l.invariant.0,
-      omega arith,
-      copy_more a.at a.from.now a.base l.to l.j _ (omega arith) (omega arith) refl ∙ l.invariant.2,
-    )
 
 pub returns : goal.returns
 returns c =
-    let l = c.loop-j in
     let a = c.args in
-    sym (copy_end a.at a.from.now a.base l.to l.j (omega arith)) ∙ l.invariant.2
+    let e : a.base + 34 - a.base ≡ 34 = omega arith in
+    ap₂ (λ ys zs. take a.at a.to.now ++ (ys ++ zs)) (c.copy_from_slice.ensures.after ∙ ap (λ k. take k (drop a.base a.from.now)) e)
+    (Post-is a.at (a.at + 34) a.to.now (omega arith))
+    ∙ copied_whole a.at a.base a.from.now a.to.now c.requires.0 c.requires.1

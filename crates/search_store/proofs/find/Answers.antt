@@ -6,15 +6,14 @@ use mathlib.Core.Path.{◌≡◌}
 use mathlib.Core.Bool.{true}
 use mathlib.Core.List.{[]}
 use Rattle.search_store.specs.Store.{standing_at, standing_in}
-use Rattle.search_store.proofs.Standing.{found_here, found_none, none_below, ring_equal, ring_agree}
+use Rattle.search_store.proofs.Standing.{none_below, ring_equal, ring_agree}
 use Rattle.search_store.proofs.find.Goals as goal
 
 pub loop-i-init : goal.loop-i-init
 loop-i-init c = (omega arith, λ k h l. absurd (omega arith))
 
 pub returns-then-equal_at : goal.returns-then-equal_at
-returns-then-equal_at c =
-    found_here _ _ _ _ (omega arith) (ring_equal _ _ _ _ (c.equal_at.ensures.alike c.if-equal_at.true))
+returns-then-equal_at c = (omega arith, ring_equal _ _ _ _ (c.equal_at.ensures.alike c.if-equal_at.true))
 
 pub loop-i-preserved : goal.loop-i-preserved
 loop-i-preserved c = (
@@ -24,4 +23,4 @@ loop-i-preserved c = (
 )
 
 pub returns : goal.returns
-returns c = found_none _ _ _ (λ k h. c.loop-i.invariant.1 k (omega arith))
+returns c = λ k h. c.loop-i.invariant.1 k (omega arith) h

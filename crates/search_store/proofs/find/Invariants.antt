@@ -6,7 +6,7 @@ use mathlib.Core.Path.{◌≡◌}
 use mathlib.Core.Bool.{true}
 use mathlib.Core.List.{[]}
 use Rattle.search_store.specs.Store.{standing_at, standing_in}
-use Rattle.search_store.proofs.Standing.{found_here, found_none, none_below, ring_equal, ring_agree}
+use Rattle.search_store.proofs.Standing.{none_below}
 use Rattle.search_store.proofs.find.Given as goal
 
 abbrev pub invariant-loop-i : goal.invariant-loop-i

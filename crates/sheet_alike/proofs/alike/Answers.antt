@@ -1,6 +1,5 @@
 -- `sheet_alike::alike` meets its contract: the tests stand in the definition's order.
 -- Assumes nothing.
-use borrow.Author.Rules.{rules}
 use Rattle.sheet_alike.specs.Masks.{alike_words}
 use Rattle.standings.proofs.Tests.{first_fails, second_fails, third_decides}
 use mathlib.Core.Bool.{not}

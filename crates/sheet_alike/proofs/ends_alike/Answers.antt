@@ -1,6 +1,5 @@
 -- `sheet_alike::ends_alike` meets its contract: the tests stand in the definition's order.
 -- Assumes nothing.
-use borrow.Author.Rules.{rules}
 use Rattle.standings.proofs.Tests.{nulls_differ, nulls_agree}
 use Rattle.sheet_alike.proofs.ends_alike.Goals as goal
 

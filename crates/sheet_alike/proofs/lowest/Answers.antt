@@ -1,16 +1,14 @@
 -- `sheet_alike::lowest` meets its contract. The invariant: none of the atoms left is alike exactly where none of all is. The measure is
 -- the count of ones of the set left.
 -- Assumes nothing.
-use Prim.Native.Nat.{◌^◌, ◌<◌}
 use native.Mathlib.Omega.{arith}
-use mathlib.Core.Path.{◌≡◌, sym, ◌∙◌, ap}
+use mathlib.Core.Path.{sym, ◌∙◌, ap}
 use mathlib.Core.Bool.{not}
-use borrow.Author.Rules.{rules}
 use lib.Bits.{bit_and, and_le_l}
-use lib.Count.{ones, trailing_le}
+use lib.Count.{trailing_le}
 use Rattle.kat.specs.Lists.{some}
 use Rattle.bits.specs.Sets.{members}
-use Rattle.bits.proofs.Lowest.{Lowest, lowest as lowest-member}
+use Rattle.bits.proofs.Lowest.{lowest as lowest-member}
 use Rattle.bits.proofs.Walk.{some_end, some_hit, some_miss}
 use Rattle.sheet_alike.specs.Masks.{alike_words, lowest_words}
 use Rattle.sheet_alike.proofs.lowest.Goals as goal

@@ -4,7 +4,6 @@ use native.Mathlib.Omega.{arith}
 use mathlib.Core.Path.{◌≡◌, ◌∙◌, ap}
 use lib.ListN.{length}
 use Rattle.memory.specs.Memory.{words}
-use borrow.Author.Rules.{rules}
 use Rattle.sheet_alike.specs.Masks.{mask_at, masks_of}
 use Rattle.sheet_alike.proofs.masks.Goals as goal
 

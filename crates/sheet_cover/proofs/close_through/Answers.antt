@@ -1,7 +1,6 @@
 -- `sheet_cover::close_through` meets its contract: a round through a number whose row is empty changes nothing.
 -- Assumes nothing.
 use Rattle.sheet_cover.proofs.Rounds.{round_none, round_some}
-use borrow.Author.Rules.{rules}
 use Rattle.sheet_cover.proofs.close_through.Goals as goal
 
 pub returns-then-c-eq0 : goal.returns-then-c-eq0

@@ -6,7 +6,6 @@ use Rattle.claims.specs.Query.{bit}
 use Rattle.standings.specs.Steps.{ends_set}
 use Rattle.sheet_standings.specs.RingCells.{first_in, ring_covered}
 use Rattle.sheet_cover.proofs.Finals.{ring_completes}
-use borrow.Author.Rules.{rules}
 use Rattle.sheet_cover.proofs.completes.Goals as goal
 
 pub returns-then-ends_live : goal.returns-then-ends_live

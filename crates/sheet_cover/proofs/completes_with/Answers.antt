@@ -3,7 +3,6 @@
 use mathlib.Core.Path.{◌∙◌}
 use Rattle.sheet_standings.specs.RingCells.{first_in}
 use Rattle.sheet_cover.proofs.Finals.{with_first, with_other}
-use borrow.Author.Rules.{rules}
 use Rattle.sheet_cover.proofs.completes_with.Goals as goal
 
 pub returns-then-a-s : goal.returns-then-a-s

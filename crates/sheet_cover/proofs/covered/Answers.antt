@@ -5,7 +5,6 @@ use native.Mathlib.Omega.{arith}
 use mathlib.Core.Path.{◌≡◌}
 use lib.ListN.{length}
 use Rattle.sheet_cover.proofs.Turns.{covered_z, copy_long, covered_turns}
-use borrow.Author.Rules.{rules}
 use Rattle.sheet_cover.proofs.covered.Goals as goal
 
 pub returns-then-all-ne0 : goal.returns-then-all-ne0

@@ -3,7 +3,6 @@
 use mathlib.Core.Path.{sym, ◌∙◌, ap}
 use mathlib.Core.Bool.{◌&&◌}
 use Rattle.standings.specs.Steps.{ends_set}
-use borrow.Author.Rules.{rules}
 use Rattle.sheet_cover.proofs.ends_live.Goals as goal
 
 pub returns-then-member : goal.returns-then-member

@@ -1,7 +1,6 @@
 -- `sheet_cover::merged` meets its contract.
 -- Assumes nothing.
 use Rattle.sheet_cover.proofs.Rounds.{merged_in, merged_out}
-use borrow.Author.Rules.{rules}
 use Rattle.sheet_cover.proofs.merged.Goals as goal
 
 pub returns-then-member : goal.returns-then-member

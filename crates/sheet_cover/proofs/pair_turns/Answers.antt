@@ -5,7 +5,6 @@ use mathlib.Core.Path.{sym, ◌∙◌, ap}
 use lib.Bits.{bit_and}
 use Rattle.bits.specs.Sets.{meets}
 use Rattle.sheet_cover.proofs.Sought.{pair_found, pair_sought}
-use borrow.Author.Rules.{rules}
 use Rattle.sheet_cover.proofs.pair_turns.Goals as goal
 
 pub returns-then-member : goal.returns-then-member

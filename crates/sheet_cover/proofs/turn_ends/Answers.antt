@@ -3,7 +3,6 @@
 use native.Mathlib.Omega.{arith}
 use Rattle.bits.specs.Sets.{meets}
 use Rattle.sheet_cover.proofs.Sought.{turn_sought}
-use borrow.Author.Rules.{rules}
 use Rattle.sheet_cover.proofs.turn_ends.Goals as goal
 
 pub returns : goal.returns

@@ -6,7 +6,6 @@ use mathlib.Core.Bool.{◌||◌}
 use Rattle.standings.specs.Steps.{enders}
 use Rattle.sheet_standings.specs.RingCells.{first_in}
 use Rattle.sheet_cover.specs.inner.Rounds.{ends_by, pairs_by}
-use borrow.Author.Rules.{rules}
 use Rattle.sheet_cover.proofs.turns_cover.Goals as goal
 
 pub returns-then-turn_ends : goal.returns-then-turn_ends

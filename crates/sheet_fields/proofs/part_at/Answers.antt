@@ -1,16 +1,57 @@
--- `sheet_fields::part_at` meets its contract: it is answered as it was read.
+-- `sheet_fields::part_at` meets its contract: each turn keeps what holds between two fields, or answers the part.
 -- Assumes nothing.
-use mathlib.Core.Path.{subst⁻¹}
-use borrow.Author.Rules.{rules}
-use Rattle.sheet_fields.specs.inner.Between.{Answered}
+use mathlib.Core.Path.{◌∙◌, ap, subst⁻¹}
+use Rattle.std.specs.Prelude.{Ok}
+use Rattle.std.proofs.lemmas.Result.{err_from_is_err_and}
+use Rattle.sheet_fields.specs.inner.Between.{Between}
+use Rattle.sheet_fields.proofs.Turns.{turn_on, turn_over, turn_wrong}
 use Rattle.sheet_fields.proofs.part_at.Goals as goal
 
-pub read-s-requires : goal.read-s-requires
-read-s-requires c = c.requires
-
-pub returns : goal.returns
-returns c =
+pub returns-in_err-next-clause-inside : goal.returns-in_err-next-clause-inside
+returns-in_err-next-clause-inside c =
     let a = c.args in
-    let s = c.read-s in
-    let A = subst⁻¹ (Answered a.f a.sheet.now a.at s.new.heads s.new.chain) c.answer.ensures s.ensures in
-    record { inside = A.inside; read = A.read }
+    let l = c.loop-next in
+    let p = err_from_is_err_and c.from_residual.result c.from_residual.ensures.1 in
+    rw (p.1, p.2)
+    (turn_wrong a.f a.sheet.now c.type_inv.sheet l.r.sheet.now l.invariant.0 a.at l.heads l.chain l.awaited l.r.at l.invariant.1
+    c.step.new.heads c.step.new.chain c.step.result c.step.ensures c.in_err-next.field-0.0 c.in_err-next.was).inside
+
+pub returns-in_err-next-clause-read : goal.returns-in_err-next-clause-read
+returns-in_err-next-clause-read c =
+    let a = c.args in
+    let l = c.loop-next in
+    let p = err_from_is_err_and c.from_residual.result c.from_residual.ensures.1 in
+    rw (p.1, p.2)
+    (turn_wrong a.f a.sheet.now c.type_inv.sheet l.r.sheet.now l.invariant.0 a.at l.heads l.chain l.awaited l.r.at l.invariant.1
+    c.step.new.heads c.step.new.chain c.step.result c.step.ensures c.in_err-next.field-0.0 c.in_err-next.was).read
+
+pub loop-next-smaller : goal.loop-next-smaller
+loop-next-smaller c =
+    let a = c.args in
+    let l = c.loop-next in
+    (turn_on a.f a.sheet.now c.type_inv.sheet l.r.sheet.now l.invariant.0 a.at l.heads l.chain l.awaited l.r.at l.invariant.1
+    c.step.new.heads c.step.new.chain c.step.result c.step.ensures c.in-On.next c.in-On.end (c.in_ok-next.was ∙ ap Ok c.in-On.is)).1
+
+pub loop-next-preserved : goal.loop-next-preserved
+loop-next-preserved c =
+    let a = c.args in
+    let l = c.loop-next in (
+      ap (λ b. b.now) c.moved-r.ensures.0 ∙ l.invariant.0,
+      subst⁻¹ (Between a.f a.sheet.now a.at c.step.new.heads c.step.new.chain c.in-On.next) c.moved-r.ensures.1
+          (turn_on a.f a.sheet.now c.type_inv.sheet l.r.sheet.now l.invariant.0 a.at l.heads l.chain l.awaited l.r.at l.invariant.1
+          c.step.new.heads c.step.new.chain c.step.result c.step.ensures c.in-On.next c.in-On.end (c.in_ok-next.was ∙ ap Ok c.in-On.is)).0,
+    )
+
+pub returns-in-Over-clause-inside : goal.returns-in-Over-clause-inside
+returns-in-Over-clause-inside c =
+    let a = c.args in
+    let l = c.loop-next in
+    (turn_over a.f a.sheet.now c.type_inv.sheet l.r.sheet.now l.invariant.0 a.at l.heads l.chain l.awaited l.r.at l.invariant.1
+    c.step.new.heads c.step.new.chain c.step.result c.step.ensures c.in-Over.part (c.in_ok-next.was ∙ ap Ok c.in-Over.is)).inside
+
+pub returns-in-Over-clause-read : goal.returns-in-Over-clause-read
+returns-in-Over-clause-read c =
+    let a = c.args in
+    let l = c.loop-next in
+    (turn_over a.f a.sheet.now c.type_inv.sheet l.r.sheet.now l.invariant.0 a.at l.heads l.chain l.awaited l.r.at l.invariant.1
+    c.step.new.heads c.step.new.chain c.step.result c.step.ensures c.in-Over.part (c.in_ok-next.was ∙ ap Ok c.in-Over.is)).read

@@ -1,45 +1,35 @@
 -- `sheet_fields::step` meets its contract, by what is awaited.
 -- Assumes nothing.
-use native.Mathlib.Omega.{arith}
-use mathlib.Core.List.{[]}
-use Rattle.sheet_fields.proofs.Going.{at_verdict, at_standing, at_word, left_verdict, left_standing, left_word}
+use mathlib.Core.Path.{subst, sym}
+use Rattle.sheet_fields.specs.inner.Between.{Between, Goes, fields_left}
 use Rattle.sheet_fields.proofs.step.Goals as goal
 
-pub verdict_read-requires : goal.verdict_read-requires
-verdict_read-requires c = c.requires.1
-
-pub returns-then-s-eq-VERDICT : goal.returns-then-s-eq-VERDICT
-returns-then-s-eq-VERDICT c =
+pub returns-in-Verdict : goal.returns-in-Verdict
+returns-in-Verdict c =
     let a = c.args in
-    let e = c.requires.0 in
-    λ first between.
-    let (again, less) = c.verdict_read.ensures a.f first _ _
-    (at_verdict a.f a.sheet.now first _ _ a.s e (omega arith) between) in
-    (again, omega (arith, less, left_verdict a.f a.sheet.now first [] [] a.s e (omega arith)))
+    λ first all B.
+    subst (λ w. Goes a.f a.r.sheet.now first a.heads.now a.chain.now (fields_left w) c.verdict_read.result) (sym c.in-Verdict.is)
+    (c.verdict_read.ensures a.f first a.heads.now a.chain.now
+    (subst (λ w. Between a.f a.r.sheet.now first a.heads.now a.chain.now w a.r.at) c.in-Verdict.is B))
 
 pub standing_read-requires : goal.standing_read-requires
 standing_read-requires c =
     let a = c.args in
-    let p = c.requires in
-    (p.1, (at_standing a.f a.sheet.now p.2.0 _ _ a.s p.0 (omega arith) p.2.1).listed)
+    (subst (λ w. Between a.f a.r.sheet.now c.requires.0 a.heads.now a.chain.now w a.r.at) c.in-Standing.is c.requires.1).listed
 
-pub returns-then-s-eq-STANDING : goal.returns-then-s-eq-STANDING
-returns-then-s-eq-STANDING c =
+pub returns-in-Standing : goal.returns-in-Standing
+returns-in-Standing c =
     let a = c.args in
-    let e = c.requires.0 in
-    λ first between.
-    let (again, less) = c.standing_read.ensures first
-    (at_standing a.f a.sheet.now first _ _ a.s e (omega arith) between) in
-    (again, omega (arith, less, left_standing a.f a.sheet.now first [] [] a.s e (omega arith)))
+    let n = c.standing_read.new in
+    λ first all B.
+    subst (λ w. Goes a.f a.r.sheet.now first n.heads n.chain (fields_left w) c.standing_read.result) (sym c.in-Standing.is)
+    (c.standing_read.ensures first all
+    (subst (λ w. Between a.f a.r.sheet.now first a.heads.now a.chain.now w a.r.at) c.in-Standing.is B))
 
-pub word_read-requires : goal.word_read-requires
-word_read-requires c = c.requires.1
-
-pub returns : goal.returns
-returns c =
+pub returns-in-Word : goal.returns-in-Word
+returns-in-Word c =
     let a = c.args in
-    let e = c.requires.0 in
-    λ first between.
-    let (again, less) = c.word_read.ensures first _ _
-    (at_word a.f a.sheet.now first _ _ a.s e (omega arith) (omega arith) between) in
-    (again, omega (arith, less, left_word a.f a.sheet.now first [] [] a.s e (omega arith) (omega arith)))
+    λ first all B.
+    subst (λ w. Goes a.f a.r.sheet.now first a.heads.now a.chain.now (fields_left w) c.word_read.result) (sym c.in-Word.is)
+    (c.word_read.ensures first a.heads.now a.chain.now
+    (subst (λ w. Between a.f a.r.sheet.now first a.heads.now a.chain.now w a.r.at) c.in-Word.is B))

@@ -1,7 +1,7 @@
 -- What holds between two fields of a part that is read: which field is awaited, what the index holds, and that what is left to read is the
 -- whole reading. (Document 01, "Sheet and graph bytes": "The sheet is read field by field from where the last one ended".)
 -- Assumes nothing.
-use Rattle.std.specs.Prelude.{ℕ, zero, suc, ◌+◌, ◌-◌, ◌≤◌, ◌≡◌, Bool, true, false, List, [], map, length, drop}
+use Rattle.std.specs.Prelude.{ℕ, suc, ◌+◌, ◌-◌, ◌≤◌, ◌<◌, ◌≡◌, Result as Answer, Ok, Err, List, [], map, length, drop}
 use Rattle.kat.specs.Lists.{In}
 use Rattle.claims.specs.Fields.{next_field}
 use Rattle.claims.specs.SheetReading.{standings_in, word_from, part_in}
@@ -12,32 +12,17 @@ use Rattle.sheet_standings.specs.CellSystem.{cells_show}
 use Rattle.sheet_standings.specs.Good.{GoodCells}
 use Rattle.layout.specs.Layout.{MOST-STANDINGS, VERDICT}
 use Rattle.sheet_fields.specs.declared.PartRead.{PartRead}
-use Rattle.sheet_fields.specs.declared.PartRead.TheVariants.{Proved, Refuted, Wrong}
-use Rattle.sheet_fields.specs.declared.Reading.{Reading}
+use Rattle.sheet_fields.specs.declared.Awaited.{Awaited}
+use Rattle.sheet_fields.specs.declared.Awaited.TheVariants.{Verdict, Standing, Word}
+use Rattle.sheet_fields.specs.declared.Turn.{Turn}
+use Rattle.sheet_fields.specs.declared.Turn.TheVariants.{On, Over}
 use Rattle.sheet_fields.specs.Reads.{ListedAt, Empty, Inside, cells_listed, Reads}
 
--- a field is wrong, after so many good ones (refusal 13)
-abbrev pub wrong_after : Reading → ℕ → Reading
-wrong_after s good = record { going = false; awaited = 0; base = s.base; count = good; at = s.at }
-
--- the answer of a reading that is over, by what it last awaited ("Sheet and graph bytes")
-abbrev pub answer_by : ℕ → ℕ → ℕ → ℕ → PartRead
-answer_by zero base count at = Wrong count
-answer_by (suc zero) base count at = Proved base count at
-answer_by (suc (suc n)) base count at = Refuted base at
-
-unfoldable pub answer_of : Reading → PartRead
-answer_of s = answer_by s.awaited s.base s.count s.at
-
--- more than the fields that may still be read: the verdict, the standings and what is behind them from the verdict on, and none where the reading is over ("Sheet and graph bytes")
-abbrev pub left_by : Bool → ℕ → ℕ → ℕ
-left_by false awaited count = 0
-left_by true zero count = MOST-STANDINGS + 3
-left_by true (suc zero) count = MOST-STANDINGS + 2 - count
-left_by true (suc (suc n)) count = 1
-
-unfoldable pub fields_left : Reading → ℕ
-fields_left s = left_by s.going s.awaited s.count
+-- more than the fields that may still be read: the verdict, the standings and what is behind them from the verdict on ("Sheet and graph bytes")
+abbrev pub fields_left : Awaited → ℕ
+fields_left Verdict = MOST-STANDINGS + 3
+fields_left (Standing s) = MOST-STANDINGS + 2 - s.count
+fields_left Word = 1
 
 -- standings 0 to n - 1 are read, and place at is behind them; at most fuel may follow one another ("Sheet and graph bytes")
 pub record SoFar (D : Decision) (bs : List ℕ) (base fuel n at : ℕ) : Type 0 where
@@ -66,16 +51,18 @@ pub record AtWord (f : Facts) (bs : List ℕ) (first : ℕ) (heads chain : List 
   pub part : (D : Decision) (k : ℕ) → part_in D k (drop first bs) ≡ word_from D (suc k) (next_field (drop at bs))
 
 -- the part from place first on is answered ("Sheet and graph bytes")
-pub record Answered (f : Facts) (bs : List ℕ) (first : ℕ) (heads chain : List ℕ) (r : PartRead) : Type 0 where
+pub record Answered (f : Facts) (bs : List ℕ) (first : ℕ) (heads chain : List ℕ) (r : Answer PartRead ℕ) : Type 0 where
   pub inside : Inside f.ring bs first heads chain r
   pub read : (left right : List ℕ) (D : Decision) → Decided f left right D → (k : ℕ) → Reads f.ring D bs k (part_in D k (drop first bs)) r
 
--- by whether the reading goes on, and what it awaits ("Sheet and graph bytes")
-abbrev pub BetweenBy : Facts → List ℕ → ℕ → List ℕ → List ℕ → Bool → ℕ → ℕ → ℕ → ℕ → Type 0
-BetweenBy f bs first heads chain false awaited base count at = Answered f bs first heads chain (answer_by awaited base count at)
-BetweenBy f bs first heads chain true zero base count at = AtVerdict first heads chain at
-BetweenBy f bs first heads chain true (suc zero) base count at = AtStanding f bs first heads chain base count at
-BetweenBy f bs first heads chain true (suc (suc n)) base count at = AtWord f bs first heads chain at
+-- by what is awaited from place at on ("Sheet and graph bytes")
+abbrev pub Between : Facts → List ℕ → ℕ → List ℕ → List ℕ → Awaited → ℕ → Type 0
+Between f bs first heads chain Verdict at = AtVerdict first heads chain at
+Between f bs first heads chain (Standing s) at = AtStanding f bs first heads chain s.base s.count at
+Between f bs first heads chain Word at = AtWord f bs first heads chain at
 
-unfoldable pub Between : Facts → List ℕ → ℕ → List ℕ → List ℕ → Reading → Type 0
-Between f bs first heads chain s = BetweenBy f bs first heads chain s.going s.awaited s.base s.count s.at
+-- a field was read: the part is answered, or fewer than m fields are left ("Sheet and graph bytes")
+abbrev pub Goes : Facts → List ℕ → ℕ → List ℕ → List ℕ → ℕ → Answer Turn ℕ → Type 0
+Goes f bs first heads chain m (Err i) = Answered f bs first heads chain (Err i)
+Goes f bs first heads chain m (Ok (Over p)) = Answered f bs first heads chain (Ok p)
+Goes f bs first heads chain m (Ok (On a at)) = Between f bs first heads chain a at × (fields_left a < m)

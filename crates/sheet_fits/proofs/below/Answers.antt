@@ -3,7 +3,6 @@
 use native.Mathlib.Omega.{arith}
 use mathlib.Core.Path.{◌∙◌, ap}
 use lib.Dec.{leb}
-use borrow.Author.Rules.{rules}
 use Rattle.sheet_fits.proofs.Rows.{below_test}
 use Rattle.sheet_fits.proofs.below.Goals as goal
 

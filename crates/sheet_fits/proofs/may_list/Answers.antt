@@ -2,8 +2,7 @@
 -- Assumes nothing.
 use mathlib.Core.Path.{sym, ◌∙◌, ap}
 use lib.Dec.{eqb}
-use borrow.Author.Tests.{not-true, not-false}
-use borrow.Author.Rules.{rules}
+use Rattle.sheet_index.proofs.Kept.{none_numbered}
 use Rattle.claims.specs.Bytes.{same}
 use Rattle.sheet_standings.specs.Layout.{listed_cells}
 use Rattle.sheet_standings.specs.CellSystem.{cells_fit}
@@ -15,9 +14,8 @@ use Rattle.sheet_fits.proofs.may_list.Goals as goal
 pub fits-requires : goal.fits-requires
 fits-requires c =
     let load' = c.load in
-    let known = c.shared_slice_known-1 in
     let a = c.args in
-    loaded_small a.f.ring a.sheet.now a.at load'.new.to (all_bytes a.sheet.now known.given) load'.ensures
+    loaded_small a.f.ring a.sheet.now a.at load'.new.to (all_bytes a.sheet.now c.type_inv.sheet) load'.ensures
 
 pub returns-then-not-fits : goal.returns-then-not-fits
 returns-then-not-fits c =
@@ -39,8 +37,8 @@ returns c =
     let fits2' = c.fits in
     let load' = c.load in
     let a = c.args in
-    ap (λ k. eqb k 0) (c.find.ensures
-    ∙ ap (λ s. last_where (λ i. same (listed_cells a.f.ring a.sheet.now a.base i) s) a.n) load'.ensures)
+    none_numbered _ _ _ (sym c.is_none.ensures) c.find.ensures
+    ∙ ap (λ s. eqb (last_where (λ i. same (listed_cells a.f.ring a.sheet.now a.base i) s) a.n) 0) load'.ensures
     ∙ sym (found_decides a.f.ring a.f.atoms a.f.left a.f.right a.sheet.now a.base a.n a.at
     c.requires.3
     (ap (cells_fit a.f.ring a.f.atoms a.f.left a.f.right) (sym load'.ensures) ∙ sym fits2'.ensures ∙ if1'.false))

@@ -4,8 +4,6 @@ use Prim.Native.Nat.{◌^◌}
 use native.Mathlib.Omega.{arith}
 use mathlib.Core.Path.{sym, ◌∙◌, ap}
 use lib.Dec.{ltb}
-use borrow.Author.Tests.{not-true, not-false}
-use borrow.Author.Rules.{rules}
 use Rattle.sheet_fits.proofs.Tests.{small_cell, first_wrong, flag_wrong, set_wrong, rows_m_wrong, rows_n_left}
 use Rattle.sheet_fits.proofs.ring_fits.Goals as goal
 

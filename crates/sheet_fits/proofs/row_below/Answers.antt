@@ -4,7 +4,6 @@ use Prim.Native.Nat.{◌+◌, ◌^◌}
 use native.Mathlib.Omega.{arith}
 use mathlib.Core.Path.{◌∙◌, ap}
 use lib.Dec.{ltb}
-use borrow.Author.Rules.{rules}
 use Rattle.sheet_fits.proofs.Rows.{row_test}
 use Rattle.sheet_fits.proofs.row_below.Goals as goal
 

@@ -1,7 +1,6 @@
 -- `sheet_fits::row_fits` meets its contract: by the table.
 -- Assumes nothing.
 use mathlib.Core.Path.{sym, ◌∙◌, ap}
-use borrow.Author.Rules.{rules}
 use Rattle.sheet_fits.specs.inner.Rows.{row_of}
 use Rattle.sheet_fits.proofs.row_fits.Goals as goal
 

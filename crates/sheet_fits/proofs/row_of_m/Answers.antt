@@ -2,7 +2,6 @@
 -- Assumes nothing.
 use native.Mathlib.Omega.{arith}
 use mathlib.Core.Path.{sym, ◌∙◌}
-use borrow.Author.Rules.{rules}
 use Rattle.sheet_fits.proofs.Rows.{outside_m, odd_m, inside_m}
 use Rattle.sheet_fits.proofs.row_of_m.Goals as goal
 

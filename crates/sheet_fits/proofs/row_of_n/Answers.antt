@@ -2,7 +2,6 @@
 -- Assumes nothing.
 use native.Mathlib.Omega.{arith}
 use mathlib.Core.Path.{sym, ◌∙◌}
-use borrow.Author.Rules.{rules}
 use Rattle.sheet_fits.proofs.Rows.{first_n_lem, outside_n, inside_n}
 use Rattle.sheet_fits.proofs.row_of_n.Goals as goal
 

@@ -1,6 +1,5 @@
 -- `sheet_fits::word_at` meets its contract: two cells below 2 ^ 32 are a word.
 -- Assumes nothing.
-use borrow.Author.Rules.{rules}
 use Rattle.sheet_fits.proofs.Tests.{wide_is}
 use Rattle.sheet_fits.proofs.word_at.Goals as goal
 

@@ -1,16 +1,18 @@
 -- A verdict, and whether the field at a place is that of a standing which may be listed next. (Document 01, "Sheet and graph bytes".)
 -- Assumes nothing.
-use Rattle.std.specs.Prelude.{ℕ, Bool, cond, false, ◌&&◌, List, [], ◌∷◌, eqb, length, drop}
+use Rattle.std.specs.Prelude.{ℕ, Bool, cond, false, ◌&&◌, Option, Some, None, List, [], ◌∷◌, eqb, length, drop}
 use Rattle.claims.specs.Bytes.{same}
 use Rattle.claims.specs.Fields.{Field, whole, cut, next_field}
 use Rattle.claims.specs.SheetBytes.{contents_length}
 use Rattle.sheet_standings.specs.Layout.{standing_cells, listed_cells}
 use Rattle.sheet_standings.specs.CellSystem.{cells_fit}
 use Rattle.sheet_index.specs.Index.{last_where}
+use Rattle.sheet_fits.specs.declared.Verdict.{Verdict}
+use Rattle.sheet_fits.specs.declared.Verdict.TheVariants.{Proved, Refuted}
 
--- the verdict that contents are: 1 proved, 2 refuted, 0 for none ("Sheet and graph bytes")
-unfoldable pub verdict_of : List ℕ → ℕ
-verdict_of contents = cond (same contents (1 ∷ [])) 1 (cond (same contents (2 ∷ [])) 2 0)
+-- the verdict that contents are: 1 proved, 2 refuted ("Sheet and graph bytes")
+unfoldable pub verdict_of : List ℕ → Option Verdict
+verdict_of contents = cond (same contents (1 ∷ [])) (Some Proved) (cond (same contents (2 ∷ [])) (Some Refuted) None)
 
 -- a whole field as long as a standing's ("Sheet and graph bytes")
 unfoldable pub sized : Bool → Field → Bool

@@ -5,7 +5,6 @@ use Rattle.sheet_index.proofs.Listed.{cells_listed_lem}
 use Rattle.sheet_index.specs.Index.{slot_of}
 use mathlib.Core.Path.{◌∙◌, ap}
 use native.Mathlib.Omega.{arith}
-use borrow.Author.Rules.{rules}
 use Rattle.sheet_index.proofs.add.Goals as goal
 
 pub returns : goal.returns

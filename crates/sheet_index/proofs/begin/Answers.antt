@@ -2,7 +2,6 @@
 -- Assumes nothing.
 use Rattle.sheet_index.proofs.Listed.{ring_fits_lem, path_fits_lem, ring_begin_lem, path_begin_lem}
 use native.Mathlib.Omega.{arith}
-use borrow.Author.Rules.{rules}
 use Rattle.sheet_index.proofs.begin.Goals as goal
 
 pub overflow_mul-result : goal.overflow_mul-result

@@ -1,7 +1,6 @@
 -- `sheet_index::count` meets its contract, by the kind of the claim.
 -- Assumes nothing.
 use Rattle.sheet_index.proofs.Listed.{ring_count, path_count}
-use borrow.Author.Rules.{rules}
 use Rattle.sheet_index.proofs.count.Goals as goal
 
 pub returns-then-ring : goal.returns-then-ring

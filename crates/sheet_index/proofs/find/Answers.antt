@@ -1,23 +1,21 @@
 -- `sheet_index::find` meets its contract. The invariant: the place is in the slot of the cells, and up to it the last
 -- standing that has them is that of all.
 -- Assumes nothing.
-use Rattle.sheet_index.proofs.Kept.{Followed, follow_begin, follow_lower, follow_more, follow_found, follow_none}
+use Rattle.sheet_index.proofs.Kept.{follow_begin, follow_lower, follow_more, follow_found, follow_none}
 use Rattle.sheet_index.proofs.Listed.{below_fits, equal_listed}
 use Rattle.sheet_index.specs.Index.{slot_of}
-use Rattle.sheet_standings.specs.Layout.{cell_count, listed_cells}
 use lib.ListN.{take}
 use mathlib.Core.Path.{refl, ◌∙◌, ap}
 use Prim.Native.Nat.{◌-◌}
 use native.Mathlib.Omega.{arith}
-use borrow.Author.Rules.{rules}
 use Rattle.sheet_index.proofs.find.Goals as goal
 
 pub loop-place-init : goal.loop-place-init
 loop-place-init c =
     let a = c.args in
-    follow_begin _ _ _ _ c.requires.0 _ c.slot_of-slot.result _
-    (c.slot_of-slot.ensures.0 ∙ ap (λ k. slot_of (take k a.cells.now)) c.count-k.ensures.0)
-    c.slot_of-slot.ensures.1 refl
+    follow_begin _ _ _ _ c.requires.0 _ c.slot_of.result _
+    (c.slot_of.ensures.0 ∙ ap (λ k. slot_of (take k a.cells.now)) c.count-k.ensures.0)
+    c.slot_of.ensures.1 refl
 
 pub begin-from-requires : goal.begin-from-requires
 begin-from-requires c =

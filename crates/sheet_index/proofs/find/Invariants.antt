@@ -1,15 +1,9 @@
 -- `sheet_index::find` meets its contract. The invariant: the place is in the slot of the cells, and up to it the last
 -- standing that has them is that of all.
 -- Assumes nothing.
-use Rattle.sheet_index.proofs.Kept.{Followed, follow_begin, follow_lower, follow_more, follow_found, follow_none}
-use Rattle.sheet_index.proofs.Listed.{below_fits, equal_listed}
-use Rattle.sheet_index.specs.Index.{slot_of}
+use Rattle.sheet_index.proofs.Kept.{Followed}
 use Rattle.sheet_standings.specs.Layout.{cell_count, listed_cells}
 use lib.ListN.{take}
-use mathlib.Core.Path.{refl, ◌∙◌, ap}
-use Prim.Native.Nat.{◌-◌}
-use native.Mathlib.Omega.{arith}
-use borrow.Author.Rules.{rules}
 use Rattle.sheet_index.proofs.find.Given as goal
 
 abbrev pub invariant-loop-place : goal.invariant-loop-place

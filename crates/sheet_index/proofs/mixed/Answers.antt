@@ -3,7 +3,6 @@
 use Rattle.sheet_index.specs.Index.{mixed}
 use mathlib.Core.Path.{refl}
 use native.Mathlib.Omega.{arith}
-use borrow.Author.Rules.{rules}
 use Rattle.sheet_index.proofs.mixed.Goals as goal
 
 pub returns : goal.returns

@@ -2,28 +2,20 @@
 -- Assumes nothing.
 use Rattle.sheet_index.proofs.Listed.{hash_cell}
 use Rattle.sheet_index.proofs.Hashes.{hash_end}
-use Rattle.sheet_index.specs.Index.{hash_from}
 use Rattle.fields.proofs.Cells.{cells_length}
 use Rattle.fields.specs.Places.{cells_at}
-use lib.ListN.{drop}
-use Prim.Native.Nat.{◌-◌, ◌≤◌, ◌<◌}
-use mathlib.Core.Path.{◌≡◌, refl, ◌∙◌}
+use mathlib.Core.Path.{◌∙◌}
 use native.Mathlib.Omega.{arith}
-use borrow.Author.Rules.{rules}
 use Rattle.sheet_index.proofs.slot_at.Goals as goal
-
-pub loop-j-init : goal.loop-j-init
-loop-j-init c = (omega arith, omega arith, refl)
 
 pub loop-j-preserved : goal.loop-j-preserved
 loop-j-preserved c =
     let l = c.loop-j in
     let a = c.args in (
-      omega arith,
       c.mixed-h.ensures.1,
-      hash_cell a.sheet.now a.from a.n l.h _ l.j c.cell_within-c.result (omega arith)
-          c.cell_within-c.ensures c.mixed-h.ensures.0
-          ∙ l.invariant.2,
+      hash_cell a.sheet.now a.from a.n l.h _ l.j c.cell_within.result (omega arith)
+          c.cell_within.ensures c.mixed-h.ensures.0
+          ∙ l.invariant.1,
     )
 
 pub returns : goal.returns
@@ -31,6 +23,6 @@ returns c =
     let l = c.loop-j in
     let a = c.args in (
       hash_end (cells_at a.sheet.now a.from a.n) l.h l.j
-          (omega (arith, cells_length a.sheet.now a.from a.n)) l.invariant.2,
+          (omega (arith, cells_length a.sheet.now a.from a.n)) l.invariant.1,
       omega arith,
     )

@@ -1,14 +1,11 @@
 -- `sheet_listed::atoms_listed` meets its contract. The invariant: the atoms left pass exactly where all do. The measure is the count of ones
 -- of the set left.
 -- Assumes nothing.
-use Prim.Native.Nat.{◌^◌, ◌<◌}
 use native.Mathlib.Omega.{arith}
-use mathlib.Core.Path.{◌≡◌, refl, sym, ◌∙◌, ap}
-use lib.Count.{ones, trailing_le}
+use mathlib.Core.Path.{refl, sym, ◌∙◌, ap}
+use lib.Count.{trailing_le}
 use lib.ListN.{take}
-use Rattle.kat.specs.Lists.{every}
-use Rattle.bits.specs.Sets.{members}
-use Rattle.bits.proofs.Lowest.{Lowest, lowest}
+use Rattle.bits.proofs.Lowest.{lowest}
 use Rattle.standings.proofs.Loops.{all_end, all_fails, all_passes}
 use Rattle.sheet_standings.specs.Layout.{cell_count}
 use Rattle.sheet_listed.specs.Listed.{part_cells, letter_listed, atoms_listed}
@@ -26,11 +23,11 @@ overflow_cast-a c = omega (arith, trailing_le 64 c.loop-rest.rest)
 pub step-requires : goal.step-requires
 step-requires c = (c.requires.1, omega (arith, ((lowest 64 c.loop-rest.rest c.loop-rest.invariant.0 c.loop-rest-test.true)).inside))
 
-pub listed-there-requires : goal.listed-there-requires
-listed-there-requires c = c.requires.0
+pub listed-requires : goal.listed-requires
+listed-requires c = c.requires.0
 
-pub returns-then-not-there : goal.returns-then-not-there
-returns-then-not-there c =
+pub returns-then-not-listed : goal.returns-then-not-listed
+returns-then-not-listed c =
     let a = c.args in
     let l = a.l in
     sym
@@ -39,7 +36,7 @@ returns-then-not-there c =
     (part_cells l.of.facts.ring a.sheet.now l.of.base l.of.count) l.first
     (take (cell_count l.of.facts.ring) a.from.now) l.relation)
     64 ((lowest 64 c.loop-rest.rest c.loop-rest.invariant.0 c.loop-rest-test.true)) _
-    (letter_passes _ _ _ _ _ _ _ _ _ _ c.step.ensures c.listed-there.ensures) (ap not c.if-not-there.true))
+    (letter_passes _ _ _ _ _ _ _ _ _ _ c.step.ensures c.listed.ensures) (ap not c.if-not-listed.true))
     ∙ c.loop-rest.invariant.1
 
 pub loop-rest-smaller : goal.loop-rest-smaller
@@ -55,7 +52,7 @@ loop-rest-preserved c =
           (letter_listed l.of.facts.ring a.left.now a.right.now
           (part_cells l.of.facts.ring a.sheet.now l.of.base l.of.count) l.first
           (take (cell_count l.of.facts.ring) a.from.now) l.relation)
-          64 x _ (letter_passes _ _ _ _ _ _ _ _ _ _ c.step.ensures c.listed-there.ensures) (ap not c.if-not-there.false)
+          64 x _ (letter_passes _ _ _ _ _ _ _ _ _ _ c.step.ensures c.listed.ensures) (ap not c.if-not-listed.false)
           ∙ c.loop-rest.invariant.1,
     )
 

@@ -2,18 +2,13 @@
 -- of the set left.
 -- Assumes nothing.
 use Prim.Native.Nat.{◌^◌, ◌<◌}
-use native.Mathlib.Omega.{arith}
-use mathlib.Core.Path.{◌≡◌, refl, sym, ◌∙◌, ap}
-use lib.Count.{ones, trailing_le}
+use mathlib.Core.Path.{◌≡◌}
+use lib.Count.{ones}
 use lib.ListN.{take}
 use Rattle.kat.specs.Lists.{every}
 use Rattle.bits.specs.Sets.{members}
-use Rattle.bits.proofs.Lowest.{Lowest, lowest}
-use Rattle.standings.proofs.Loops.{all_end, all_fails, all_passes}
 use Rattle.sheet_standings.specs.Layout.{cell_count}
 use Rattle.sheet_listed.specs.Listed.{part_cells, letter_listed, atoms_listed}
-use Rattle.sheet_listed.proofs.Ways.{letter_passes}
-use mathlib.Core.Bool.{not}
 use Rattle.sheet_listed.proofs.atoms_listed.Given as goal
 
 abbrev pub invariant-loop-rest : goal.invariant-loop-rest

@@ -1,6 +1,5 @@
 -- `sheet_listed::atoms_tried` meets its contract: by the level and the kind of the claim.
 -- Assumes nothing.
-use borrow.Author.Rules.{rules}
 use Rattle.kat.proofs.Bools.{not_true_false}
 use Rattle.standings.proofs.Tests.{not_false_true}
 use Rattle.sheet_listed.proofs.Ways.{all_tried, first_tried_lem, later_tried_lem}

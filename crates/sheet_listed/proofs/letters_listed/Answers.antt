@@ -1,12 +1,8 @@
--- `sheet_listed::letters_listed` meets its contract. The invariant: the relations left pass exactly where all do. The measure is what is
--- left.
+-- `sheet_listed::letters_listed` meets its contract. The invariant: the relations left pass exactly where all do.
 -- Assumes nothing.
-use Prim.Native.Nat.{◌-◌}
 use native.Mathlib.Omega.{arith}
-use mathlib.Core.Path.{◌≡◌, refl, sym, ◌∙◌, ap}
-use borrow.Author.Rules.{rules}
+use mathlib.Core.Path.{refl, sym, ◌∙◌, ap}
 use lib.ListN.{take}
-use Rattle.kat.specs.Lists.{upto, every}
 use Rattle.standings.proofs.Loops.{every_end, every_fails, every_passes}
 use Rattle.sheet_standings.specs.Layout.{cell_count}
 use Rattle.sheet_listed.specs.Listed.{part_cells, relation_listed, letters_listed}
@@ -18,13 +14,13 @@ pub loop-r-init : goal.loop-r-init
 unfolding letters_listed
 loop-r-init c = refl
 
-pub atoms_listed-there-requires : goal.atoms_listed-there-requires
-atoms_listed-there-requires c =
+pub atoms_listed-requires : goal.atoms_listed-requires
+atoms_listed-requires c =
     let p = c in
     letters_ready p.args.t p.args.left.now p.args.right.now p.args.sheet.now p.args.from.now _ _ c.letters_of.ensures _ _ p.requires
 
-pub returns-then-not-there : goal.returns-then-not-there
-returns-then-not-there c =
+pub returns-then-not-atoms_listed : goal.returns-then-not-atoms_listed
+returns-then-not-atoms_listed c =
     let a = c.args in
     let l = c.loop-r in
     let t = a.t in
@@ -33,12 +29,9 @@ returns-then-not-there c =
     (relation_listed t.of.facts a.left.now a.right.now
     (part_cells t.of.facts.ring a.sheet.now t.of.base t.of.count) t.first
     (take (cell_count t.of.facts.ring) a.from.now) t.masks)
-    l.r t.of.facts.relations (omega arith) c.atoms_listed-there.result
-    (relation_passes _ _ _ _ _ _ _ c.letters_of.ensures _ c.atoms_listed-there.ensures) (ap not c.if-not-there.true))
+    l.r t.of.facts.relations (omega arith) c.atoms_listed.result
+    (relation_passes _ _ _ _ _ _ _ c.letters_of.ensures _ c.atoms_listed.ensures) (ap not c.if-not-atoms_listed.true))
     ∙ l.invariant
-
-pub overflow_add-r : goal.overflow_add-r
-overflow_add-r c = omega (arith, c.struct_known-1.given)
 
 pub loop-r-preserved : goal.loop-r-preserved
 loop-r-preserved c =
@@ -49,8 +42,8 @@ loop-r-preserved c =
     (relation_listed t.of.facts a.left.now a.right.now
     (part_cells t.of.facts.ring a.sheet.now t.of.base t.of.count) t.first
     (take (cell_count t.of.facts.ring) a.from.now) t.masks)
-    l.r t.of.facts.relations (omega arith) c.atoms_listed-there.result
-    (relation_passes _ _ _ _ _ _ _ c.letters_of.ensures _ c.atoms_listed-there.ensures) (ap not c.if-not-there.false)
+    l.r t.of.facts.relations (omega arith) c.atoms_listed.result
+    (relation_passes _ _ _ _ _ _ _ c.letters_of.ensures _ c.atoms_listed.ensures) (ap not c.if-not-atoms_listed.false)
     ∙ l.invariant
 
 pub returns : goal.returns

@@ -1,7 +1,6 @@
 -- `sheet_listed::letters_of` meets its contract: the atoms of the relation are those to try.
 -- Assumes nothing.
 use mathlib.Core.Path.{ap}
-use borrow.Author.Rules.{rules}
 use Rattle.sheet_listed.proofs.letters_of.Goals as goal
 
 pub returns : goal.returns

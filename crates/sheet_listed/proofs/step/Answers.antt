@@ -1,6 +1,5 @@
 -- `sheet_listed::step` meets its contract: by whether the letter is the first.
 -- Assumes nothing.
-use borrow.Author.Rules.{rules}
 use Rattle.sheet_listed.proofs.Ways.{first_step, later_step}
 use Rattle.sheet_listed.proofs.step.Goals as goal
 

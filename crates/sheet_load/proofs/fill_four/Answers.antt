@@ -5,7 +5,6 @@ use mathlib.Core.Path.{◌≡◌, ◌∙◌, ap}
 use mathlib.Core.List.{◌++◌}
 use lib.ListN.{length, take, drop, length-take}
 use Rattle.fields.specs.Places.{cells_at}
-use borrow.Author.Rules.{rules}
 use Rattle.sheet_load.proofs.fill_four.Goals as goal
 
 pub returns : goal.returns

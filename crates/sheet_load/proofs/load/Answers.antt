@@ -3,7 +3,6 @@
 use mathlib.Core.Path.{◌∙◌, ap}
 use Rattle.fields.specs.Places.{cells_at}
 use Rattle.sheet_load.proofs.ByKind.{loads_ring, loads_path}
-use borrow.Author.Rules.{rules}
 use Rattle.sheet_load.proofs.load.Goals as goal
 
 pub returns-then-ring : goal.returns-then-ring

@@ -1,7 +1,6 @@
 -- `sheet_load::possible` meets its contract, by the kind of the claim.
 -- Assumes nothing.
 use Rattle.sheet_load.proofs.ByKind.{possible_path, possible_ring}
-use borrow.Author.Rules.{rules}
 use Rattle.sheet_load.proofs.possible.Goals as goal
 
 pub returns-then-ring : goal.returns-then-ring

@@ -3,7 +3,6 @@
 use mathlib.Core.Path.{refl, sym}
 use lib.Seq.{set_out}
 use Rattle.sheet_pairs.specs.inner.Rows.{row_joined}
-use borrow.Author.Rules.{rules}
 use Rattle.sheet_pairs.proofs.join.Goals as goal
 
 pub returns-then-k-to : goal.returns-then-k-to

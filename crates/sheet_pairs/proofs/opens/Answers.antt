@@ -5,7 +5,6 @@ use native.Mathlib.Omega.{arith}
 use mathlib.Core.Path.{refl, sym, ◌∙◌, ap}
 use mathlib.Core.Bool.{cond}
 use Rattle.bits.proofs.Rows.{shifted_one, meets_true, meets_false}
-use borrow.Author.Rules.{rules}
 use Rattle.sheet_pairs.proofs.opens.Goals as goal
 
 pub returns-then-row-e-ne0 : goal.returns-then-row-e-ne0

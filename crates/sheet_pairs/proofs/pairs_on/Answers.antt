@@ -12,7 +12,6 @@ use Rattle.standings.specs.Steps.{step_from}
 use Rattle.sheet_standings.specs.RingCells.{row_n, opened, sent}
 use Rattle.sheet_pairs.specs.inner.Rows.{pushed, spread_over}
 use Rattle.sheet_pairs.proofs.Rows.{spread_all, spread_clear}
-use borrow.Author.Rules.{rules}
 use Rattle.sheet_pairs.proofs.pairs_on.Goals as goal
 
 pub returns : goal.returns

@@ -1,13 +1,12 @@
 -- `sheet_pairs::push` meets its contract. The invariant: w joined into the rows of the members left, on the memory as it is, is w joined
 -- into those of all members on the memory at the start. The measure is the count of ones of the set left.
 -- Assumes nothing.
-use Prim.Native.Nat.{◌-◌, ◌^◌, ◌<◌}
+use Prim.Native.Nat.{◌-◌}
 use native.Mathlib.Omega.{arith}
-use mathlib.Core.Path.{◌≡◌, refl, sym, ◌∙◌, ap}
+use mathlib.Core.Path.{refl, sym, ◌∙◌, ap}
 use lib.Bits.{bit_and}
-use lib.Count.{ones, trailing_le}
-use lib.ListN.{length}
-use Rattle.bits.proofs.Lowest.{Lowest, lowest}
+use lib.Count.{trailing_le}
+use Rattle.bits.proofs.Lowest.{lowest}
 use Rattle.sheet_pairs.specs.inner.Rows.{pushed}
 use Rattle.sheet_pairs.proofs.Rows.{pushed_more, pushed_end}
 use borrow.Author.Rules.{rules}

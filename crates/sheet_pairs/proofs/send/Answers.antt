@@ -5,7 +5,6 @@ use mathlib.Core.Path.{◌∙◌, ap}
 use Rattle.standings.specs.Steps.{step_from}
 use Rattle.sheet_pairs.specs.inner.Rows.{pushed}
 use Rattle.sheet_pairs.proofs.Rows.{pushed_none}
-use borrow.Author.Rules.{rules}
 use Rattle.sheet_pairs.proofs.send.Goals as goal
 
 pub returns-then-w-eq0 : goal.returns-then-w-eq0

@@ -2,7 +2,6 @@
 -- Assumes nothing.
 use mathlib.Core.Path.{sym, ◌∙◌, ap}
 use mathlib.Core.Bool.{not, ◌&&◌}
-use borrow.Author.Rules.{rules}
 use Rattle.standings.specs.Steps.{null_at}
 use Rattle.sheet_proves.proofs.alone_refutes.Goals as goal
 

@@ -1,17 +1,12 @@
 -- `sheet_proves::none_alone` meets its contract. The invariant: none of the atoms left refutes exactly where none of all does. The measure is
 -- the count of ones of the set left.
 -- Assumes nothing.
-use Prim.Native.Nat.{◌^◌, ◌<◌}
 use native.Mathlib.Omega.{arith}
-use mathlib.Core.Path.{◌≡◌, sym, ◌∙◌, ap}
+use mathlib.Core.Path.{sym, ◌∙◌, ap}
 use mathlib.Core.Bool.{not}
-use borrow.Author.Rules.{rules}
-use lib.Count.{ones, trailing_le}
-use Rattle.kat.specs.Lists.{some, is_empty}
-use Rattle.bits.specs.Sets.{members}
-use Rattle.bits.proofs.Lowest.{Lowest, lowest}
+use lib.Count.{trailing_le}
+use Rattle.bits.proofs.Lowest.{lowest}
 use Rattle.bits.proofs.Walk.{some_end, some_hit, some_miss}
-use Rattle.standings.specs.Steps.{alone_words}
 use Rattle.sheet_proves.proofs.Ways.{alone_refutes, none_refutes}
 use Rattle.sheet_proves.proofs.none_alone.Goals as goal
 

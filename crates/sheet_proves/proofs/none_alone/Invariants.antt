@@ -2,17 +2,13 @@
 -- the count of ones of the set left.
 -- Assumes nothing.
 use Prim.Native.Nat.{◌^◌, ◌<◌}
-use native.Mathlib.Omega.{arith}
-use mathlib.Core.Path.{◌≡◌, sym, ◌∙◌, ap}
+use mathlib.Core.Path.{◌≡◌}
 use mathlib.Core.Bool.{not}
-use borrow.Author.Rules.{rules}
-use lib.Count.{ones, trailing_le}
+use lib.Count.{ones}
 use Rattle.kat.specs.Lists.{some, is_empty}
 use Rattle.bits.specs.Sets.{members}
-use Rattle.bits.proofs.Lowest.{Lowest, lowest}
-use Rattle.bits.proofs.Walk.{some_end, some_hit, some_miss}
 use Rattle.standings.specs.Steps.{alone_words}
-use Rattle.sheet_proves.proofs.Ways.{alone_refutes, none_refutes}
+use Rattle.sheet_proves.proofs.Ways.{alone_refutes}
 use Rattle.sheet_proves.proofs.none_alone.Given as goal
 
 abbrev pub invariant-loop-rest : goal.invariant-loop-rest

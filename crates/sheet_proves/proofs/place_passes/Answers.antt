@@ -2,7 +2,6 @@
 -- Assumes nothing.
 use native.Mathlib.Omega.{arith}
 use mathlib.Core.Path.{◌∙◌, ap}
-use borrow.Author.Rules.{rules}
 use lib.ListN.{length}
 use Rattle.sheet_standings.specs.Layout.{standing_cells, listed_cells}
 use Rattle.sheet_proves.proofs.Places.{place_before, read_small}

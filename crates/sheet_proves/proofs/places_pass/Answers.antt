@@ -1,9 +1,7 @@
--- `sheet_proves::places_pass` meets its contract. The invariant: the standings left pass exactly where all do. The measure is what is left.
+-- `sheet_proves::places_pass` meets its contract. The invariant: the standings left pass exactly where all do.
 -- Assumes nothing.
-use Prim.Native.Nat.{◌-◌}
 use native.Mathlib.Omega.{arith}
-use mathlib.Core.Path.{◌≡◌, refl, sym, ◌∙◌, ap}
-use Rattle.kat.specs.Lists.{upto, every}
+use mathlib.Core.Path.{refl, sym, ◌∙◌, ap}
 use Rattle.standings.proofs.Loops.{every_end, every_fails, every_passes}
 use Rattle.sheet_proves.specs.inner.Standings.{place_passes, places_pass}
 use mathlib.Core.Bool.{not}
@@ -13,29 +11,26 @@ pub loop-i-init : goal.loop-i-init
 unfolding places_pass
 loop-i-init c = refl
 
-pub place_passes-passes-requires : goal.place_passes-passes-requires
-place_passes-passes-requires c =
+pub place_passes-requires : goal.place_passes-requires
+place_passes-requires c =
     let p = c.requires in
     (p.0, omega arith, p.1)
 
-pub returns-then-not-passes : goal.returns-then-not-passes
-returns-then-not-passes c =
+pub returns-then-not-place_passes : goal.returns-then-not-place_passes
+returns-then-not-place_passes c =
     let a = c.args in
     let l = c.loop-i in
     sym
     (every_fails (place_passes a.t.of.facts a.left.now a.right.now a.sheet.now a.t.of.base a.t.of.count a.t.masks) l.i
-    a.t.of.count (omega arith) c.place_passes-passes.result c.place_passes-passes.ensures (ap not c.if-not-passes.true))
+    a.t.of.count (omega arith) c.place_passes.result c.place_passes.ensures (ap not c.if-not-place_passes.true))
     ∙ l.invariant
-
-pub overflow_add-i : goal.overflow_add-i
-overflow_add-i c = omega (arith, c.struct_known-1.given)
 
 pub loop-i-preserved : goal.loop-i-preserved
 loop-i-preserved c =
     let a = c.args in
     let l = c.loop-i in
     every_passes (place_passes a.t.of.facts a.left.now a.right.now a.sheet.now a.t.of.base a.t.of.count a.t.masks) l.i
-    a.t.of.count (omega arith) c.place_passes-passes.result c.place_passes-passes.ensures (ap not c.if-not-passes.false)
+    a.t.of.count (omega arith) c.place_passes.result c.place_passes.ensures (ap not c.if-not-place_passes.false)
     ∙ l.invariant
 
 pub returns : goal.returns

@@ -1,6 +1,5 @@
 -- `sheet_proves::proves` meets its contract: the tests stand in the order of `specs/inner/Standings.antt`.
 -- Assumes nothing.
-use borrow.Author.Rules.{rules}
 use Rattle.sheet_standings.specs.Layout.{cell_count}
 use Rattle.sheet_proves.proofs.Places.{zeros_small}
 use Rattle.sheet_proves.proofs.Order.{alone_fails, first_fail, places_decide}

@@ -6,7 +6,6 @@ use lib.ListN.{length}
 use Rattle.claims.specs.Standings.{Letter}
 use Rattle.sheet_standings.specs.RingCells.{flag}
 use Rattle.sheet_ring.proofs.Standing.{begun}
-use borrow.Author.Rules.{rules}
 use Rattle.sheet_ring.proofs.begin.Goals as goal
 
 pub put_head-requires : goal.put_head-requires

@@ -6,7 +6,6 @@ use lib.ListN.{length}
 use Rattle.memory.specs.Memory.{zeros}
 use Rattle.memory.proofs.Words.{words_length}
 use Rattle.sheet_ring.proofs.Standing.{rows_laid, cleared_length}
-use borrow.Author.Rules.{rules}
 use Rattle.sheet_ring.proofs.lay_first.Goals as goal
 
 pub returns : goal.returns

@@ -5,7 +5,6 @@ use mathlib.Core.Path.{◌≡◌}
 use lib.ListN.{length}
 use Rattle.memory.proofs.Words.{words_length}
 use Rattle.sheet_ring.proofs.Standing.{rows_laid}
-use borrow.Author.Rules.{rules}
 use Rattle.sheet_ring.proofs.lay_on.Goals as goal
 
 pub returns : goal.returns

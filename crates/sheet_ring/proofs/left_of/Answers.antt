@@ -1,7 +1,6 @@
 -- `sheet_ring::left_of` meets its contract: P is cells 1 and 2.
 -- Assumes nothing.
 use Rattle.sheet_standings.specs.Layout.{wide}
-use borrow.Author.Rules.{rules}
 use Rattle.sheet_ring.proofs.left_of.Goals as goal
 
 pub whole-requires : goal.whole-requires

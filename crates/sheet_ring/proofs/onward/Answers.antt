@@ -9,7 +9,6 @@ use Rattle.claims.specs.Standings.{Letter}
 use Rattle.standings.specs.Steps.{step_set}
 use Rattle.sheet_standings.specs.RingCells.{first_in, flag_in, flag}
 use Rattle.sheet_ring.proofs.Standing.{gone_on}
-use borrow.Author.Rules.{rules}
 use Rattle.sheet_ring.proofs.onward.Goals as goal
 
 pub put_head-requires : goal.put_head-requires

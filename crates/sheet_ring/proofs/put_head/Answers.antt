@@ -5,7 +5,6 @@ use mathlib.Core.Path.{refl}
 use lib.ListN.{length-set}
 use Rattle.sheet_standings.specs.RingCells.{head_cell}
 use Rattle.sheet_ring.specs.inner.Head.{headed}
-use borrow.Author.Rules.{rules}
 use Rattle.sheet_ring.proofs.put_head.Goals as goal
 
 pub bounds-to-1 : goal.bounds-to-1

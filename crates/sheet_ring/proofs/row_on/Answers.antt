@@ -4,7 +4,6 @@ use Prim.Native.Nat.{◌*◌, ◌%◌, ◌^◌}
 use mathlib.Core.Path.{ap}
 use Rattle.sheet_standings.specs.RingCells.{raised}
 use Rattle.sheet_ring.proofs.Rows.{row_none}
-use borrow.Author.Rules.{rules}
 use Rattle.sheet_ring.proofs.row_on.Goals as goal
 
 pub returns-then-s-eq0 : goal.returns-then-s-eq0

@@ -1,17 +1,11 @@
--- `sheet_ring::rows_on` meets its contract. The invariant: what is left of the rows, filled into the memory as it is, gives all rows. The
--- measure is what is left of the rows.
+-- `sheet_ring::rows_on` meets its contract. The invariant: what is left of the rows, filled into the memory as it is, gives all rows.
 -- Assumes nothing.
-use Prim.Native.Nat.{ℕ, ◌-◌, ◌/◌, ◌≤◌}
-use native.Mathlib.Omega.{arith}
-use mathlib.Core.Path.{◌≡◌, sym, ◌∙◌, ap}
+use Prim.Native.Nat.{ℕ, ◌/◌}
+use mathlib.Core.Path.{◌≡◌}
 use mathlib.Core.List.{List}
-use lib.ListN.{length, length-set}
 use Rattle.memory.specs.Memory.{words, changed}
-use Rattle.memory.proofs.Words.{fill_more, fill_end}
 use Rattle.standings.specs.Steps.{step_set}
 use Rattle.sheet_standings.specs.RingCells.{row_m, raised}
-use Rattle.sheet_ring.proofs.Rows.{filled}
-use borrow.Author.Rules.{rules}
 use Rattle.sheet_ring.proofs.rows_on.Given as goal
 
 -- row p one letter on
@@ -20,7 +14,4 @@ on_row right from a r p = raised (step_set right (row_m from p / 2) a r)
 
 abbrev pub invariant-loop-p : goal.invariant-loop-p
 invariant-loop-p l =
-    (length l.to ≡ 32) × (l.p ≤ 32) × (changed (λ k w. on_row l.right l.from l.a l.r k) l.to l.p 32 ≡ words 32 (on_row l.right l.from l.a l.r))
-
-abbrev pub decreases-loop-p : goal.decreases-loop-p
-decreases-loop-p l = 32 - l.p
+    changed (λ k w. on_row l.right l.from l.a l.r k) l.to l.p 32 ≡ words 32 (on_row l.right l.from l.a l.r)

@@ -3,7 +3,6 @@
 use native.Mathlib.Omega.{arith}
 use mathlib.Core.Path.{sym}
 use Rattle.side_atoms.proofs.Stack.{top_stacked, top_empty}
-use borrow.Author.Rules.{rules}
 use Rattle.side_atoms.proofs.peek.Goals as goal
 
 pub returns-then-n-gt0 : goal.returns-then-n-gt0

@@ -3,7 +3,6 @@
 use native.Mathlib.Omega.{arith}
 use lib.ListN.{length-set}
 use Rattle.side_atoms.proofs.Stack.{push_stored, push_full}
-use borrow.Author.Rules.{rules}
 use Rattle.side_atoms.proofs.put.Goals as goal
 
 pub returns-then-n-stack : goal.returns-then-n-stack

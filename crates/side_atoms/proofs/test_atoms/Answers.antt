@@ -8,7 +8,6 @@ use lib.Seq.{slice}
 use mathlib.Core.List.{[]}
 use mathlib.Core.Path.{◌∙◌, ap}
 use native.Mathlib.Omega.{arith}
-use borrow.Author.Rules.{rules}
 use Rattle.side_atoms.proofs.test_atoms.Goals as goal
 
 pub returns : goal.returns

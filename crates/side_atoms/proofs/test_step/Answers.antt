@@ -6,7 +6,6 @@ use mathlib.Core.Path.{sym, ◌∙◌}
 use lib.Bits.{bit_and, bit_or}
 use Rattle.side_atoms.specs.Atoms.{all_atoms}
 use Rattle.side_atoms.proofs.TestSteps.{step_true, step_false, step_or, step_and, step_not, step_name, step_below, step_above, push_two, push_one, push_same}
-use borrow.Author.Rules.{rules}
 use Rattle.side_atoms.proofs.test_step.Goals as goal
 
 pub returns-in-1 : goal.returns-in-1
@@ -20,8 +19,8 @@ returns-in-3 c =
     let d = c in (
       c.put-in-3.ensures.0,
       c.put-in-3.ensures.1
-          ∙ push_two bit_or _ _ _ _ _ _ _ d.peek-a.ensures d.less-m.ensures d.peek-b.ensures
-          c.less.ensures
+          ∙ push_two bit_or _ _ _ _ _ _ _ d.peek-a.ensures d.saturating_sub-m.ensures d.peek-b.ensures
+          c.saturating_sub.ensures
           ∙ sym (step_or _ _ _ d.in-3.is),
     )
 
@@ -30,8 +29,8 @@ returns-in-4 c =
     let d = c in (
       c.put-in-4.ensures.0,
       c.put-in-4.ensures.1
-          ∙ push_two bit_and _ _ _ _ _ _ _ d.peek-a.ensures d.less-m.ensures d.peek-b.ensures
-          c.less-in-4.ensures
+          ∙ push_two bit_and _ _ _ _ _ _ _ d.peek-a.ensures d.saturating_sub-m.ensures d.peek-b.ensures
+          c.saturating_sub-in-4.ensures
           ∙ sym (step_and _ _ _ d.in-4.is),
     )
 
@@ -40,7 +39,7 @@ returns-in-5 c =
     let d = c in (
       c.put-in-5.ensures.0,
       c.put-in-5.ensures.1
-          ∙ push_one (λ k. all_atoms - k) _ _ _ _ _ d.peek-a.ensures d.less-m.ensures
+          ∙ push_one (λ k. all_atoms - k) _ _ _ _ _ d.peek-a.ensures d.saturating_sub-m.ensures
           ∙ sym (step_not _ _ _ d.in-5.is),
     )
 

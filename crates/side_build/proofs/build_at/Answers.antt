@@ -1,7 +1,6 @@
 -- `side_build::build_at` meets its contract.
 -- Assumes nothing.
 use Rattle.side_build.proofs.Assembled.{placed_made}
-use borrow.Author.Rules.{rules}
 use Rattle.side_build.proofs.build_at.Goals as goal
 
 pub returns : goal.returns

@@ -1,7 +1,6 @@
 -- `side_build::build_in` meets its contract.
 -- Assumes nothing.
 use Rattle.side_build.proofs.Assembled.{all_built}
-use borrow.Author.Rules.{rules}
 use Rattle.side_build.proofs.build_in.Goals as goal
 
 pub prepare-requires : goal.prepare-requires

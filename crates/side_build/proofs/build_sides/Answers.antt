@@ -3,7 +3,6 @@
 use Rattle.memory.specs.Memory.{zeros}
 use mathlib.Core.Path.{◌∙◌, ap}
 use native.Mathlib.Omega.{arith}
-use borrow.Author.Rules.{rules}
 use Rattle.side_build.proofs.build_sides.Goals as goal
 
 pub fill_sides-requires : goal.fill_sides-requires

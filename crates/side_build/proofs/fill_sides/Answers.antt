@@ -2,7 +2,6 @@
 -- Assumes nothing.
 use Rattle.side_build.proofs.Assembled.{sides_made}
 use Rattle.side_parts.specs.Machine.{machine_in}
-use borrow.Author.Rules.{rules}
 use Rattle.side_build.proofs.fill_sides.Goals as goal
 
 pub left_side-requires : goal.left_side-requires

@@ -5,7 +5,6 @@ use lib.Seq.{length-take-le}
 use lib.ListN.{length, take}
 use mathlib.Core.Path.{sym, ◌∙◌, ap}
 use native.Mathlib.Omega.{arith}
-use borrow.Author.Rules.{rules}
 use Rattle.side_build.proofs.live_of.Goals as goal
 
 pub slice_bounds-removed_set-end : goal.slice_bounds-removed_set-end

@@ -5,7 +5,6 @@ use lib.ListN.{length}
 use lib.Seq.{length-take-le}
 use mathlib.Core.Path.{sym, ap, ◌∙◌}
 use native.Mathlib.Omega.{arith}
-use borrow.Author.Rules.{rules}
 use Rattle.side_build.proofs.prepare.Goals as goal
 
 pub slice_bounds-find_args-end-2 : goal.slice_bounds-find_args-end-2

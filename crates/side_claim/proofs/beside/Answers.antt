@@ -1,7 +1,6 @@
 -- `side_claim::beside` meets its contract: a ring claim, an inclusion, an empty claim.
 -- Assumes nothing.
 use Rattle.side_claim.proofs.SidesInMemory.{beside_ring, beside_include, beside_empty}
-use borrow.Author.Rules.{rules}
 use Rattle.side_claim.proofs.beside.Goals as goal
 
 pub returns-then-is_ring : goal.returns-then-is_ring

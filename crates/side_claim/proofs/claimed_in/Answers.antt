@@ -2,7 +2,6 @@
 -- Assumes nothing.
 use Rattle.side_claim.specs.Sides.{claimed}
 use mathlib.Core.Path.{refl}
-use borrow.Author.Rules.{rules}
 use Rattle.side_claim.proofs.claimed_in.Goals as goal
 
 pub returns : goal.returns

@@ -1,7 +1,6 @@
 -- `side_claim::inside` meets its contract: a path claim, a ring claim.
 -- Assumes nothing.
 use Rattle.side_claim.proofs.SidesInMemory.{inside_path, inside_ring}
-use borrow.Author.Rules.{rules}
 use mathlib.Core.Bool.{not}
 use mathlib.Core.Path.{ap}
 use Rattle.side_claim.proofs.inside.Goals as goal

@@ -2,7 +2,6 @@
 -- Assumes nothing.
 use Rattle.side_claim.specs.Sides.{is_ring}
 use mathlib.Core.Path.{refl}
-use borrow.Author.Rules.{rules}
 use Rattle.side_claim.proofs.is_ring.Goals as goal
 
 pub returns : goal.returns

@@ -3,7 +3,6 @@
 use Rattle.side_claim.specs.Sides.{left_end}
 use borrow.Author.Tests.{eq-eqb, ne_eqb}
 use mathlib.Core.Path.{refl}
-use borrow.Author.Rules.{rules}
 use Rattle.side_claim.proofs.left_end.Goals as goal
 
 pub returns-then-kind-eq-CLAIM_INCLUDE : goal.returns-then-kind-eq-CLAIM_INCLUDE

@@ -2,7 +2,6 @@
 -- Assumes nothing.
 use Rattle.side_claim.proofs.SidesInMemory.{left_made}
 use Rattle.side_parts.proofs.MachineInMemory.{clear_made}
-use borrow.Author.Rules.{rules}
 use Rattle.side_claim.proofs.left_side.Goals as goal
 
 pub returns : goal.returns

@@ -1,7 +1,6 @@
 -- `side_claim::put_around` meets its contract.
 -- Assumes nothing.
 use Rattle.side_claim.proofs.SidesInMemory.{around_made}
-use borrow.Author.Rules.{rules}
 use Rattle.side_claim.proofs.put_around.Goals as goal
 
 pub returns : goal.returns

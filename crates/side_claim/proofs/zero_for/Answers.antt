@@ -1,7 +1,6 @@
 -- `side_claim::zero_for` meets its contract.
 -- Assumes nothing.
 use Rattle.side_claim.proofs.SidesInMemory.{zero_none, zero_ring, zero_path}
-use borrow.Author.Rules.{rules}
 use mathlib.Core.Bool.{not}
 use mathlib.Core.Path.{ap}
 use Rattle.side_claim.proofs.zero_for.Goals as goal

@@ -2,7 +2,6 @@
 -- Assumes nothing.
 use Rattle.side_claim.proofs.SidesInMemory.{zero_found, still_clear}
 use Rattle.side_parts.specs.Machine.{machine_in}
-use borrow.Author.Rules.{rules}
 use Rattle.side_claim.proofs.zero_of.Goals as goal
 
 pub returns : goal.returns

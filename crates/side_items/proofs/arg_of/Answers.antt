@@ -2,7 +2,6 @@
 -- Assumes nothing.
 use mathlib.Core.Path.{refl, sym, ◌∙◌, ap}
 use lib.ListN.{length}
-use borrow.Author.Rules.{rules}
 use Rattle.side_items.proofs.Needed.{arg_bracket, arg_never, arg_low, arg_let, arg_high}
 use Rattle.side_items.proofs.arg_of.Goals as goal
 

@@ -1,12 +1,10 @@
 -- `side_items::find_args` meets its contract. The invariant: the memory follows the walk over the codes passed. The measure is what
 -- is left of the codes.
 -- Assumes nothing.
-use Prim.Native.Nat.{◌-◌, ◌≤◌}
 use native.Mathlib.Omega.{arith}
-use mathlib.Core.Path.{◌≡◌, refl, sym, ◌∙◌, ap}
+use mathlib.Core.Path.{refl, sym, ◌∙◌, ap}
 use lib.ListN.{length, get_or, length-set}
-use borrow.Author.Rules.{rules}
-use Rattle.side_items.proofs.Needed.{Follows, follows_start, follows_on, follows_end}
+use Rattle.side_items.proofs.Needed.{follows_start, follows_on, follows_end}
 use Rattle.side_items.proofs.find_args.Goals as goal
 
 pub loop-i-init : goal.loop-i-init

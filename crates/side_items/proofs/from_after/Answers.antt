@@ -1,7 +1,6 @@
 -- `side_items::from_after` meets its contract.
 -- Assumes nothing.
 use mathlib.Core.Path.{sym, ◌∙◌}
-use borrow.Author.Rules.{rules}
 use Rattle.side_items.proofs.from_after.Goals as goal
 
 pub returns-then-of_test : goal.returns-then-of_test

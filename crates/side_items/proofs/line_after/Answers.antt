@@ -1,6 +1,5 @@
 -- `side_items::line_after` meets its contract.
 -- Assumes nothing.
-use borrow.Author.Rules.{rules}
 use borrow.Author.Tests.{le-leb, lt-leb}
 use Rattle.side_items.proofs.line_after.Goals as goal
 

@@ -4,7 +4,6 @@ use native.Mathlib.Omega.{arith}
 use mathlib.Core.Path.{ap}
 use lib.ListN.{length}
 use Rattle.side_items.proofs.Room.{slice_fits, part_length, put_back}
-use borrow.Author.Rules.{rules}
 use Rattle.side_items.proofs.set_before.Goals as goal
 
 pub test_atoms-requires : goal.test_atoms-requires

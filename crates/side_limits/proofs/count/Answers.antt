@@ -1,6 +1,5 @@
 -- `side_limits::count` meets its contract: the table has what each code counts, and the sums are put together.
 -- Assumes nothing.
-use borrow.Author.Rules.{rules}
 use Rattle.side_limits.specs.Tally.{relation_count}
 use Rattle.side_limits.proofs.PlaceSums.{sums_made}
 use Rattle.side_limits.proofs.count.Goals as goal

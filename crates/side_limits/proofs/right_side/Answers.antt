@@ -1,6 +1,5 @@
 -- `side_limits::right_side` meets its contract: the sums that `add` gives, in their order.
 -- Assumes nothing.
-use borrow.Author.Rules.{rules}
 use Rattle.side_limits.proofs.PlaceSums.{right_ring, right_include, right_empty}
 use Rattle.side_limits.proofs.right_side.Goals as goal
 

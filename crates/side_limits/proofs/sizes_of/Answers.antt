@@ -1,6 +1,5 @@
 -- `side_limits::sizes_of` meets its contract: occurrences and leaves together.
 -- Assumes nothing.
-use borrow.Author.Rules.{rules}
 use Rattle.side_limits.proofs.PlaceSums.{sizes_made}
 use Rattle.side_limits.proofs.sizes_of.Goals as goal
 

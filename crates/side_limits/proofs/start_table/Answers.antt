@@ -1,12 +1,10 @@
 -- `side_limits::start_table` meets its contract. The invariant: the relations below place i count 1, and all else nothing. The measure is how
 -- many are left.
 -- Assumes nothing.
-use Prim.Native.Nat.{◌-◌, ◌≤◌}
 use native.Mathlib.Omega.{arith}
-use mathlib.Core.Path.{◌≡◌, refl, ◌∙◌}
-use lib.ListN.{length, length-set}
-use borrow.Author.Rules.{rules}
-use Rattle.side_limits.proofs.Tables.{Ones, ones_start, ones_more, ones_done}
+use mathlib.Core.Path.{refl, ◌∙◌}
+use lib.ListN.{length-set}
+use Rattle.side_limits.proofs.Tables.{ones_start, ones_more, ones_done}
 use Rattle.side_limits.proofs.start_table.Goals as goal
 
 pub loop-i-init : goal.loop-i-init
@@ -18,7 +16,7 @@ loop-i-preserved c =
       omega arith,
       omega arith,
       rw c.store.ensures (length-set at.table at.i 1 ∙ at.invariant.2),
-      rw c.store.ensures (ones_more at.i at.table at.invariant.3 at.invariant.0 c.loop-i-test.true),
+      rw c.store.ensures (ones_more at.i at.table at.invariant.3 at.invariant.0 (omega arith)),
     )
 
 pub shape_of-table : goal.shape_of-table

@@ -3,7 +3,6 @@
 -- Assumes nothing.
 use native.Mathlib.Omega.{arith}
 use mathlib.Core.Path.{sym}
-use borrow.Author.Rules.{rules}
 use Rattle.side_limits.proofs.Test.{all_but_own, over}
 use Rattle.side_limits.proofs.within_limits.Goals as goal
 

@@ -1,7 +1,6 @@
 -- `side_relations::closed_with` meets its contract.
 -- Assumes nothing.
 use Rattle.side_relations.proofs.ClosedSets.{closed_below, closed_above, closed_line_lem}
-use borrow.Author.Rules.{rules}
 use Rattle.side_relations.proofs.closed_with.Goals as goal
 
 pub returns-then-code-lt-CLOSED_LINE : goal.returns-then-code-lt-CLOSED_LINE

@@ -2,7 +2,6 @@
 -- Assumes nothing.
 use native.Mathlib.Omega.{arith}
 use Rattle.side_relations.proofs.Narrowed.{live_atoms_left}
-use borrow.Author.Rules.{rules}
 use Rattle.side_relations.proofs.live_set.Goals as goal
 
 pub returns : goal.returns

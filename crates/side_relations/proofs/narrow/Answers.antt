@@ -6,7 +6,6 @@ use lib.Bits.{bit_and}
 use lib.ListN.{get_or, length-set}
 use lib.Seq.{get_or-set_other}
 use Rattle.side_relations.proofs.Narrowed.{narrow_below, narrow_above, narrow_line}
-use borrow.Author.Rules.{rules}
 use Rattle.side_relations.proofs.narrow.Goals as goal
 
 pub returns-then-code-lt-WITHIN_LINE : goal.returns-then-code-lt-WITHIN_LINE

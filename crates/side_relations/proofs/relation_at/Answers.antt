@@ -4,7 +4,6 @@ use native.Mathlib.Omega.{arith}
 use mathlib.Core.Path.{sym, ◌∙◌}
 use Rattle.claims.specs.Query.{bit}
 use Rattle.side_relations.proofs.Narrowed.{relation_limit, relation_closed, relation_open}
-use borrow.Author.Rules.{rules}
 use Rattle.side_relations.proofs.relation_at.Goals as goal
 
 pub returns-then-i-lt32 : goal.returns-then-i-lt32

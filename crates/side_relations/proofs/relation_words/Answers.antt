@@ -1,14 +1,11 @@
 -- `side_relations::relation_words` meets its contract. The invariant: with the rest filled, all of it is. The measure is what is left.
 -- Assumes nothing.
-use Prim.Native.Nat.{◌-◌}
 use native.Mathlib.Omega.{arith}
-use mathlib.Core.Path.{◌≡◌, refl, sym, ◌∙◌}
+use mathlib.Core.Path.{refl, sym, ◌∙◌}
 use lib.ListN.{length, length-set}
 use Rattle.claims.specs.Query.{bit}
-use Rattle.memory.specs.Memory.{words, changed}
 use Rattle.memory.proofs.Words.{fill_begin, fill_more, fill_end}
 use Rattle.side_relations.specs.Relations.{relation_at}
-use borrow.Author.Rules.{rules}
 use Rattle.side_relations.proofs.relation_words.Goals as goal
 
 pub loop-i-init : goal.loop-i-init

@@ -1,32 +1,29 @@
--- `side_relations::removed_set` meets its contract. The invariant: what is removed so far, with what the codes that are left remove, is
--- what all of them remove. The measure is what is left.
+-- `side_relations::removed_set` meets its contract: a fold over the codes with what they need unites what each of them removes.
 -- Assumes nothing.
-use Prim.Native.Nat.{◌-◌, min}
-use native.Mathlib.Omega.{arith}
-use mathlib.Core.Path.{◌≡◌, sym, ◌∙◌}
-use lib.Bits.{bit_or, or_zero_l}
-use lib.ListN.{length, drop}
+use Rattle.std.proofs.Common.{◌≡◌, sym, ◌∙◌, ℕ, List, [], ◌∷◌, cond, rules}
+use Rattle.std.specs.List.{fold, zip}
+use Rattle.std.proofs.lemmas.Iterator.{YieldsList-from_slice, YieldsList-from_zip}
+use Rattle.std.proofs.lemmas.Iterator.Consumers.{fold_from_yields_List}
+use lib.Bits.{bit_or, or_zero_l, or_zero_r}
+use lib.Dec.{eqb}
+use Rattle.bits.proofs.Bit.{or_assoc}
 use Rattle.side_items.specs.Items.{paired}
 use Rattle.side_relations.specs.Relations.{removed_set}
-use Rattle.side_relations.proofs.Narrowed.{removed_more, removed_end}
-use borrow.Author.Rules.{rules}
 use Rattle.side_relations.proofs.removed_set.Goals as goal
 
-pub loop-i-init : goal.loop-i-init
-loop-i-init c = let a = c.args in (c.least-n.ensures, or_zero_l (removed_set (paired a.codes.now a.args.now)))
+-- what one code removes besides
+abbrev with_code : ℕ → ℕ × ℕ → ℕ
+with_code s p = bit_or s (cond (eqb p.0 131) p.1 0)
 
-pub loop-i-preserved : goal.loop-i-preserved
-loop-i-preserved c =
-    let l = c.loop-i in
-    let s = c in
-    let a = s.args in (
-      l.invariant.0,
-      removed_more a.codes.now a.args.now l.i l.s c.behind-s.result (omega arith) c.behind-s.ensures ∙ l.invariant.1,
-    )
+folded : (s : ℕ) (ks xs : List ℕ) → fold with_code s (zip ks xs) ≡ bit_or s (removed_set (paired ks xs))
+unfolding paired removed_set
+folded s [] xs = sym (or_zero_r s)
+folded s (k ∷ ks) [] = sym (or_zero_r s)
+folded s (k ∷ ks) (x ∷ xs) = folded (with_code s (k, x)) ks xs ∙ or_assoc s (cond (eqb k 131) x 0) (removed_set (paired ks xs))
 
 pub returns : goal.returns
 returns c =
-    let l = c.loop-i in
-    let s = c in
-    let a = s.args in
-    sym (removed_end a.codes.now a.args.now l.i l.s (omega arith)) ∙ l.invariant.1
+    let a = c.args in
+    fold_from_yields_List _ with_code 0 c.fold.result c.fold.ensures.ran
+    (YieldsList-from_zip (YieldsList-from_slice a.codes.now cc) (YieldsList-from_slice a.args.now cc)) (λ s p r f k. search rules)
+    ∙ folded 0 a.codes.now a.args.now ∙ or_zero_l (removed_set (paired a.codes.now a.args.now))

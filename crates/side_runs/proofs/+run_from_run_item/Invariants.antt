@@ -1,13 +1,10 @@
 -- The proof of running a line of items and of one item, which call each other for a let. The measure is the place where the line starts,
 -- and then which of the two it is: a let is entered only at a place before. The laws are those of `Running`; here they are cited.
 -- Assumes nothing.
-use Rattle.side_runs.proofs.Running.{Left, left_all, left_next, left_end, left_none, item_below, item_above, item_let, item_late, step_args}
+use Rattle.side_runs.proofs.Running.{Left}
 use Rattle.side_parts.specs.Machine.{machine_in}
-use lib.ListN.{length, get_or}
-use mathlib.Core.Path.{refl, ◌∙◌}
-use native.Mathlib.Omega.{arith}
-use borrow.Author.Rules.{rules}
-use Prim.Native.Nat.{ℕ, ◌<◌, ◌+◌, ◌-◌, ◌*◌}
+use lib.ListN.{length}
+use Prim.Native.Nat.{◌+◌, ◌-◌, ◌*◌}
 use Rattle.side_runs.proofs.+run_from_run_item.Given as goal
 
 abbrev pub decreases-run_item : goal.decreases-run_item

@@ -1,10 +1,8 @@
 -- `side_runs::is_one` meets its contract.
 -- Assumes nothing.
 use Prim.Native.Nat.{◌%◌}
-use native.Mathlib.Omega.{arith}
 use mathlib.Core.Path.{refl, ◌∙◌, ap}
 use mathlib.Core.Bool.{not}
-use borrow.Author.Rules.{rules}
 use borrow.Author.Tests.{eq-eqb, ne_eqb}
 use Rattle.claims.specs.Query.{bit}
 use Rattle.side_runs.specs.Program.{counts_from}

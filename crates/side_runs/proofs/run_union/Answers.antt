@@ -1,7 +1,6 @@
 -- `side_runs::run_union` meets its contract.
 -- Assumes nothing.
 use Rattle.side_runs.proofs.RunningAll.{union_all_lem}
-use borrow.Author.Rules.{rules}
 use Rattle.side_runs.proofs.run_union.Goals as goal
 
 pub returns : goal.returns

@@ -5,7 +5,6 @@ use Rattle.side_stack.specs.Stack.{used_in, stack_in}
 use native.Mathlib.Omega.{arith}
 use mathlib.Core.Path.{◌∙◌, ap}
 use Prim.Native.Nat.{◌+◌, min}
-use borrow.Author.Rules.{rules}
 use Rattle.side_stack.proofs.one_more.Goals as goal
 
 pub overflow_add-n : goal.overflow_add-n

@@ -2,7 +2,6 @@
 -- Assumes nothing.
 use Rattle.side_stack.proofs.PartsInMemory.{top_in, top_none}
 use native.Mathlib.Omega.{arith}
-use borrow.Author.Rules.{rules}
 use Rattle.side_stack.proofs.part_at.Goals as goal
 
 pub returns-then-n-gt0 : goal.returns-then-n-gt0

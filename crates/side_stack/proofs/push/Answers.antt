@@ -3,8 +3,6 @@
 use Rattle.side_stack.specs.Stack.{push_part, parts_in, height_in, stack_in}
 use native.Mathlib.Omega.{arith}
 use mathlib.Core.Path.{◌∙◌, ap}
-use Prim.Native.Nat.{◌-◌}
-use borrow.Author.Rules.{rules}
 use Rattle.side_stack.proofs.push.Goals as goal
 
 pub put-requires : goal.put-requires

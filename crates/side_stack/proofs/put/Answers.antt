@@ -3,7 +3,6 @@
 use Rattle.side_stack.proofs.PartsInMemory.{stored_used, stored_stack, full_used, full_stack}
 use lib.ListN.{length-set}
 use native.Mathlib.Omega.{arith}
-use borrow.Author.Rules.{rules}
 use Rattle.side_stack.proofs.put.Goals as goal
 
 pub bounds-parts-n-then-n-lt-MOST_PARTS : goal.bounds-parts-n-then-n-lt-MOST_PARTS

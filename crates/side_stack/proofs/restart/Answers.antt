@@ -7,7 +7,6 @@ use native.Mathlib.Omega.{arith}
 use lib.ListN.{set}
 use mathlib.Core.List.{[]}
 use mathlib.Core.Path.{◌∙◌, ap, subst⁻¹, ◌≡◌}
-use borrow.Author.Rules.{rules}
 use Rattle.side_stack.proofs.restart.Goals as goal
 
 pub returns : goal.returns

@@ -3,8 +3,6 @@
 use Rattle.side_stack.specs.Stack.{top_part, parts_in, height_in, stack_in}
 use native.Mathlib.Omega.{arith}
 use mathlib.Core.Path.{◌∙◌, ap}
-use Prim.Native.Nat.{◌-◌}
-use borrow.Author.Rules.{rules}
 use Rattle.side_stack.proofs.top.Goals as goal
 
 pub part_at-requires : goal.part_at-requires

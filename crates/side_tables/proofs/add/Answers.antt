@@ -1,8 +1,6 @@
 -- `side_tables::add` meets its contract.
 -- Assumes nothing.
 use Rattle.side_tables.proofs.Walks.{added_made}
-use native.Mathlib.Omega.{arith}
-use borrow.Author.Rules.{rules}
 use Rattle.side_tables.proofs.add.Goals as goal
 
 pub returns : goal.returns

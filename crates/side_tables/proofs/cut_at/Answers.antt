@@ -4,7 +4,6 @@ use Prim.Native.Nat.{◌+◌, ◌*◌}
 use Rattle.side_tables.proofs.Walks.{cut_made, set_twice_length}
 use native.Mathlib.Omega.{arith}
 use lib.ListN.{length-set}
-use borrow.Author.Rules.{rules}
 use Rattle.side_tables.specs.Layout.{ENDS, ROW}
 use Rattle.side_tables.proofs.cut_at.Goals as goal
 

@@ -1,20 +1,14 @@
 -- `side_tables::cut_ends` meets its contract. The invariant: the atoms that are left, changed in the table as it is, are all of them changed in the
--- table at the start. The measure is what is left of the atoms.
+-- table at the start.
 -- Assumes nothing.
 use Rattle.side_tables.specs.InPlace.{cut_at, cut}
-use Rattle.memory.proofs.Walks.{each_more, each_end}
 use Rattle.memory.specs.Memory.{for_each}
 use Rattle.kat.specs.Lists.{upto}
 use Rattle.side_tables.specs.Layout.{TABLE}
 use lib.ListN.{length}
-use mathlib.Core.Path.{◌≡◌, refl, sym, ◌∙◌, ap}
-use native.Mathlib.Omega.{arith}
-use Prim.Native.Nat.{◌-◌, ◌≤◌, ◌+◌}
-use borrow.Author.Rules.{rules}
+use mathlib.Core.Path.{◌≡◌}
+use Prim.Native.Nat.{◌≤◌}
 use Rattle.side_tables.proofs.cut_ends.Given as goal
 
 abbrev pub invariant-loop-a : goal.invariant-loop-a
 invariant-loop-a l = (l.a ≤ 64) × (length l.table ≡ TABLE) × (for_each (cut_at l.from l.to l.x l.y) (upto l.a 64) l.table ≡ cut l.from l.to l.x l.y l.initial.table)
-
-abbrev pub decreases-loop-a : goal.decreases-loop-a
-decreases-loop-a l = 64 - l.a

@@ -2,7 +2,6 @@
 -- Assumes nothing.
 use Rattle.side_tables.specs.InPlace.{joined, iterated}
 use mathlib.Core.Path.{◌∙◌, ap}
-use borrow.Author.Rules.{rules}
 use Rattle.side_tables.proofs.iterate.Goals as goal
 
 pub returns : goal.returns

@@ -1,7 +1,6 @@
 -- `side_tables::join` meets its contract: where none may be last, or none first, there is nothing to join.
 -- Assumes nothing.
 use Rattle.side_tables.proofs.Walks.{none_last, none_first}
-use borrow.Author.Rules.{rules}
 use Rattle.side_tables.proofs.join.Goals as goal
 
 pub returns-then-from-eq0 : goal.returns-then-from-eq0

@@ -1,7 +1,6 @@
 -- `side_tables::join_at` meets its contract.
 -- Assumes nothing.
 use Rattle.side_tables.specs.InPlace.{joined_at}
-use borrow.Author.Rules.{rules}
 use Rattle.side_tables.proofs.join_at.Goals as goal
 
 pub returns : goal.returns

@@ -2,7 +2,6 @@
 -- Assumes nothing.
 use Rattle.side_tables.specs.InPlace.{kept_if}
 use mathlib.Core.Path.{refl}
-use borrow.Author.Rules.{rules}
 use Rattle.side_tables.proofs.kept_if.Goals as goal
 
 pub returns-then-on : goal.returns-then-on

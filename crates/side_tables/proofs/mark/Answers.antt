@@ -1,7 +1,6 @@
 -- `side_tables::mark` meets its contract.
 -- Assumes nothing.
 use Rattle.side_tables.proofs.Walks.{mark_made}
-use borrow.Author.Rules.{rules}
 use Rattle.side_tables.proofs.mark.Goals as goal
 
 pub returns : goal.returns

@@ -3,7 +3,6 @@
 use Rattle.side_tables.specs.InPlace.{added}
 use borrow.Author.Tests.{le-ltb}
 use mathlib.Core.Path.{sym, refl}
-use borrow.Author.Rules.{rules}
 use Rattle.side_tables.proofs.new_occurrence.Goals as goal
 
 pub returns-else-k-lt64 : goal.returns-else-k-lt64

@@ -3,14 +3,11 @@
 -- Assumes nothing.
 use Rattle.side_tables.proofs.Walks.{members_more, members_end}
 use Rattle.side_tables.specs.InPlace.{put_at_atom}
-use Rattle.memory.specs.Memory.{for_each}
-use Rattle.bits.proofs.Lowest.{Lowest, lowest}
-use Rattle.bits.specs.Sets.{members}
-use lib.ListN.{length, length-set}
-use lib.Count.{ones, trailing_le}
-use mathlib.Core.Path.{◌≡◌, refl, sym, ◌∙◌}
+use Rattle.bits.proofs.Lowest.{lowest}
+use lib.ListN.{length-set}
+use lib.Count.{trailing_le}
+use mathlib.Core.Path.{refl, sym, ◌∙◌}
 use native.Mathlib.Omega.{arith}
-use Prim.Native.Nat.{◌^◌, ◌<◌}
 use borrow.Author.Rules.{rules}
 use Rattle.side_tables.proofs.put_at_atoms.Goals as goal
 

@@ -1,17 +1,13 @@
 -- `side_tables::put_into` meets its contract. The invariant: the members left, put into the table as it is, are all of them put into the table
 -- at the start. The measure is the count of ones of the set left.
 -- Assumes nothing.
-use Rattle.side_tables.proofs.Walks.{members_more, members_end}
 use Rattle.side_tables.specs.InPlace.{put_into}
 use Rattle.memory.specs.Memory.{for_each}
-use Rattle.bits.proofs.Lowest.{Lowest, lowest}
 use Rattle.bits.specs.Sets.{members}
-use lib.ListN.{length, length-set}
-use lib.Count.{ones, trailing_le}
-use mathlib.Core.Path.{◌≡◌, refl, sym, ◌∙◌}
-use native.Mathlib.Omega.{arith}
+use lib.ListN.{length}
+use lib.Count.{ones}
+use mathlib.Core.Path.{◌≡◌}
 use Prim.Native.Nat.{◌^◌, ◌<◌}
-use borrow.Author.Rules.{rules}
 use Rattle.side_tables.proofs.put_into.Given as goal
 
 abbrev pub invariant-loop-left : goal.invariant-loop-left

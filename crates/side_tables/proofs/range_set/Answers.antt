@@ -7,7 +7,6 @@ use lib.Bits.{bit_and}
 use Prim.Native.Nat.{◌-◌}
 use native.Mathlib.Omega.{arith}
 use mathlib.Core.Path.{ap₂}
-use borrow.Author.Rules.{rules}
 use Rattle.side_tables.proofs.range_set.Goals as goal
 
 pub overflow_sub-result : goal.overflow_sub-result

@@ -2,7 +2,6 @@
 -- Assumes nothing.
 use Rattle.side_tables.specs.InPlace.{joined, cut, sequenced}
 use mathlib.Core.Path.{◌∙◌, ap, ap₂}
-use borrow.Author.Rules.{rules}
 use Rattle.side_tables.proofs.sequence.Goals as goal
 
 pub returns : goal.returns

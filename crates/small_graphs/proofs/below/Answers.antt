@@ -2,7 +2,6 @@
 -- Assumes nothing.
 use borrow.Author.Tests.{eq-eqb, ne_eqb}
 use Rattle.small_graphs.specs.Numbers.{number_below}
-use borrow.Author.Rules.{rules}
 use Rattle.small_graphs.proofs.below.Goals as goal
 
 pub returns-then-end-eq0 : goal.returns-then-end-eq0

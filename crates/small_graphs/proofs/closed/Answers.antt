@@ -1,9 +1,6 @@
-use Prim.Native.Nat.{◌-◌, ◌≤◌}
 use native.Mathlib.Omega.{arith}
 use mathlib.Core.Path.{refl}
-use Rattle.small_graphs.specs.Relations.{Edges, through}
 use Rattle.small_graphs.proofs.Rounds.{rounds_more, rounds_end}
-use borrow.Author.Rules.{rules}
 use Rattle.small_graphs.proofs.closed.Goals as goal
 
 pub loop-middle-init : goal.loop-middle-init

@@ -1,9 +1,7 @@
 use Rattle.small_graphs.proofs.Bits.{bit_rest}
 use native.Mathlib.Omega.{arith}
 use mathlib.Core.Path.{sym}
-use Rattle.small_graphs.specs.Relations.{bit}
 use Rattle.small_graphs.proofs.Bits.{bit_above}
-use borrow.Author.Rules.{rules}
 use Rattle.small_graphs.proofs.has.Goals as goal
 
 pub returns-then-place-ge64 : goal.returns-then-place-ge64

@@ -2,7 +2,6 @@
 -- Assumes nothing.
 use mathlib.Core.Path.{refl}
 use Rattle.small_graphs.specs.Numbers.{next_number}
-use borrow.Author.Rules.{rules}
 use Rattle.small_graphs.proofs.next.Goals as goal
 
 pub returns : goal.returns

@@ -2,7 +2,6 @@
 -- Assumes nothing.
 use native.Mathlib.Omega.{arith}
 use Rattle.case_lines.proofs.Putting.{puts_none}
-use borrow.Author.Rules.{rules}
 use Rattle.small_graphs.proofs.put.Goals as goal
 
 pub returns : goal.returns

@@ -3,7 +3,6 @@ use mathlib.Core.Bool.{cond}
 use mathlib.Core.List.{[]}
 use Rattle.small_graphs.specs.Graphs.{edge_field}
 use Rattle.case_lines.proofs.Putting.{puts_nothing, puts_bytes}
-use borrow.Author.Rules.{rules}
 use Rattle.small_graphs.proofs.put_bit.Goals as goal
 
 pub returns-then-has : goal.returns-then-has

@@ -1,5 +1,4 @@
 use Rattle.case_lines.proofs.Putting.{puts_append}
-use borrow.Author.Rules.{rules}
 use Rattle.small_graphs.proofs.put_event.Goals as goal
 
 pub returns : goal.returns

@@ -1,10 +1,6 @@
-use Prim.Native.Nat.{◌-◌, ◌≤◌}
 use native.Mathlib.Omega.{arith}
-use mathlib.Core.Path.{◌≡◌}
-use lib.ListN.{length, take, drop}
-use Rattle.small_graphs.specs.Graphs.{event_fields}
 use Rattle.small_graphs.proofs.Fields.{events_more, events_none}
-use Rattle.case_lines.proofs.Putting.{Left, left_more, left_none}
+use Rattle.case_lines.proofs.Putting.{left_more, left_none}
 use borrow.Author.Rules.{rules}
 use Rattle.small_graphs.proofs.put_events.Goals as goal
 

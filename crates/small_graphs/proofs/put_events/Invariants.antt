@@ -1,16 +1,10 @@
-use Prim.Native.Nat.{◌-◌, ◌≤◌}
-use native.Mathlib.Omega.{arith}
+use Prim.Native.Nat.{◌≤◌}
 use mathlib.Core.Path.{◌≡◌}
 use lib.ListN.{length, take, drop}
 use Rattle.small_graphs.specs.Graphs.{event_fields}
-use Rattle.small_graphs.proofs.Fields.{events_more, events_none}
-use Rattle.case_lines.proofs.Putting.{Left, left_more, left_none}
-use borrow.Author.Rules.{rules}
+use Rattle.case_lines.proofs.Putting.{Left}
 use Rattle.small_graphs.proofs.put_events.Given as goal
 
 abbrev pub invariant-loop-i : goal.invariant-loop-i
 invariant-loop-i l =
     (l.i ≤ l.count) × (length l.to ≡ length l.initial.to) × Left l.initial.to 0 (event_fields (take l.count l.atoms)) l.to l.at (event_fields (drop l.i (take l.count l.atoms)))
-
-abbrev pub decreases-loop-i : goal.decreases-loop-i
-decreases-loop-i l = l.count - l.i

@@ -1,12 +1,8 @@
 -- `small_graphs::put_relation` meets its contract. It goes once over the bits, and what is left to put is the whole.
 -- Assumes nothing.
-use Prim.Native.Nat.{◌-◌, ◌≤◌}
 use native.Mathlib.Omega.{arith}
-use mathlib.Core.Path.{◌≡◌}
-use lib.ListN.{length}
-use Rattle.small_graphs.specs.Graphs.{counted, edges_among, edge_fields}
 use Rattle.small_graphs.proofs.Fields.{edges_more, edges_none}
-use Rattle.case_lines.proofs.Putting.{Left, left_more, left_none}
+use Rattle.case_lines.proofs.Putting.{left_more, left_none}
 use borrow.Author.Rules.{rules}
 use Rattle.small_graphs.proofs.put_relation.Goals as goal
 

@@ -1,10 +1,6 @@
-use Prim.Native.Nat.{◌-◌, ◌≤◌}
 use native.Mathlib.Omega.{arith}
 use mathlib.Core.Path.{sym, ◌∙◌}
-use mathlib.Core.Logic.{⊎_elim}
-use Rattle.small_graphs.specs.Relations.{Edges}
-use Rattle.small_graphs.proofs.Rounds.{Sofar, round_start, round_with, round_without, round_end}
-use borrow.Author.Rules.{rules}
+use Rattle.small_graphs.proofs.Rounds.{round_start, round_with, round_without, round_end}
 use Rattle.small_graphs.proofs.through.Goals as goal
 use Rattle.small_graphs.proofs.through.Goals.{then-has, else-has}
 

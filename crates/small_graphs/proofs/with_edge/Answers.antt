@@ -1,6 +1,5 @@
 use Rattle.small_graphs.proofs.Bits.{edge_more, edge_from, edge_to}
 use native.Mathlib.Omega.{arith}
-use borrow.Author.Rules.{rules}
 use Rattle.small_graphs.proofs.with_edge.Goals as goal
 
 pub returns-then-from-ge8 : goal.returns-then-from-ge8

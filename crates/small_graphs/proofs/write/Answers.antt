@@ -1,11 +1,8 @@
 use Rattle.case_lines.proofs.Putting.{puts_append}
-use Prim.Native.Nat.{◌-◌, ◌≤◌}
 use native.Mathlib.Omega.{arith}
-use mathlib.Core.Path.{◌≡◌}
-use lib.ListN.{length, take, drop}
-use Rattle.small_graphs.specs.Graphs.{graph_bytes, relation_fields}
+use Rattle.small_graphs.specs.Graphs.{graph_bytes}
 use Rattle.small_graphs.proofs.Fields.{relations_more, relations_none}
-use Rattle.case_lines.proofs.Putting.{Left, left_more, left_none}
+use Rattle.case_lines.proofs.Putting.{left_more, left_none}
 use borrow.Author.Rules.{rules}
 use Rattle.small_graphs.proofs.write.Goals as goal
 

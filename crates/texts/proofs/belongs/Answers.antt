@@ -2,7 +2,6 @@
 -- Assumes nothing.
 use Prim.Native.Nat.{ℕ}
 use mathlib.Core.Path.{◌≡◌, sym, ◌∙◌, ap}
-use borrow.Author.Rules.{rules}
 use Rattle.texts.specs.declared.PartKind.{PartKind}
 use Rattle.texts.specs.declared.PartKind.TheVariants.{Line, Spaces, Word}
 use Rattle.texts.specs.inner.Parts.{of_part}

@@ -2,7 +2,6 @@
 -- Assumes nothing.
 use mathlib.Core.Path.{sym, ◌∙◌}
 use Rattle.texts.proofs.LineLaws.{declared_hit, declared_miss}
-use borrow.Author.Rules.{rules}
 use Rattle.texts.proofs.declared.Goals as goal
 
 pub returns-then-same : goal.returns-then-same

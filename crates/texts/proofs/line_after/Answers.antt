@@ -2,7 +2,6 @@
 -- Assumes nothing.
 use native.Mathlib.Omega.{arith}
 use Rattle.texts.proofs.LineLaws.{after_byte, after_end}
-use borrow.Author.Rules.{rules}
 use Rattle.texts.proofs.line_after.Goals as goal
 
 pub returns-then-end-text : goal.returns-then-end-text

@@ -4,7 +4,6 @@ use native.Mathlib.Omega.{arith}
 use mathlib.Core.Path.{◌∙◌, ap}
 use Rattle.texts.specs.Lines.{in_line, behind}
 use Rattle.texts.proofs.LineLaws.{part_back}
-use borrow.Author.Rules.{rules}
 use Rattle.texts.proofs.next_line.Goals as goal
 
 pub returns : goal.returns

@@ -2,7 +2,6 @@
 -- Assumes nothing.
 use native.Mathlib.Omega.{arith}
 use Rattle.case_lines.proofs.Stepping.{digit_ten, digit_six, digit_under, digit_between, digit_over}
-use borrow.Author.Rules.{rules}
 use Rattle.case_lines.proofs.escape.digit.Goals as goal
 
 pub returns-in-48-to-57 : goal.returns-in-48-to-57

@@ -1,9 +1,7 @@
 -- `case_lines::escape::keep` meets its contract. By the test.
 -- Assumes nothing.
-use native.Mathlib.Omega.{arith}
 use mathlib.Core.Path.{refl}
 use Rattle.case_lines.proofs.Putting.{puts_none}
-use borrow.Author.Rules.{rules}
 use Rattle.case_lines.proofs.escape.keep.Goals as goal
 
 pub returns : goal.returns

@@ -2,7 +2,6 @@
 -- Assumes nothing.
 use Rattle.case_lines.specs.declared.escape.Next.TheVariants.{Plain, Escape, High, Low}
 use Rattle.case_lines.proofs.Stepping.{known, plain_escape, plain_byte, escape_x, escape_n, escape_byte, high_digit, low_digit}
-use borrow.Author.Rules.{rules}
 use Rattle.case_lines.proofs.escape.step.Goals as goal
 
 pub returns-then-b-eq92 : goal.returns-then-b-eq92

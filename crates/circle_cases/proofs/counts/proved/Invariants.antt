@@ -7,7 +7,4 @@ use borrow.Author.Rules.{rules}
 use Rattle.circle_cases.proofs.counts.proved.Given as goal
 
 abbrev pub invariant-loop-number : goal.invariant-loop-number
-invariant-loop-number l = (l.number ≤ 25) × (length l.graph ≡ length l.initial.graph) × (length l.counts ≡ length l.initial.counts)
-
-abbrev pub decreases-loop-number : goal.decreases-loop-number
-decreases-loop-number l = 25 - l.number
+invariant-loop-number l = (length l.graph ≡ length l.initial.graph) × (length l.counts ≡ length l.initial.counts)
