@@ -72,7 +72,12 @@ fn equal_at(words: &[u64], base: usize, s: &Standing) -> bool
     ensures alike { result ≡ true → Agree words.now base s.now }
     ensures unlike { result ≡ false → Agree words.now base s.now → ⊥ }
 {
-    words[base..base + TOLD] == s[..TOLD]
+    for j in 0..TOLD {
+        if words[base + j] != s[j] {
+            return false;
+        }
+    }
+    true
 }
 
 // A place below n at which this ring standing is kept. From the last one down: an equal standing is most often one of the last.

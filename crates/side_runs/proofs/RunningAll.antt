@@ -6,12 +6,13 @@ use native.Mathlib.Numerals.{add-one}
 use native.Mathlib.Omega.{arith}
 use mathlib.Core.Path.{◌≡◌, refl, sym, ap, ◌∙◌}
 use mathlib.Core.Logic.{⊎_elim}
-use mathlib.Core.Bool.{Bool, true, false, not, ◌&&◌}
+use mathlib.Core.Bool.{Bool, true, false, not, ◌&&◌, ◌||◌}
 use mathlib.Core.List.{List, [], ◌∷◌}
-use lib.Dec.{eqb}
+use lib.Dec.{eqb, leb, ltb}
 use lib.ListN.{length, get_or, drop, drop_of_length-le}
 use lib.Seq.{drop-cons}
 use borrow.Author.Tests.{lt-ltb, le-ltb}
+use Rattle.kat.proofs.Bools.{lt_or_le}
 use Rattle.side_parts.specs.Machine.{Machine, given, united}
 use Rattle.side_items.specs.Items.{Item, of_test, starts_from, starts_of}
 use Rattle.memory.proofs.Words.{same_or_not}
@@ -101,6 +102,15 @@ skip_more ks pc i (h, t) b e f = (
   omega arith,
   λ j a l. ⊎_elim (λ z. ap (λ n. of_test (get_or ks n 0)) z ∙ sym e ∙ is_test b f) (λ z. t j a (omega arith)) (same_or_not j i),
 )
+
+-- an operator of a T more
+pub skip_operator : (ks : List ℕ) (pc i : ℕ) → Skipped ks pc i → get_or ks i 0 < 6 → Skipped ks pc (i + 1)
+unfolding of_test
+skip_operator ks pc i s h = skip_more ks pc i s true (sym (ap (λ b. b || (leb 16 (get_or ks i 0) && ltb (get_or ks i 0) 32)) (lt-ltb (get_or ks i 0) 6 h))) refl
+
+-- passed on from where it was passed to
+pub skip_on : (ks : List ℕ) (pc i r : ℕ) → Skipped ks pc i → Skipped ks i r → Skipped ks pc r
+skip_on ks pc i r (h, t) (g, u) = (omega arith, λ j a b. ⊎_elim (λ z. t j a z) (λ z. u j z b) (lt_or_le j i))
 
 -- uniting once more
 pub united_more : (n : ℕ) (m m' : Machine) → 0 < n → m' ≡ united m → united_times (n - 1) m' ≡ united_times n m

@@ -15,16 +15,30 @@ use side_parts::step;
 use side_stack::STACK;
 use side_tables::{TABLE, Table};
 
-// The first place from pc on at which no code of a T stands.
-fn skip_tests(codes: &[u64], pc: usize) -> usize
+// The first place from pc on at which no operator of a T stands.
+fn skip_operators(codes: &[u64], pc: usize) -> usize
     ensures { Skipped codes.now pc result }
 {
     for i in pc..codes.len() {
-        if !side_items::of_test(codes[i]) {
+        if codes::TESTED <= codes[i] {
             return i;
         }
     }
     pc.max(codes.len())
+}
+
+// The first place from pc on at which no code of a T stands.
+fn skip_tests(codes: &[u64], pc: usize) -> usize
+    ensures { Skipped codes.now pc result }
+{
+    let mut i = skip_operators(codes, pc);
+    while i < codes.len() {
+        if !side_items::of_test(codes[i]) {
+            return i;
+        }
+        i = skip_operators(codes, i + 1);
+    }
+    i
 }
 
 // The items from a place to the end of its line; a let is built from the place where its line starts, which comes before. No more than 33

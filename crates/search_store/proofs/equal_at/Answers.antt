@@ -1,26 +1,25 @@
--- `search_store::equal_at` meets its contract: two lists of words are compared.
+-- `search_store::equal_at` meets its contract. The invariant: the words so far are equal.
 -- Assumes nothing.
-use Prim.Native.Nat.{◌+◌, ◌-◌, ◌≤◌}
+use Prim.Native.Nat.{ℕ, ◌+◌, ◌-◌, ◌≤◌, ◌<◌}
 use native.Mathlib.Omega.{arith}
-use mathlib.Core.Path.{◌≡◌, refl, sym, ◌∙◌, ap}
-use mathlib.Core.Bool.{true, false}
-use lib.Dec.{eqb}
-use lib.ListN.{length, take, drop}
-use lib.Pointwise.{pointwise, bytes_decides}
+use mathlib.Core.Path.{◌≡◌, refl}
+use lib.ListN.{get_or}
 use Rattle.kat.proofs.Bools.{true_not_false}
-use Rattle.search_store.proofs.Appended.{told_agree, agree_told}
+use borrow.Author.Count.{below_more}
+use borrow.Author.Rules.{rules}
 use Rattle.search_store.proofs.equal_at.Goals as goal
+
+pub loop-j-init : goal.loop-j-init
+loop-j-init c = (omega arith, λ k h. absurd (omega arith))
+
+pub returns-then-words-base : goal.returns-then-words-base
+returns-then-words-base c =
+    let l = c.loop-j in
+    record { alike = λ z. absurd (true_not_false z refl); unlike = λ _ f. c.if-words-base.true (f l.j (omega arith)) }
+
+pub loop-j-preserved : goal.loop-j-preserved
+loop-j-preserved c = (omega arith, below_more _ _ c.loop-j.invariant.1 c.if-words-base.false)
 
 pub returns : goal.returns
 returns c =
-    let a = c.args in
-    let e : a.base + 34 - a.base ≡ 34 = omega arith in
-    let full : 34 ≤ length a.s.now = omega arith in
-    let r : c.eq.result ≡ pointwise eqb (take 34 (drop a.base a.words.now)) (take 34 a.s.now) =
-    c.eq.ensures ∙ ap (λ k. pointwise eqb (take k (drop a.base a.words.now)) (take 34 a.s.now)) e
-    in
-    let d = bytes_decides (take 34 (drop a.base a.words.now)) (take 34 a.s.now) in
-    record {
-      alike = λ z. told_agree a.words.now a.s.now a.base c.requires full (d.0 (sym r ∙ z));
-      unlike = λ z f. true_not_false (r ∙ d.1 (agree_told a.words.now a.s.now a.base c.requires full f)) z;
-    }
+    record { alike = λ _ j h. c.loop-j.invariant.1 j (omega arith); unlike = λ z. absurd (true_not_false refl z) }
