@@ -108,6 +108,7 @@ fn next_level(cap: usize, t: Course) -> Course
 }
 
 // On from a place behind which no letter is left: to the next standing of the level, or to the next level.
+// What is required keeps the place behind from growing too large: no more than one standing above the largest allowance is counted.
 pub fn next_place(live: u64, cap: usize, t: Course) -> Course
     requires { (t.hi ≤ 4097) × (t.place ≤ 4097) }
     ensures quiet { result.count ≡ t.count }
@@ -162,7 +163,8 @@ pub fn puts(cap: usize, t: Course, found: Option<usize>) -> bool
     }
 }
 
-// Where the search stands once a candidate is decided, by where it was found: a new one is counted.
+// Where the search stands once a candidate is decided, by where it was found: a new one is counted. What is required keeps the count from
+// growing too large, as in `next_place`.
 pub fn settle(t: Course, found: Option<usize>) -> Course
     requires { t.count ≤ 4097 }
     ensures { result ≡ settled found t }
