@@ -1,11 +1,11 @@
 // Sets of numbers below 64 as machine words: number k is a member where bit k is set. A table of such sets is a slice of rows, and a
 // row past its end is empty. In a set, members are taken lowest number first (document 01, "The form for each place"): `Elements` gives
-// them one after another, each as the trailing zeros of the word that is left.
+// them one after another, each as the trailing zeros of the word that is left, while the count of its ones falls.
 #![tactic(auto)]
 
-ghost use Rattle.std.specs.Prelude.{◌≡◌, cond};
+ghost use Rattle.std.specs.Prelude.{◌≡◌, cond, count_ones};
 ghost use Rattle.claims.specs.Query.{bit};
-ghost use Rattle.std.specs.Iterator.{YieldsFirst, item_count};
+ghost use Rattle.std.specs.Iterator.{YieldsFirst, at_most};
 ghost use Rattle.bits.specs.Sets.{including, all_below, members, union_rows, meets_rows, any_member};
 ghost use Rattle.bits.specs.Walk.{members_left};
 
@@ -62,7 +62,7 @@ impl Iterator for Elements {
 
     ghost next_gives = { YieldsFirst members_left };
 
-    ghost remaining = { item_count members_left };
+    ghost remaining = { λ m. at_most (count_ones m.left) };
 
     fn next(&mut self) -> Option<usize> {
         if self.left == 0 {

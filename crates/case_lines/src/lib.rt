@@ -7,7 +7,7 @@ ghost use Rattle.case_lines.specs.Fields.{Puts, digits_in, hex_bytes, hex_pairs,
 ghost use Rattle.case_lines.specs.Lines.{Scanned, Told, left};
 
 use escape::Place;
-use streams::{STDIN, STDOUT};
+use streams::STDIN;
 
 mod escape; // escape.rt: the bytes that a line stands for
 
@@ -173,12 +173,4 @@ pub fn hex(text: &[u8], to: &mut [u8]) -> HexBytes
         bytes: used,
         count: 2 * used,
     }
-}
-
-// Writes bytes in hex, and the end of the line.
-pub fn write_hex(bytes: &[u8]) {
-    for b in bytes {
-        io::print_hex(STDOUT, u64::from(*b), 2);
-    }
-    io::write_all(STDOUT, b"\n");
 }

@@ -3,6 +3,7 @@
 use case_checks::Asked;
 use draw::Drawing;
 use layout::WORD_AT;
+use memory::wide;
 use refusals::{Reason, Refusal};
 use search_outcomes::Verdict;
 use sheet_checked::Checked;
@@ -38,11 +39,19 @@ fn write_check(r: Checked) {
     }
 }
 
+// Writes bytes in hex, and the end of the line.
+fn write_hex(bytes: &[u8]) {
+    for b in bytes {
+        io::print_hex(STDOUT, wide(*b), 2);
+    }
+    io::write_all(STDOUT, b"\n");
+}
+
 // Writes the graph in hex, the line of a refusal, or `none`.
 fn write_graph(r: Drawing, graph: &[u8]) {
     match r {
         Drawing::Graph(n) => {
-            case_lines::write_hex(texts::first(graph, n));
+            write_hex(texts::first(graph, n));
         }
         Drawing::TooLarge(_) => {
             io::write_all(STDOUT, b"none\n");

@@ -117,6 +117,16 @@ impl Keyword {
     }
 }
 
+// The key of the word at a place among them; behind the last, the key of no bytes.
+pub fn word_key(n: usize) -> Key
+    ensures { result ≡ word_key n }
+{
+    match KEYWORDS.get(n) {
+        Some(word) => word.key(),
+        None => Key { high: 0, low: 0 },
+    }
+}
+
 // No name may have this key.
 pub fn reserved(k: Key) -> bool
     ensures { result ≡ reserved_key k }

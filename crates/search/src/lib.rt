@@ -33,8 +33,11 @@ pub fn search(
     let mut codes = [0u64; 4096];
     let mut left = [0u64; TABLE];
     let mut right = [0u64; TABLE];
-    let f = query::read(text, &mut codes, &mut left, &mut right)?;
-    search_run::decide(f, &left, &right, allowance, records, words, buffer)
+    // a match, and no `?`, so that a wrong program can change one value of what is refused
+    match query::read(text, &mut codes, &mut left, &mut right) {
+        Ok(f) => search_run::decide(f, &left, &right, allowance, records, words, buffer),
+        Err(e) => Err(e),
+    }
 }
 
 // The search with records of its own, for a caller that has none: as if 4,096 records of zeros had been lent. The query is read before there are

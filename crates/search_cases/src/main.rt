@@ -5,6 +5,7 @@
 
 use case_lines::Cases;
 use layout::{MOST_STANDINGS, RING_FIELD, RING_WORDS, VERDICT};
+use memory::wide;
 use refusals::Refusal;
 use search_outcomes::Verdict;
 use streams::STDOUT;
@@ -28,13 +29,21 @@ fn write_line(r: Result<Verdict, Refusal>, buffer: &[u8], out: &mut [u8]) {
     }
 }
 
+// Writes bytes in hex, and the end of the line.
+fn write_hex(bytes: &[u8]) {
+    for b in bytes {
+        io::print_hex(STDOUT, wide(*b), 2);
+    }
+    io::write_all(STDOUT, b"\n");
+}
+
 // Writes the sheet of an answer, or the line of a refusal.
 fn write_sheet(r: Result<Verdict, Refusal>, buffer: &[u8], out: &mut [u8]) {
     if let Err(_) = r {
         write_line(r, buffer, out);
         return;
     }
-    case_lines::write_hex(outcome_lines::sheet_of(r, buffer));
+    write_hex(outcome_lines::sheet_of(r, buffer));
 }
 
 // Searches the query that stands behind the allowance in the first n bytes of the text, and writes its line or its sheet.

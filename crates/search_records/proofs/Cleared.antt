@@ -1,4 +1,4 @@
--- The first of a memory zero: whatever stood there before, and through a function.
+-- The first of a memory zero: none, one more, whatever stood there before, and through a function.
 -- Assumes nothing.
 use Prim.Native.Nat.{ℕ, zero, suc, ◌+◌, ◌≤◌, ◌<◌}
 use native.Mathlib.Omega.{arith}
@@ -9,6 +9,26 @@ use lib.ListN.{length, drop, set, replicate}
 use Rattle.claims.specs.Calls.{cleared}
 
 module _ {A : Type 0} (z : A) where
+  pub cleared_none : (d : List A) → d ≡ cleared z 0 d
+  unfolding cleared
+  cleared_none d = refl
+
+  cleared_set : (i : ℕ) (d : List A) → i < length d → set (cleared z i d) i z ≡ cleared z (suc i) d
+  unfolding cleared
+  cleared_set i [] h = absurd (omega arith)
+  cleared_set zero (x ∷ d) h = refl
+  cleared_set (suc i) (x ∷ d) h = ap (λ t. z ∷ t) (cleared_set i d (omega arith))
+
+  -- one more
+  pub cleared_more : (i : ℕ) (d e : List A) → e ≡ cleared z i d → i < length d → set e i z ≡ cleared z (i + 1) d
+  cleared_more i d e f h = ap (λ t. set t i z) f ∙ cleared_set i d h ∙ ap (λ n. cleared z n d) (sym (add-one i))
+
+  pub cleared_length : (i : ℕ) (d : List A) → i ≤ length d → length (cleared z i d) ≡ length d
+  unfolding cleared
+  cleared_length zero d h = refl
+  cleared_length (suc i) [] h = absurd (omega arith)
+  cleared_length (suc i) (x ∷ d) h = ap suc (cleared_length i d (omega arith))
+
   -- what stood there before does not matter
   pub cleared_same : (n : ℕ) (d e : List A) → drop n d ≡ drop n e → cleared z n d ≡ cleared z n e
   unfolding cleared

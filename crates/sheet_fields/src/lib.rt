@@ -6,9 +6,10 @@
 
 ghost use Rattle.std.specs.Prelude.{ℕ, ◌+◌, ◌-◌, ◌≡◌, List, drop};
 ghost use Rattle.claims.specs.Sides.{Decision};
+ghost use Rattle.claims.specs.Fields.{next_field};
 ghost use Rattle.claims.specs.SheetReading.{part_in};
-ghost use Rattle.claims.specs.SheetWriting.{AllBytes};
 ghost use Rattle.memory.specs.Memory.{zeros};
+ghost use Rattle.fields.specs.Places.{Stands};
 ghost use Rattle.query.specs.Decided.{Decided};
 ghost use Rattle.sheet_index.specs.Index.{SLOTS};
 ghost use Rattle.layout.specs.Layout.{MOST-STANDINGS};
@@ -20,7 +21,6 @@ use layout::MOST_STANDINGS;
 use query::Facts;
 use sheet_fits::Verdict;
 use sheet_index::{Chain, Heads};
-use sheet_reader::Reader;
 
 // Proved, with the place where the fields of the standings begin, their number, and the place where the next field would start; or refuted,
 // with the places where the word's bytes begin and end.
@@ -52,102 +52,108 @@ enum Turn {
     Over(PartRead),
 }
 
-// The verdict's field: the standings or the word are awaited, from its end on.
-fn verdict_read<'a>(r: Reader<'a>) -> Result<Turn, usize>
-    ensures { (f : Facts) (first : ℕ) (heads chain : List ℕ) → AtVerdict first heads chain r.entry.at
-        → Goes f r.entry.sheet.now first heads chain (MOST-STANDINGS + 3) result }
+// The verdict's field was read: the standings or the word are awaited, from its end on.
+fn verdict_read(sheet: &[u8], field: Option<Field>) -> Result<Turn, usize>
+    requires { (at : ℕ) × Stands sheet.now at (next_field (drop at sheet.now)) field }
+    ensures { (f : Facts) (first at : ℕ) (heads chain : List ℕ) → Stands sheet.now at (next_field (drop at sheet.now)) field
+        → AtVerdict first heads chain at → Goes f sheet.now first heads chain (MOST-STANDINGS + 3) result }
 {
-    let Some(field) = sheet_reader::field(r) else {
+    let Some(whole) = field else {
         return Err(0);
     };
-    if field.tag != 1 {
+    if whole.tag != 1 {
         return Err(0);
     }
-    match sheet_fits::read_verdict(&r.sheet[field.from..field.to]) {
+    match sheet_fits::read_verdict(&sheet[whole.from..whole.to]) {
         Some(Verdict::Proved) => {
             let none = Standings {
-                base: field.to,
+                base: whole.to,
                 count: 0,
             };
-            Ok(Turn::On(Awaited::Standing(none), field.to))
+            Ok(Turn::On(Awaited::Standing(none), whole.to))
         }
-        Some(Verdict::Refuted) => Ok(Turn::On(Awaited::Word, field.to)),
+        Some(Verdict::Refuted) => Ok(Turn::On(Awaited::Word, whole.to)),
         None => Err(0),
     }
 }
 
-// A field where a standing may stand: it is the next standing and goes into the index, or it is wrong; one more than MOST_STANDINGS is. Where
+// A field was read where a standing may stand: it is the next standing and goes into the index, or it is wrong; one more than MOST_STANDINGS is. Where
 // the field's tag is another there is no further standing.
-fn standing_read<'a>(
+fn standing_read(
     f: Facts,
-    r: Reader<'a>,
+    sheet: &[u8],
+    at: usize,
+    field: Option<Field>,
     s: Standings,
     heads: &mut Heads,
     chain: &mut Chain,
 ) -> Result<Turn, usize>
-    requires { ListedAt f.ring r.sheet.now heads.old chain.old s.base s.count r.at }
-    ensures { (first : ℕ) → AllBytes r.entry.sheet.now
-        → AtStanding f r.entry.sheet.now first heads.old chain.old s.base s.count r.entry.at
-        → Goes f r.entry.sheet.now first heads.new chain.new (MOST-STANDINGS + 2 - s.count) result }
+    requires { Stands sheet.now at (next_field (drop at sheet.now)) field
+        × ListedAt f.ring sheet.now heads.old chain.old s.base s.count at }
+    ensures { (first : ℕ) → AtStanding f sheet.now first heads.old chain.old s.base s.count at
+        → Goes f sheet.now first heads.new chain.new (MOST-STANDINGS + 2 - s.count) result }
 {
-    if !fields::tagged(r.sheet, r.at, 3) {
-        return Ok(Turn::Over(PartRead::Proved(s.base, s.count, r.at)));
+    if !fields::tagged(sheet, at, 3) {
+        return Ok(Turn::Over(PartRead::Proved(s.base, s.count, at)));
     }
     let count = s.count + 1;
-    let Some(field) = sheet_reader::field(r) else {
+    let Some(whole) = field else {
         return Err(count);
     };
     if s.count == MOST_STANDINGS {
         return Err(count);
     }
-    if !sheet_fits::is_sized(field.to - field.from, f.ring) {
+    if !sheet_fits::is_sized(whole.to - whole.from, f.ring) {
         return Err(count);
     }
-    if !sheet_fits::may_list(f, r.sheet, s.base, heads, chain, s.count, r.at) {
+    if !sheet_fits::may_list(f, sheet, s.base, heads, chain, s.count, at) {
         return Err(count);
     }
-    sheet_index::add(r.sheet, s.base, f.ring, heads, chain, s.count);
+    sheet_index::add(sheet, s.base, f.ring, heads, chain, s.count);
     let more = Standings {
         base: s.base,
         count,
     };
-    Ok(Turn::On(Awaited::Standing(more), field.to))
+    Ok(Turn::On(Awaited::Standing(more), whole.to))
 }
 
-// The word's field.
-fn word_read<'a>(f: Facts, r: Reader<'a>) -> Result<Turn, usize>
-    ensures { (first : ℕ) (heads chain : List ℕ) → AtWord f r.entry.sheet.now first heads chain r.entry.at
-        → Goes f r.entry.sheet.now first heads chain 1 result }
+// The word's field was read.
+fn word_read(f: Facts, sheet: &[u8], field: Option<Field>) -> Result<Turn, usize>
+    requires { (at : ℕ) × Stands sheet.now at (next_field (drop at sheet.now)) field }
+    ensures { (first at : ℕ) (heads chain : List ℕ) → Stands sheet.now at (next_field (drop at sheet.now)) field
+        → AtWord f sheet.now first heads chain at → Goes f sheet.now first heads chain 1 result }
 {
-    let Some(field) = sheet_reader::field(r) else {
+    let Some(whole) = field else {
         return Err(1);
     };
-    if field.tag != 2 {
+    if whole.tag != 2 {
         return Err(1);
     }
-    if !sheet_word::fits(&r.sheet[field.from..field.to], f.atoms, f.relations) {
+    if !sheet_word::fits(&sheet[whole.from..whole.to], f.atoms, f.relations) {
         return Err(1);
     }
-    Ok(Turn::Over(PartRead::Refuted(field.from, field.to)))
+    Ok(Turn::Over(PartRead::Refuted(whole.from, whole.to)))
 }
 
-// The field at the reader's place, by what is awaited: all that is decided of it. Or so many good ones stand before it, and it is wrong.
-fn step<'a>(
+// The field at place `at` was read, by what was awaited: all that is decided of it. Or so many good ones stand before it, and it is wrong.
+fn step(
     f: Facts,
-    r: Reader<'a>,
+    sheet: &[u8],
+    at: usize,
+    field: Option<Field>,
     awaited: Awaited,
     heads: &mut Heads,
     chain: &mut Chain,
 ) -> Result<Turn, usize>
-    requires { (first : ℕ) × Between f r.sheet.now first heads.old chain.old awaited r.at }
-    ensures { (first : ℕ) → AllBytes r.entry.sheet.now
-        → Between f r.entry.sheet.now first heads.old chain.old awaited r.entry.at
-        → Goes f r.entry.sheet.now first heads.new chain.new (fields_left awaited) result }
+    requires { Stands sheet.now at (next_field (drop at sheet.now)) field
+        × ((first : ℕ) × Between f sheet.now first heads.old chain.old awaited at) }
+    ensures { (first : ℕ) → Between f sheet.now first heads.old chain.old awaited at
+        → Goes f sheet.now first heads.new chain.new (fields_left awaited) result }
 {
     match awaited {
-        Awaited::Verdict => verdict_read(r),
-        Awaited::Standing(s) => standing_read(f, r, s, heads, chain),
-        Awaited::Word => word_read(f, r),
+        Awaited::Verdict => verdict_read(sheet, field),
+        Awaited::Standing(s) => standing_read(f, sheet, at, field, s, heads, chain),
+        Awaited::Word => word_read(f, sheet, field),
     }
 }
 
@@ -169,7 +175,8 @@ pub fn part_at(
     let mut r = sheet_reader::from(sheet, at);
     let mut awaited = Awaited::Verdict;
     loop {
-        match step(f, r, awaited, heads, chain)? {
+        let field = sheet_reader::field(r);
+        match step(f, sheet, r.at, field, awaited, heads, chain)? {
             Turn::On(next, end) => {
                 awaited = next;
                 r = sheet_reader::moved(r, end);

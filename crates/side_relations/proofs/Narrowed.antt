@@ -1,7 +1,8 @@
 -- The sets of the relations and atoms by loops over the codes: what one code does, and what is left to do from a place on.
 -- Assumes nothing.
-use Prim.Native.Nat.{ℕ, suc, ◌+◌, ◌-◌, ◌^◌, ◌≤◌, ◌<◌, min}
+use Prim.Native.Nat.{ℕ, zero, suc, ◌+◌, ◌-◌, ◌^◌, ◌≤◌, ◌<◌, min}
 use native.Mathlib.Nat.{pow-le-pow_right}
+use native.Mathlib.Numerals.{add-one}
 use native.Mathlib.Omega.{arith}
 use mathlib.Core.Path.{◌≡◌, refl, sym, ◌∙◌, ap, ap₂}
 use mathlib.Core.Logic.{⊎_elim}
@@ -9,7 +10,7 @@ use mathlib.Core.Bool.{Bool, true, false, cond, not, ◌&&◌, ◌||◌}
 use mathlib.Core.List.{List, [], ◌∷◌}
 use lib.Bits.{bit_and, and_le_r}
 use lib.Dec.{eqb, leb, ltb}
-use lib.ListN.{length, get_or, set, take, replicate, length-set, length-replicate, get_or-replicate}
+use lib.ListN.{length, get_or, set, take, drop, replicate, length-set, length-replicate, get_or-replicate}
 use borrow.Author.Tests.{lt-ltb, le-ltb, le-leb, lt-leb}
 use Rattle.kat.specs.Lists.{some}
 use Rattle.kat.proofs.Bools.{le_or_lt}
@@ -24,6 +25,28 @@ use Rattle.memory.proofs.Words.{words_ext, words_same}
 use Rattle.side_items.specs.Items.{Item, paired}
 use Rattle.side_relations.specs.Relations.{narrowed, limits_from, limit_sets, closed_set, closed_in, relation_at, relation_sets, live_set}
 use Rattle.side_relations.proofs.ClosedSets.{closed_bit}
+
+-- codes and what they need, from a place on
+pub paired_more : (ks xs : List ℕ) (i : ℕ) → i < min (length ks) (length xs)
+    → drop i (paired ks xs) ≡ record { code = get_or ks i 0; arg = get_or xs i 0 } ∷ drop (i + 1) (paired ks xs)
+unfolding paired
+paired_more ks xs i h = go ks xs i h ∙ ap (λ j. record { code = get_or ks i 0; arg = get_or xs i 0 } ∷ drop j (paired ks xs)) (sym (add-one i))
+  where
+    go : (ks xs : List ℕ) (i : ℕ) → i < min (length ks) (length xs)
+        → drop i (paired ks xs) ≡ record { code = get_or ks i 0; arg = get_or xs i 0 } ∷ drop (suc i) (paired ks xs)
+    go [] xs i h = absurd (omega arith)
+    go (k ∷ ks) [] i h = absurd (omega arith)
+    go (k ∷ ks) (x ∷ xs) zero h = refl
+    go (k ∷ ks) (x ∷ xs) (suc i) h = go ks xs i (omega arith)
+
+pub paired_end : (ks xs : List ℕ) (i : ℕ) → min (length ks) (length xs) ≤ i → drop i (paired ks xs) ≡ []
+unfolding paired
+paired_end [] xs zero h = refl
+paired_end [] xs (suc i) h = refl
+paired_end (k ∷ ks) [] zero h = refl
+paired_end (k ∷ ks) [] (suc i) h = refl
+paired_end (k ∷ ks) (x ∷ xs) zero h = absurd (omega arith)
+paired_end (k ∷ ks) (x ∷ xs) (suc i) h = paired_end ks xs i (omega arith)
 
 -- what one code does
 module _ (k x y : ℕ) (ws : List ℕ) where

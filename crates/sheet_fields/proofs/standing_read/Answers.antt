@@ -7,6 +7,7 @@ use mathlib.Core.Path.{sym, ◌∙◌, subst⁻¹}
 use lib.ListN.{length}
 use Rattle.sheet_standings.specs.Layout.{field_length}
 use Rattle.sheet_fits.proofs.Listable.{next_inside}
+use Rattle.sheet_fits.proofs.Verdicts.{all_bytes}
 use Rattle.sheet_fields.proofs.Whole.{whole_here, cut_here, sized_whole}
 use Rattle.sheet_fields.proofs.SoFar.{listable_sized, sized_room}
 use Rattle.sheet_fields.proofs.Outcomes.{standing_end}
@@ -16,66 +17,66 @@ use Rattle.sheet_fields.proofs.standing_read.Goals as goal
 pub returns-then-not-tagged : goal.returns-then-not-tagged
 returns-then-not-tagged c =
     let a = c.args in
-    λ first all A.
-    standing_end a.f a.r.sheet.now all first _ _ a.s.base a.s.count a.r.at A (sym c.tagged.ensures ∙ c.if-not-tagged.true)
+    λ first A.
+    standing_end a.f a.sheet.now (all_bytes a.sheet.now c.type_inv.sheet) first _ _ a.s.base a.s.count a.at A (sym c.tagged.ensures ∙ c.if-not-tagged.true)
 
 pub returns-in_default : goal.returns-in_default
 returns-in_default c =
     let a = c.args in
-    λ first all A.
-    standing_cut_goes a.f a.r.sheet.now first _ _ a.r.at all a.s.base a.s.count A (sym c.tagged.ensures ∙ c.if-not-tagged.false)
-    (cut_here a.r.sheet.now a.r.at c.in_default.is c.field.ensures)
+    λ first A.
+    standing_cut_goes a.f a.sheet.now first _ _ a.at (all_bytes a.sheet.now c.type_inv.sheet) a.s.base a.s.count A (sym c.tagged.ensures ∙ c.if-not-tagged.false)
+    (cut_here a.sheet.now a.at c.in_default.is c.requires.0)
 
 pub returns-then-s-eq-MOST_STANDINGS : goal.returns-then-s-eq-MOST_STANDINGS
 returns-then-s-eq-MOST_STANDINGS c =
     let a = c.args in
-    λ first all A.
-    standing_full_goes a.f a.r.sheet.now first _ _ a.r.at all a.s.base a.s.count A (sym c.tagged.ensures ∙ c.if-not-tagged.false)
+    λ first A.
+    standing_full_goes a.f a.sheet.now first _ _ a.at (all_bytes a.sheet.now c.type_inv.sheet) a.s.base a.s.count A (sym c.tagged.ensures ∙ c.if-not-tagged.false)
     (omega arith)
 
 pub returns-then-not-is_sized : goal.returns-then-not-is_sized
 returns-then-not-is_sized c =
     let a = c.args in
-    let w = whole_here a.r.sheet.now a.r.at c.in-Some.is c.field.ensures in
-    λ first all A.
-    standing_unsized_goes a.f a.r.sheet.now first _ _ a.r.at all a.s.base a.s.count A (sym c.tagged.ensures ∙ c.if-not-tagged.false)
+    let w = whole_here a.sheet.now a.at c.in-Some.is c.requires.0 in
+    λ first A.
+    standing_unsized_goes a.f a.sheet.now first _ _ a.at (all_bytes a.sheet.now c.type_inv.sheet) a.s.base a.s.count A (sym c.tagged.ensures ∙ c.if-not-tagged.false)
     (sym (sized_whole w a.f.ring) ∙ sym c.is_sized.ensures ∙ c.if-not-is_sized.true)
 
 pub may_list-requires : goal.may_list-requires
 may_list-requires c =
     let a = c.args in
-    let w = whole_here a.r.sheet.now a.r.at c.in-Some.is c.field.ensures in
-    let listed = c.requires in (
+    let w = whole_here a.sheet.now a.at c.in-Some.is c.requires.0 in
+    let listed = c.requires.1 in (
       listed.index,
       listed.few,
-      subst⁻¹ (λ i. i ≤ length a.r.sheet.now) listed.places listed.inside,
+      subst⁻¹ (λ i. i ≤ length a.sheet.now) listed.places listed.inside,
       sym (sized_whole w a.f.ring) ∙ sym c.is_sized.ensures ∙ c.if-not-is_sized.false,
     )
 
 pub returns-then-not-may_list : goal.returns-then-not-may_list
 returns-then-not-may_list c =
     let a = c.args in
-    λ first all A.
-    standing_wrong_goes a.f a.r.sheet.now first _ _ a.r.at all a.s.base a.s.count A (sym c.tagged.ensures ∙ c.if-not-tagged.false)
+    λ first A.
+    standing_wrong_goes a.f a.sheet.now first _ _ a.at (all_bytes a.sheet.now c.type_inv.sheet) a.s.base a.s.count A (sym c.tagged.ensures ∙ c.if-not-tagged.false)
     (sym c.may_list.ensures ∙ c.if-not-may_list.true)
 
 pub add-requires : goal.add-requires
 add-requires c =
     let a = c.args in
-    let listed = c.requires in
+    let listed = c.requires.1 in
     let m = sym c.may_list.ensures ∙ c.if-not-may_list.false in (
       listed.index,
       omega (arith, listed.few),
-      next_inside (field_length a.f.ring) a.s.base a.s.count a.r.at (length a.r.sheet.now) (sym listed.places)
-          (sized_room a.f.ring a.r.sheet.now a.r.at
-          (listable_sized a.f.ring a.f.atoms a.f.left a.f.right a.r.sheet.now a.s.base a.s.count a.r.at m)),
+      next_inside (field_length a.f.ring) a.s.base a.s.count a.at (length a.sheet.now) (sym listed.places)
+          (sized_room a.f.ring a.sheet.now a.at
+          (listable_sized a.f.ring a.f.atoms a.f.left a.f.right a.sheet.now a.s.base a.s.count a.at m)),
     )
 
 pub returns : goal.returns
 returns c =
     let a = c.args in
-    let w = whole_here a.r.sheet.now a.r.at c.in-Some.is c.field.ensures in
-    λ first all A.
-    standing_more_goes a.f a.r.sheet.now first _ _ a.r.at all a.s.base a.s.count A (sym c.tagged.ensures ∙ c.if-not-tagged.false) w
+    let w = whole_here a.sheet.now a.at c.in-Some.is c.requires.0 in
+    λ first A.
+    standing_more_goes a.f a.sheet.now first _ _ a.at (all_bytes a.sheet.now c.type_inv.sheet) a.s.base a.s.count A (sym c.tagged.ensures ∙ c.if-not-tagged.false) w
     (omega (arith, A.listed.few, c.if-s-eq-MOST_STANDINGS.false))
     (sym c.may_list.ensures ∙ c.if-not-may_list.false) c.add.new.heads c.add.new.chain c.add.ensures

@@ -8,26 +8,24 @@ use Rattle.sheet_fields.proofs.word_read.Goals as goal
 
 pub returns-in_default : goal.returns-in_default
 returns-in_default c =
-    let r = c.args.r in
-    λ first heads chain A.
-    word_cut_goes c.args.f r.sheet.now first heads chain r.at A (cut_here r.sheet.now r.at c.in_default.is c.field.ensures)
+    let bs = c.args.sheet.now in
+    λ first at heads chain s A.
+    word_cut_goes c.args.f bs first heads chain at A (cut_here bs at c.in_default.is s)
 
-pub returns-then-field-ne2 : goal.returns-then-field-ne2
-returns-then-field-ne2 c =
-    let r = c.args.r in
-    let w = whole_here r.sheet.now r.at c.in-Some.is c.field.ensures in
-    λ first heads chain A. word_tag_goes c.args.f r.sheet.now first heads chain r.at A w (omega arith)
+pub returns-then-whole-ne2 : goal.returns-then-whole-ne2
+returns-then-whole-ne2 c =
+    let bs = c.args.sheet.now in
+    λ first at heads chain s A.
+    word_tag_goes c.args.f bs first heads chain at A (whole_here bs at c.in-Some.is s) (omega arith)
 
 pub returns-then-not-fits : goal.returns-then-not-fits
 returns-then-not-fits c =
-    let r = c.args.r in
-    let w = whole_here r.sheet.now r.at c.in-Some.is c.field.ensures in
-    λ first heads chain A.
-    word_wrong_goes c.args.f r.sheet.now first heads chain r.at A w (omega arith) (sym c.fits.ensures ∙ c.if-not-fits.true)
+    let bs = c.args.sheet.now in
+    λ first at heads chain s A.
+    word_wrong_goes c.args.f bs first heads chain at A (whole_here bs at c.in-Some.is s) (omega arith) (sym c.fits.ensures ∙ c.if-not-fits.true)
 
 pub returns : goal.returns
 returns c =
-    let r = c.args.r in
-    let w = whole_here r.sheet.now r.at c.in-Some.is c.field.ensures in
-    λ first heads chain A.
-    word_right_goes c.args.f r.sheet.now first heads chain r.at A w (omega arith) (sym c.fits.ensures ∙ c.if-not-fits.false)
+    let bs = c.args.sheet.now in
+    λ first at heads chain s A.
+    word_right_goes c.args.f bs first heads chain at A (whole_here bs at c.in-Some.is s) (omega arith) (sym c.fits.ensures ∙ c.if-not-fits.false)

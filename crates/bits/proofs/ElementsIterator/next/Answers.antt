@@ -1,6 +1,6 @@
--- `bits::Elements::next` gives the lowest member of the set that is left, and leaves the others: one fewer each time.
+-- `bits::Elements::next` gives the lowest member of the set that is left, and leaves the others: the count of ones falls each time.
 -- Assumes nothing.
-use Rattle.std.proofs.Common.{◌≡◌, ◌∙◌, ap, List, [], length, arith, rules}
+use Rattle.std.proofs.Common.{◌≡◌, ◌∙◌, ap, [], arith, rules}
 use Rattle.claims.specs.Fields.{number_set}
 use Rattle.bits.specs.Walk.{members_left}
 use Rattle.bits.proofs.Lowest.{Lowest, lowest}
@@ -16,5 +16,5 @@ returns-clause-steps c = (lowest 64 c.args.self.now.left (search rules) c.if-sel
 
 pub returns-clause-goes : goal.returns-clause-goes
 returns-clause-goes c =
-    let fewer = ap length (lowest 64 c.args.self.now.left (search rules) c.if-self-eq0.false).members in
+    let fewer = (lowest 64 c.args.self.now.left (search rules) c.if-self-eq0.false).count in
     record { on = λ _. (tt, tt, omega (arith, fewer)); keeps = tt; rests = λ _. tt }
